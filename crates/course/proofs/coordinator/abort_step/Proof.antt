@@ -1,0 +1,31 @@
+use borrow.Author.Needs.{needs}
+use Rattle.rules.specs.Course.{abortStep}
+use Rattle.rules.specs.CourseLaws.{no-entries}
+use Rattle.rules.specs.Effect.{takenOf}
+use Rattle.course.proofs.coordinator.abort_step.Statement.{statement}
+use Rattle.course.proofs.coordinator.abort_step.Tie as tie
+use Rattle.course.proofs.coordinator.abort_step.Reads as reads
+use Rattle.course.proofs.coordinator.abort_step.Lts as lts
+use Rattle.course.proofs.send.send_all.Reads as send-all-reads
+use Rattle.course.proofs.turn.no_sub.Reads as no-sub-reads
+
+slice-aggregate-send-all : tie.Need-slice-aggregate-send-all
+slice-aggregate-send-all c = search needs
+
+send-all-requires : tie.Need-send-all-requires
+send-all-requires c κs = (c .before .before .before .pre, no-entries)
+
+no-sub-requires : tie.Need-no-sub-requires
+no-sub-requires c κs = search needs
+
+same-length : tie.Need-same-length
+same-length c = search needs
+
+returns : tie.Need-returns
+unfolding abortStep takenOf
+returns c = (rw (c .before .no-sub .ensures, c .before .before .before .before .send-all .ensures .0), c .before .before .before .before .send-all .ensures .1)
+
+pub abort-step-spec : {M : Type 1} → statement M
+abort-step-spec =
+    tie.close
+    (tie.spec slice-aggregate-send-all send-all-requires no-sub-requires same-length returns)

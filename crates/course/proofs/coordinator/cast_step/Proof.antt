@@ -1,0 +1,34 @@
+use borrow.Author.Needs.{needs}
+use borrow.Author.Tests.{ne-eqb}
+use Rattle.rules.specs.Course.{castStep}
+use Rattle.course.proofs.coordinator.cast_step.Statement.{statement}
+use Rattle.course.proofs.coordinator.cast_step.Tie as tie
+use Rattle.course.proofs.coordinator.cast_step.Reads as reads
+use Rattle.course.proofs.coordinator.cast_step.Lts as lts
+use Rattle.course.proofs.coordinator.abort_step.Reads as abort-step-reads
+use Rattle.course.proofs.coordinator.cast_yes.Reads as cast-yes-reads
+
+cast-yes-requires : tie.Need-cast-yes-requires
+cast-yes-requires c κs = search needs
+
+same-length : tie.Need-same-length
+same-length c = search needs
+
+returns : tie.Need-returns
+unfolding castStep
+returns c = let e = c .before .before .before .before .if1 .taken in (rw e (c .before .before .cast-yes .ensures .0), rw e (c .before .before .cast-yes .ensures .1))
+
+abort-step-requires : tie.Need-abort-step-requires
+abort-step-requires c κs = search needs
+
+same-length-2 : tie.Need-same-length-2
+same-length-2 c = search needs
+
+returns-2 : tie.Need-returns-2
+unfolding castStep
+returns-2 c = let e = ne-eqb (c .before .before .before .before .before .before .before .args .vote) 0 (c .before .before .before .before .if1 .left) in (rw e (c .before .before .abort-step .ensures .0), rw e (c .before .before .abort-step .ensures .1))
+
+pub cast-step-spec : {M : Type 1} → statement M
+cast-step-spec =
+    tie.close
+    (tie.spec cast-yes-requires same-length returns abort-step-requires same-length-2 returns-2)

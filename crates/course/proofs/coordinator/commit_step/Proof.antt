@@ -1,0 +1,45 @@
+use borrow.Author.Needs.{needs}
+use mathlib.Core.Path.{_≡_, ap}
+use Rattle.kinds.specs.declared.Course.{Course}
+use Rattle.rules.specs.Course.{commitStep, withDecision}
+use Rattle.rules.specs.CourseLaws.{all-course, no-entries}
+use Rattle.course.proofs.coordinator.commit_step.Statement.{statement}
+use Rattle.course.proofs.coordinator.commit_step.Tie as tie
+use Rattle.course.proofs.coordinator.commit_step.Reads as reads
+use Rattle.course.proofs.coordinator.commit_step.Lts as lts
+use Rattle.course.proofs.send.send_all.Reads as send-all-reads
+use Rattle.course.proofs.turn.with_course.Reads as with-course-reads
+use Rattle.course.proofs.turn.with_decision.Reads as with-decision-reads
+
+with-decision-requires : tie.Need-with-decision-requires
+with-decision-requires c κs = search needs
+
+with-course-requires : tie.Need-with-course-requires
+with-course-requires c κs = search needs
+
+slice-aggregate-send-all : tie.Need-slice-aggregate-send-all
+slice-aggregate-send-all c = search needs
+
+send-all-requires : tie.Need-send-all-requires
+unfolding withDecision
+send-all-requires c κs = let m : c .before .before .before .before .with-decision .result .mask ≡ c .before .before .before .before .before .before .args .t .sub .course .mask = ap (λ (d : Course). d .mask) (c .before .before .before .before .with-decision .ensures) in
+    let q = all-course (c .before .before .before .before .before .before .args .t) (c .before .before .before .with-course .result) (c .before .before .before .before .with-decision .result) _ (c .before .before .before .with-course .ensures) m (c .before .before .before .before .before .before .pre) in
+    (record { long = q .long; first = q .first; last = q .last; low = q .low }, no-entries)
+
+same-length : tie.Need-same-length
+same-length c = search needs
+
+returns : tie.Need-returns
+unfolding commitStep
+returns c = (rw (c .before .before .send-all .ensures .0, c .before .before .before .before .before .before .with-course .ensures, c .before .before .before .before .before .before .before .with-decision .ensures), rw (c .before .before .send-all .ensures .1, c .before .before .before .before .before .before .with-course .ensures, c .before .before .before .before .before .before .before .with-decision .ensures))
+
+pub commit-step-spec : {M : Type 1} → statement M
+commit-step-spec =
+    tie.close
+    (tie.spec
+    with-decision-requires
+    with-course-requires
+    slice-aggregate-send-all
+    send-all-requires
+    same-length
+    returns)

@@ -1,0 +1,45 @@
+use borrow.Author.Needs.{needs}
+use borrow.Author.Tests.{le-leb, lt-leb}
+use Rattle.rules.specs.Course.{decideStep}
+use Rattle.kinds.specs.Sizes as sizes
+use Rattle.course.proofs.coordinator.decide_step.Statement.{statement}
+use Rattle.course.proofs.coordinator.decide_step.Tie as tie
+use Rattle.course.proofs.coordinator.decide_step.Reads as reads
+use Rattle.course.proofs.coordinator.decide_step.Lts as lts
+use Rattle.course.proofs.coordinator.abort_step.Reads as abort-step-reads
+use Rattle.course.proofs.coordinator.commit_step.Reads as commit-step-reads
+
+abort-step-requires : tie.Need-abort-step-requires
+abort-step-requires c κs = search needs
+
+same-length : tie.Need-same-length
+same-length c = search needs
+
+returns : tie.Need-returns
+unfolding decideStep
+returns c = let e = le-leb sizes.last (c .before .before .before .before .before .before .args .t .counters .clock) (c .before .before .before .before .if1 .taken) in (rw e (c .before .before .abort-step .ensures .0), rw e (c .before .before .abort-step .ensures .1))
+
+add-commit-step : tie.Need-add-commit-step
+add-commit-step c = search needs
+
+commit-step-requires : tie.Need-commit-step-requires
+commit-step-requires c κs = search needs
+
+same-length-2 : tie.Need-same-length-2
+same-length-2 c = search needs
+
+returns-2 : tie.Need-returns-2
+unfolding decideStep
+returns-2 c = let e = lt-leb sizes.last (c .before .before .before .before .before .before .args .t .counters .clock) (c .before .before .before .before .if1 .left) in (rw e (c .before .before .commit-step .ensures .0), rw e (c .before .before .commit-step .ensures .1))
+
+pub decide-step-spec : {M : Type 1} → statement M
+decide-step-spec =
+    tie.close
+    (tie.spec
+    abort-step-requires
+    same-length
+    returns
+    add-commit-step
+    commit-step-requires
+    same-length-2
+    returns-2)

@@ -1,0 +1,67 @@
+use borrow.Author.Needs.{needs}
+use borrow.Author.Tests.{ne-eqb}
+use Rattle.rules.specs.Course.{certifiedStep}
+use Rattle.rules.specs.CourseLaws.{no-entries, to-course}
+use Rattle.course.proofs.participant.certified_step.Statement.{statement}
+use Rattle.course.proofs.participant.certified_step.Tie as tie
+use Rattle.course.proofs.participant.certified_step.Reads as reads
+use Rattle.course.proofs.participant.certified_step.Lts as lts
+use Rattle.course.proofs.send.send_to.Reads as send-to-reads
+use Rattle.course.proofs.turn.with_course.Reads as with-course-reads
+use Rattle.course.proofs.turn.with_mark.Reads as with-mark-reads
+use Rattle.course.proofs.turn.with_stage.Reads as with-stage-reads
+
+with-mark-requires : tie.Need-with-mark-requires
+with-mark-requires c κs = search needs
+
+with-course-requires : tie.Need-with-course-requires
+with-course-requires c κs = search needs
+
+slice-aggregate-send-to : tie.Need-slice-aggregate-send-to
+slice-aggregate-send-to c = search needs
+
+send-to-requires : tie.Need-send-to-requires
+send-to-requires c κs = (to-course (c .before .before .before .before .before .before .args .t) (c .before .before .with-course .result) (c .before .before .before .with-mark .result) (c .before .before .before .before .before .before .args .to) _ (c .before .before .with-course .ensures) (c .before .before .before .before .before .before .pre), no-entries)
+
+same-length : tie.Need-same-length
+same-length c = search needs
+
+returns : tie.Need-returns
+unfolding certifiedStep
+returns c = let v = c .before .before .before .before .before .before .before .if1 .taken in (rw (v, c .before .before .send-to .ensures .0, c .before .before .before .before .before .with-course .ensures, c .before .before .before .before .before .before .with-mark .ensures), rw (v, c .before .before .send-to .ensures .1, c .before .before .before .before .before .with-course .ensures, c .before .before .before .before .before .before .with-mark .ensures))
+
+with-stage-requires : tie.Need-with-stage-requires
+with-stage-requires c κs = search needs
+
+with-course-requires-2 : tie.Need-with-course-requires-2
+with-course-requires-2 c κs = search needs
+
+slice-aggregate-send-to-2 : tie.Need-slice-aggregate-send-to-2
+slice-aggregate-send-to-2 c = search needs
+
+send-to-requires-2 : tie.Need-send-to-requires-2
+send-to-requires-2 c κs = (to-course (c .before .before .before .before .before .before .args .t) (c .before .before .with-course2 .result) (c .before .before .before .with-stage .result) (c .before .before .before .before .before .before .args .to) _ (c .before .before .with-course2 .ensures) (c .before .before .before .before .before .before .pre), no-entries)
+
+same-length-2 : tie.Need-same-length-2
+same-length-2 c = search needs
+
+returns-2 : tie.Need-returns-2
+unfolding certifiedStep
+returns-2 c = let v = ne-eqb (c .before .before .before .before .before .before .before .before .before .args .vote) 0 (c .before .before .before .before .before .before .before .if1 .left) in (rw (v, c .before .before .send-to2 .ensures .0, c .before .before .before .before .before .with-course2 .ensures, c .before .before .before .before .before .before .with-stage .ensures), rw (v, c .before .before .send-to2 .ensures .1, c .before .before .before .before .before .with-course2 .ensures, c .before .before .before .before .before .before .with-stage .ensures))
+
+pub certified-step-spec : {M : Type 1} → statement M
+certified-step-spec =
+    tie.close
+    (tie.spec
+    with-mark-requires
+    with-course-requires
+    slice-aggregate-send-to
+    send-to-requires
+    same-length
+    returns
+    with-stage-requires
+    with-course-requires-2
+    slice-aggregate-send-to-2
+    send-to-requires-2
+    same-length-2
+    returns-2)

@@ -1,0 +1,61 @@
+use borrow.Author.Needs.{needs}
+use Rattle.rules.specs.Course.{preparedStep}
+use Rattle.rules.specs.CourseLaws.{no-entries, to-course}
+use Rattle.course.proofs.participant.prepared_step.Statement.{statement}
+use Rattle.course.proofs.participant.prepared_step.Tie as tie
+use Rattle.course.proofs.participant.prepared_step.Reads as reads
+use Rattle.course.proofs.participant.prepared_step.Lts as lts
+use Rattle.course.proofs.send.send_to.Reads as send-to-reads
+use Rattle.course.proofs.turn.with_course.Reads as with-course-reads
+use Rattle.course.proofs.turn.with_stage.Reads as with-stage-reads
+
+with-stage-requires : tie.Need-with-stage-requires
+with-stage-requires c κs = search needs
+
+with-course-requires : tie.Need-with-course-requires
+with-course-requires c κs = search needs
+
+slice-aggregate-send-to : tie.Need-slice-aggregate-send-to
+slice-aggregate-send-to c = search needs
+
+send-to-requires : tie.Need-send-to-requires
+send-to-requires c κs = (to-course (c .before .before .before .before .before .before .before .args .t) (c .before .before .with-course .result) (c .before .before .before .with-stage .result) (c .before .before .before .before .before .before .before .args .to) _ (c .before .before .with-course .ensures) (c .before .before .before .before .before .before .before .pre .0), no-entries)
+
+same-length : tie.Need-same-length
+same-length c = search needs
+
+returns : tie.Need-returns
+unfolding preparedStep
+returns c = let v = c .before .before .before .before .before .before .before .if1 .taken in (rw (v, c .before .before .send-to .ensures .0, c .before .before .before .before .before .with-course .ensures, c .before .before .before .before .before .before .with-stage .ensures), rw (v, c .before .before .send-to .ensures .1, c .before .before .before .before .before .with-course .ensures, c .before .before .before .before .before .before .with-stage .ensures))
+
+with-stage-requires-2 : tie.Need-with-stage-requires-2
+with-stage-requires-2 c κs = search needs
+
+with-course-requires-2 : tie.Need-with-course-requires-2
+with-course-requires-2 c κs = search needs
+
+send-to-requires-2 : tie.Need-send-to-requires-2
+send-to-requires-2 c κs = (to-course (c .before .before .before .before .before .before .args .t) (c .before .with-course2 .result) (c .before .before .with-stage2 .result) (c .before .before .before .before .before .before .args .to) _ (c .before .with-course2 .ensures) (c .before .before .before .before .before .before .pre .0), c .before .before .before .before .before .before .pre .1)
+
+same-length-2 : tie.Need-same-length-2
+same-length-2 c = search needs
+
+returns-2 : tie.Need-returns-2
+unfolding preparedStep
+returns-2 c = let v = c .before .before .before .before .before .before .if1 .left in (rw (v, c .before .before .send-to2 .ensures .0, c .before .before .before .before .with-course2 .ensures, c .before .before .before .before .before .with-stage2 .ensures), rw (v, c .before .before .send-to2 .ensures .1, c .before .before .before .before .with-course2 .ensures, c .before .before .before .before .before .with-stage2 .ensures))
+
+pub prepared-step-spec : {M : Type 1} → statement M
+prepared-step-spec =
+    tie.close
+    (tie.spec
+    with-stage-requires
+    with-course-requires
+    slice-aggregate-send-to
+    send-to-requires
+    same-length
+    returns
+    with-stage-requires-2
+    with-course-requires-2
+    send-to-requires-2
+    same-length-2
+    returns-2)

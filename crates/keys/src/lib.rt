@@ -1,0 +1,167 @@
+// The keys that a part read and wrote, and dependence of two parts.
+pub mod order;
+
+use kinds::House;
+use kinds::Key;
+use kinds::Keys;
+use kinds::Value;
+use kinds::sizes::READS;
+use kinds::sizes::WRITES;
+use numbers::site_of;
+ghost use mathlib.Core.Path.{_≡_};
+ghost use mathlib.Core.Bool.{true, false};
+ghost use Prim.Native.Nat.{_≤_, _<_};
+ghost use lib.ListN.{length};
+ghost use Rattle.rules.specs.Keys.{keyPlace, wroteKey, readKey, wroteValue, withRead, withWrite, commonKey, dependent as dependentOf, keysAt, keysOk};
+
+// A key as a word.
+pub fn wide(k: Key) -> u64
+    ensures { λ r. ⌜ r ≡ k ⌝ }
+{
+    k as u64
+}
+
+// The place of `k` among the first `n` keys, or `n`.
+pub fn key_place(keys: &[Key], n: usize, k: Key) -> usize
+    requires { ⌜ n ≤ length (now keys) ⌝ }
+    ensures { λ r. ⌜ r ≡ keyPlace (now (keys .entry)) n k ⌝ }
+{
+    let mut i: usize = 0;
+    while i < n {
+        if keys[i] == k {
+            return i;
+        }
+        i += 1;
+    }
+    i
+}
+
+pub fn wrote_key(b: Keys, k: Key) -> bool
+    requires { ⌜ b .wrote ≤ 16 ⌝ }
+    ensures { λ r. ⌜ r ≡ wroteKey b k ⌝ }
+{
+    let n = b.wrote;
+    let place = key_place(&b.writes, n, k);
+    place < n
+}
+
+pub fn read_key(b: Keys, k: Key) -> bool
+    requires { ⌜ b .read ≤ 16 ⌝ }
+    ensures { λ r. ⌜ r ≡ readKey b k ⌝ }
+{
+    let n = b.read;
+    let place = key_place(&b.reads, n, k);
+    place < n
+}
+
+// The value that the part wrote to `k`.
+pub fn wrote_value(b: Keys, k: Key) -> Value
+    requires { ⌜ (b .wrote ≤ 16) × (wroteKey b k ≡ true) ⌝ }
+    ensures { λ r. ⌜ r ≡ wroteValue b k ⌝ }
+{
+    let n = b.wrote;
+    let place = key_place(&b.writes, n, k);
+    b.values[place]
+}
+
+// The keys with `k` among those read.
+pub fn with_read(b: Keys, k: Key) -> Keys
+    requires { ⌜ (b .read ≤ 16) × (readKey b k ≡ false → b .read < 16) ⌝ }
+    ensures { λ r. ⌜ r ≡ withRead b k ⌝ }
+{
+    if read_key(b, k) {
+        return b;
+    }
+    let n = b.read;
+    let mut c = b;
+    c.reads[n] = k;
+    c.read = n + 1;
+    c
+}
+
+// The keys with `v` written to `k`: over the own write of `k`, or behind the others.
+pub fn with_write(b: Keys, k: Key, v: Value) -> Keys
+    requires { ⌜ (b .wrote ≤ 16) × (wroteKey b k ≡ false → b .wrote < 16) ⌝ }
+    ensures { λ r. ⌜ r ≡ withWrite b k v ⌝ }
+{
+    let n = b.wrote;
+    let place = key_place(&b.writes, n, k);
+    let mut c = b;
+    if place < n {
+        c.values[place] = v;
+        return c;
+    }
+    c.writes[n] = k;
+    c.values[n] = v;
+    c.wrote = n + 1;
+    c
+}
+
+// Whether the first `n` of `a` and the first `m` of `b` have a key in common. Both scans stop at the first.
+pub fn common_key(a: &[Key], n: usize, b: &[Key], m: usize) -> bool
+    requires { ⌜ (n ≤ length (now a)) × (m ≤ length (now b)) ⌝ }
+    ensures { λ r. ⌜ r ≡ commonKey (now (a .entry)) n (now (b .entry)) m ⌝ }
+{
+    let mut found = false;
+    let mut i: usize = 0;
+    'search: while i < n {
+        let mut j: usize = 0;
+        while j < m {
+            if a[i] == b[j] {
+                found = true;
+                break 'search;
+            }
+            j += 1;
+        }
+        i += 1;
+    }
+    found
+}
+
+// Whether one wrote a key that the other read or wrote.
+pub fn dependent(a: Keys, b: Keys) -> bool
+    requires { ⌜ (a .read ≤ 16) × (a .wrote ≤ 16) × (b .read ≤ 16) × (b .wrote ≤ 16) ⌝ }
+    ensures { λ r. ⌜ r ≡ dependentOf a b ⌝ }
+{
+    if common_key(&a.writes, a.wrote, &b.writes, b.wrote) {
+        return true;
+    }
+    if common_key(&a.writes, a.wrote, &b.reads, b.read) {
+        return true;
+    }
+    common_key(&a.reads, a.read, &b.writes, b.wrote)
+}
+
+// Whether the first `n` keys live at site `own`.
+fn keys_at(o: House, own: u64, keys: &[Key], n: usize) -> bool
+    requires { ⌜ n ≤ length (now keys) ⌝ }
+    ensures { λ r. ⌜ r ≡ keysAt o own (now (keys .entry)) n ⌝ }
+{
+    let mut i: usize = 0;
+    while i < n {
+        let site = site_of(o, wide(keys[i]));
+        if site != own {
+            return false;
+        }
+        i += 1;
+    }
+    true
+}
+
+// Whether the counts are within the sizes, and the keys are of site `own`.
+pub fn keys_ok(o: House, own: u64, b: Keys) -> bool
+    ensures { λ r. ⌜ r ≡ keysOk o own b ⌝ }
+{
+    let read = b.read;
+    let wrote = b.wrote;
+    if READS < read {
+        return false;
+    }
+    if WRITES < wrote {
+        return false;
+    }
+    if !keys_at(o, own, &b.reads, read) {
+        return false;
+    }
+    keys_at(o, own, &b.writes, wrote)
+}

@@ -1,0 +1,74 @@
+-- Positions of the words of a message, of an entry, of a record, of a write and of a copy: the numbers of src/word.rt.
+use Prim.Native.Nat.{ℕ}
+
+abbrev pub length : ℕ
+length = 0
+
+abbrev pub kind : ℕ
+kind = 1
+
+abbrev pub from : ℕ
+from = 2
+
+abbrev pub to : ℕ
+to = 3
+
+abbrev pub channel : ℕ
+channel = 4
+
+abbrev pub messageTx : ℕ
+messageTx = 5
+
+abbrev pub clock : ℕ
+clock = 6
+
+abbrev pub argument : ℕ
+argument = 7
+
+abbrev pub entryCount : ℕ
+entryCount = 8
+
+abbrev pub entryOffset : ℕ
+entryOffset = 9
+
+abbrev pub entryTx : ℕ
+entryTx = 0
+
+abbrev pub entryMask : ℕ
+entryMask = 1
+
+abbrev pub entryMark : ℕ
+entryMark = 2
+
+abbrev pub site : ℕ
+site = 2
+
+abbrev pub number : ℕ
+number = 3
+
+abbrev pub coordinator : ℕ
+coordinator = 4
+
+abbrev pub recordTx : ℕ
+recordTx = 5
+
+abbrev pub recordMask : ℕ
+recordMask = 6
+
+abbrev pub writeCount : ℕ
+writeCount = 7
+
+abbrev pub writeOffset : ℕ
+writeOffset = 8
+
+abbrev pub writeKey : ℕ
+writeKey = 0
+
+abbrev pub writeValue : ℕ
+writeValue = 1
+
+abbrev pub lastNumber : ℕ
+lastNumber = 0
+
+abbrev pub lastCoordinator : ℕ
+lastCoordinator = 1

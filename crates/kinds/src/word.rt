@@ -1,0 +1,47 @@
+// Positions of the words of a message, of an entry, of a record, of a write and of a copy.
+pub const LENGTH: usize = 0;
+
+pub const KIND: usize = 1;
+
+pub const FROM: usize = 2;
+
+pub const TO: usize = 3;
+
+pub const CHANNEL: usize = 4;
+
+pub const MESSAGE_TX: usize = 5;
+
+pub const CLOCK: usize = 6;
+
+pub const ARGUMENT: usize = 7;
+
+pub const ENTRY_COUNT: usize = 8;
+
+pub const ENTRY_OFFSET: usize = 9;
+
+pub const ENTRY_TX: usize = 0;
+
+pub const ENTRY_MASK: usize = 1;
+
+pub const ENTRY_MARK: usize = 2;
+
+pub const SITE: usize = 2;
+
+pub const NUMBER: usize = 3;
+
+pub const COORDINATOR: usize = 4;
+
+pub const RECORD_TX: usize = 5;
+
+pub const RECORD_MASK: usize = 6;
+
+pub const WRITE_COUNT: usize = 7;
+
+pub const WRITE_OFFSET: usize = 8;
+
+pub const WRITE_KEY: usize = 0;
+
+pub const WRITE_VALUE: usize = 1;
+
+pub const LAST_NUMBER: usize = 0;
+pub const LAST_COORDINATOR: usize = 1;

@@ -1,0 +1,67 @@
+-- Each return is the test of the shape that failed, or the last; a count above the length fails the third.
+use native.Mathlib.Omega.{arith}
+use borrow.Author.Needs.{needs}
+use borrow.Author.Tests.{le-leb, lt-leb, eq-eqb, ne-eqb}
+use lib.ListN.{length, getD}
+use Rattle.laws.specs.Choice.{pick-self}
+use Rattle.kinds.specs.Word as word
+use Rattle.rules.specs.Message.{messageLength, messageShape}
+use Rattle.messages.proofs.check.shape_ok.Statement.{statement}
+use Rattle.messages.proofs.check.shape_ok.Tie as tie
+
+returns : tie.Need-returns
+unfolding messageShape
+returns c = search (lt-leb, needs)
+
+shared-slice-read-length : tie.Need-shared-slice-read-length
+shared-slice-read-length c = search needs
+
+shared-slice-read-count : tie.Need-shared-slice-read-count
+shared-slice-read-count c = search needs
+
+shared-slice-read-offset : tie.Need-shared-slice-read-offset
+shared-slice-read-offset c = search needs
+
+entry-offset-requires : tie.Need-entry-offset-requires
+entry-offset-requires c κs = search needs
+
+returns-2 : tie.Need-returns-2
+unfolding messageShape
+returns-2 c = search (le-leb, ne-eqb, needs)
+
+returns-3 : tie.Need-returns-3
+unfolding messageShape
+returns-3 c =
+    let m = c .before .before .before .before .before .before .before .before .args .m .now in
+    let d = ne-eqb (length m) (messageLength (getD m word.entryCount 0)) (λ q. omega arith) in
+    search (d, le-leb, eq-eqb, needs)
+
+mul-if4 : tie.Need-mul-if4
+mul-if4 c = search needs
+
+add-if4 : tie.Need-add-if4
+add-if4 c = search needs
+
+returns-4 : tie.Need-returns-4
+unfolding messageShape
+returns-4 c = search (le-leb, eq-eqb, ne-eqb, needs)
+
+returns-5 : tie.Need-returns-5
+unfolding messageShape
+returns-5 c = search (← c .before .before .before .entry-offset .ensures, pick-self, le-leb, eq-eqb, needs)
+
+pub shape-ok-spec : {M : Type 1} → statement M
+shape-ok-spec =
+    tie.close
+    (tie.spec
+    returns
+    shared-slice-read-length
+    shared-slice-read-count
+    shared-slice-read-offset
+    entry-offset-requires
+    returns-2
+    returns-3
+    mul-if4
+    add-if4
+    returns-4
+    returns-5)

@@ -1,0 +1,51 @@
+-- The entries are laid directly behind the header.
+use mathlib.Core.Path.{refl}
+use native.Mathlib.Omega.{arith}
+use borrow.Author.Needs.{needs}
+use Rattle.laws.specs.Overlay.{behind}
+use Rattle.kinds.specs.Sizes as sizes
+use Rattle.rules.specs.Message.{headWords, messageWords}
+use Rattle.messages.proofs.write.write_message.Statement.{statement}
+use Rattle.messages.proofs.write.write_message.Tie as tie
+
+write-head-requires : tie.Need-write-head-requires
+write-head-requires c κs = search needs
+
+sub-copy-words : tie.Need-sub-copy-words
+sub-copy-words c = search needs
+
+part-copy-words-start : tie.Need-part-copy-words-start
+part-copy-words-start c = search needs
+
+part-copy-words-end : tie.Need-part-copy-words-end
+part-copy-words-end c = search needs
+
+copy-words-requires : tie.Need-copy-words-requires
+copy-words-requires c κs = search needs
+
+add-result : tie.Need-add-result
+add-result c = search needs
+
+same-length : tie.Need-same-length
+same-length c = search needs
+
+returns : tie.Need-returns
+unfolding messageWords
+returns c =
+    let a = c .before .before .before .before .before .before .before .before .before .before .args in
+    let w = c .before .before .before .before .before .before .write-head in
+    let k = c .before .before .copy-words in
+    (omega arith, behind (a .out .now) (headWords (a .h)) (a .es .now) (w .last .0) (k .last .0) sizes.messageHeader refl (omega arith) (w .ensures) (k .ensures))
+
+pub write-message-spec : {M : Type 1} → statement M
+write-message-spec =
+    tie.close
+    (tie.spec
+    write-head-requires
+    sub-copy-words
+    part-copy-words-start
+    part-copy-words-end
+    copy-words-requires
+    add-result
+    same-length
+    returns)

@@ -1,0 +1,21 @@
+use borrow.Author.Tests.{lt-ltb, le-ltb, le-leb, lt-leb, eq-eqb, ne-eqb}
+use Rattle.rules.specs.House.{houseOk}
+use Rattle.laws.specs.Choice.{pick-self}
+use borrow.Author.Needs.{needs}
+use Rattle.numbers.proofs.house_ok.Statement.{statement}
+use Rattle.numbers.proofs.house_ok.Tie as tie
+use Rattle.numbers.proofs.house_ok.Reads as reads
+use Rattle.numbers.proofs.house_ok.Lts as lts
+
+-- src/lib.rt:14:9
+returns : tie.Need-returns
+unfolding houseOk
+returns c = search (pick-self, lt-ltb, le-ltb, le-leb, lt-leb, eq-eqb, ne-eqb, needs)
+
+-- src/lib.rt:9:1
+returns-2 : tie.Need-returns-2
+unfolding houseOk
+returns-2 c = search (pick-self, lt-ltb, le-ltb, le-leb, lt-leb, eq-eqb, ne-eqb, needs)
+
+pub house-ok-spec : {M : Type 1} → statement M
+house-ok-spec = tie.close (tie.spec returns returns-2)

@@ -1,0 +1,24 @@
+use borrow.Author.Tests.{lt-ltb, le-ltb, le-leb, lt-leb, eq-eqb, ne-eqb}
+use Rattle.rules.specs.House.{inMask}
+use Rattle.laws.specs.Choice.{pick-self}
+use borrow.Author.Needs.{needs}
+use Rattle.numbers.proofs.in_mask.Statement.{statement}
+use Rattle.numbers.proofs.in_mask.Tie as tie
+use Rattle.numbers.proofs.in_mask.Reads as reads
+use Rattle.numbers.proofs.in_mask.Lts as lts
+
+-- src/lib.rt:86:15
+sub-result : tie.Need-sub-result
+sub-result c = search needs
+
+-- src/lib.rt:86:6
+shr-result : tie.Need-shr-result
+shr-result c = search needs
+
+-- src/lib.rt:82:1
+returns : tie.Need-returns
+unfolding inMask
+returns c = search (pick-self, lt-ltb, le-ltb, le-leb, lt-leb, eq-eqb, ne-eqb, needs)
+
+pub in-mask-spec : {M : Type 1} → statement M
+in-mask-spec = tie.close (tie.spec sub-result shr-result returns)

@@ -1,0 +1,19 @@
+use Rattle.rules.specs.House.{isKey}
+use borrow.Author.Needs.{needs}
+use Rattle.numbers.proofs.is_key.Statement.{statement}
+use Rattle.numbers.proofs.is_key.Tie as tie
+use Rattle.numbers.proofs.is_key.Reads as reads
+use Rattle.numbers.proofs.is_key.Lts as lts
+use Rattle.numbers.proofs.site_of.Reads as site-of-reads
+
+-- src/lib.rt:39:9
+site-of-requires : tie.Need-site-of-requires
+site-of-requires c κs = search needs
+
+-- src/lib.rt:36:1
+returns : tie.Need-returns
+unfolding isKey
+returns c = rw (c .site-of .ensures)
+
+pub is-key-spec : {M : Type 1} → statement M
+is-key-spec = tie.close (tie.spec site-of-requires returns)

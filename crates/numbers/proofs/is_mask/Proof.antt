@@ -1,0 +1,22 @@
+use native.Mathlib.Omega.{arith}
+use Rattle.laws.specs.Digits.{one-shifted}
+use borrow.Author.Tests.{lt-ltb, le-ltb, le-leb, lt-leb, eq-eqb, ne-eqb}
+use Rattle.rules.specs.House.{isMask}
+use Rattle.laws.specs.Choice.{pick-self}
+use borrow.Author.Needs.{needs}
+use Rattle.numbers.proofs.is_mask.Statement.{statement}
+use Rattle.numbers.proofs.is_mask.Tie as tie
+use Rattle.numbers.proofs.is_mask.Reads as reads
+use Rattle.numbers.proofs.is_mask.Lts as lts
+
+-- src/lib.rt:94:12
+shl-result : tie.Need-shl-result
+shl-result c = search needs
+
+-- src/lib.rt:89:1
+returns : tie.Need-returns
+unfolding isMask
+returns c = rw (one-shifted (c .args .h .sites) (omega arith))
+
+pub is-mask-spec : {M : Type 1} → statement M
+is-mask-spec = tie.close (tie.spec shl-result returns)

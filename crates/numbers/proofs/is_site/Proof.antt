@@ -1,0 +1,21 @@
+use borrow.Author.Tests.{lt-ltb, le-ltb, le-leb, lt-leb, eq-eqb, ne-eqb}
+use Rattle.rules.specs.House.{isSite}
+use Rattle.laws.specs.Choice.{pick-self}
+use borrow.Author.Needs.{needs}
+use Rattle.numbers.proofs.is_site.Statement.{statement}
+use Rattle.numbers.proofs.is_site.Tie as tie
+use Rattle.numbers.proofs.is_site.Reads as reads
+use Rattle.numbers.proofs.is_site.Lts as lts
+
+-- src/lib.rt:24:9
+returns : tie.Need-returns
+unfolding isSite
+returns c = search (pick-self, lt-ltb, le-ltb, le-leb, lt-leb, eq-eqb, ne-eqb, needs)
+
+-- src/lib.rt:19:1
+returns-2 : tie.Need-returns-2
+unfolding isSite
+returns-2 c = search (pick-self, lt-ltb, le-ltb, le-leb, lt-leb, eq-eqb, ne-eqb, needs)
+
+pub is-site-spec : {M : Type 1} → statement M
+is-site-spec = tie.close (tie.spec returns returns-2)

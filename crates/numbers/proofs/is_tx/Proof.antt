@@ -1,0 +1,38 @@
+use borrow.Author.Tests.{not-true, not-false}
+use Rattle.laws.specs.Choice.{pick-self}
+use Rattle.rules.specs.House.{isTx}
+use borrow.Author.Needs.{needs}
+use Rattle.numbers.proofs.is_tx.Statement.{statement}
+use Rattle.numbers.proofs.is_tx.Tie as tie
+use Rattle.numbers.proofs.is_tx.Reads as reads
+use Rattle.numbers.proofs.is_tx.Lts as lts
+use Rattle.numbers.proofs.coordinator_of.Reads as coordinator-of-reads
+use Rattle.numbers.proofs.is_site.Reads as is-site-reads
+use Rattle.numbers.proofs.serial_of.Reads as serial-of-reads
+
+-- src/lib.rt:66:9
+coordinator-of-requires : tie.Need-coordinator-of-requires
+coordinator-of-requires c κs = search needs
+
+-- src/lib.rt:67:9
+serial-of-requires : tie.Need-serial-of-requires
+serial-of-requires c κs = search needs
+
+-- src/lib.rt:68:9
+is-site-requires : tie.Need-is-site-requires
+is-site-requires c κs = search needs
+
+-- src/lib.rt:69:9
+returns : tie.Need-returns
+unfolding isTx
+returns c = simp (← c .before .before .before .coordinator-of .ensures, ← c .before .is-site .ensures, not-true (c .before .is-site .result) (c .if1 .taken))
+
+-- src/lib.rt:63:1
+returns-2 : tie.Need-returns-2
+unfolding isTx
+returns-2 c = simp (← c .before .before .before .coordinator-of .ensures, ← c .before .before .serial-of .ensures, ← c .before .is-site .ensures, not-false (c .before .is-site .result) (c .if1 .left), pick-self)
+
+pub is-tx-spec : {M : Type 1} → statement M
+is-tx-spec =
+    tie.close
+    (tie.spec coordinator-of-requires serial-of-requires is-site-requires returns returns-2)

@@ -1,0 +1,26 @@
+use Prim.Native.Nat.{_-_}
+use native.Mathlib.Omega.{arith}
+use Rattle.laws.specs.Digits.{one-shifted}
+use borrow.Author.Tests.{lt-ltb, le-ltb, le-leb, lt-leb, eq-eqb, ne-eqb}
+use Rattle.rules.specs.House.{maskOf}
+use borrow.Author.Needs.{needs}
+use Rattle.numbers.proofs.mask_of.Statement.{statement}
+use Rattle.numbers.proofs.mask_of.Tie as tie
+use Rattle.numbers.proofs.mask_of.Reads as reads
+use Rattle.numbers.proofs.mask_of.Lts as lts
+
+-- src/lib.rt:79:11
+sub-result : tie.Need-sub-result
+sub-result c = search needs
+
+-- src/lib.rt:79:5
+shl-result : tie.Need-shl-result
+shl-result c = search needs
+
+-- src/lib.rt:75:1
+returns : tie.Need-returns
+unfolding maskOf
+returns c = one-shifted (c .args .site - 1) (omega arith)
+
+pub mask-of-spec : {M : Type 1} → statement M
+mask-of-spec = tie.close (tie.spec sub-result shl-result returns)

@@ -1,0 +1,21 @@
+use native.Mathlib.Omega.{arith}
+use lib.Count.{ones-le}
+use borrow.Author.Tests.{lt-ltb, le-ltb, le-leb, lt-leb, eq-eqb, ne-eqb}
+use Rattle.rules.specs.House.{participants}
+use borrow.Author.Needs.{needs}
+use Rattle.numbers.proofs.participants.Statement.{statement}
+use Rattle.numbers.proofs.participants.Tie as tie
+use Rattle.numbers.proofs.participants.Reads as reads
+use Rattle.numbers.proofs.participants.Lts as lts
+
+-- src/lib.rt:100:5
+cast-result : tie.Need-cast-result
+cast-result c = omega (arith, ones-le 64 (c .args .mask) (omega arith))
+
+-- src/lib.rt:97:1
+returns : tie.Need-returns
+unfolding participants
+returns c = search (lt-ltb, le-ltb, le-leb, lt-leb, eq-eqb, ne-eqb, needs)
+
+pub participants-spec : {M : Type 1} → statement M
+participants-spec = tie.close (tie.spec cast-result returns)

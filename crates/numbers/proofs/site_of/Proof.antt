@@ -1,0 +1,19 @@
+use borrow.Author.Tests.{lt-ltb, le-ltb, le-leb, lt-leb, eq-eqb, ne-eqb}
+use Rattle.rules.specs.House.{siteOf}
+use borrow.Author.Needs.{needs}
+use Rattle.numbers.proofs.site_of.Statement.{statement}
+use Rattle.numbers.proofs.site_of.Tie as tie
+use Rattle.numbers.proofs.site_of.Reads as reads
+use Rattle.numbers.proofs.site_of.Lts as lts
+
+-- src/lib.rt:33:5
+add-result : tie.Need-add-result
+add-result c = search needs
+
+-- src/lib.rt:30:1
+returns : tie.Need-returns
+unfolding siteOf
+returns c = search (lt-ltb, le-ltb, le-leb, lt-leb, eq-eqb, ne-eqb, needs)
+
+pub site-of-spec : {M : Type 1} → statement M
+site-of-spec = tie.close (tie.spec add-result returns)

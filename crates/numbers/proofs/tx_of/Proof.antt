@@ -1,0 +1,23 @@
+use borrow.Author.Tests.{lt-ltb, le-ltb, le-leb, lt-leb, eq-eqb, ne-eqb}
+use Rattle.rules.specs.House.{txOf}
+use borrow.Author.Needs.{needs}
+use Rattle.numbers.proofs.tx_of.Statement.{statement}
+use Rattle.numbers.proofs.tx_of.Tie as tie
+use Rattle.numbers.proofs.tx_of.Reads as reads
+use Rattle.numbers.proofs.tx_of.Lts as lts
+
+-- src/lib.rt:48:5
+mul-result : tie.Need-mul-result
+mul-result c = search needs
+
+-- src/lib.rt:48:5
+add-result : tie.Need-add-result
+add-result c = search needs
+
+-- src/lib.rt:44:1
+returns : tie.Need-returns
+unfolding txOf
+returns c = search (lt-ltb, le-ltb, le-leb, lt-leb, eq-eqb, ne-eqb, needs)
+
+pub tx-of-spec : {M : Type 1} → statement M
+tx-of-spec = tie.close (tie.spec mul-result add-result returns)

@@ -1,0 +1,124 @@
+// Sites, keys, transaction numbers, masks and pairs, as 01 numbers them.
+use kinds::House;
+use kinds::sizes::{SERIALS, SITES, SITE_KEYS};
+ghost use mathlib.Core.Path.{_≡_};
+ghost use Prim.Native.Nat.{_≤_, _<_};
+ghost use Rattle.laws.specs.Pair.{precedes as precedesOf};
+ghost use Rattle.rules.specs.House.{houseOk, isSite, siteOf, isKey, txOf, coordinatorOf, serialOf, isTx, maskOf, inMask, isMask, participants as participantsOf, repliesWanted};
+
+pub fn house_ok(h: House) -> bool
+    ensures { λ r. ⌜ r ≡ houseOk h ⌝ }
+{
+    let sites = h.sites;
+    if sites < 1 {
+        return false;
+    }
+    sites <= SITES as u64
+}
+
+pub fn is_site(h: House, s: u64) -> bool
+    ensures { λ r. ⌜ r ≡ isSite h s ⌝ }
+{
+    let sites = h.sites;
+    if s < 1 {
+        return false;
+    }
+    s <= sites
+}
+
+// The site where a key lives.
+pub fn site_of(h: House, key: u64) -> u64
+    ensures { λ r. ⌜ r ≡ siteOf h key ⌝ }
+{
+    key / SITE_KEYS + 1
+}
+
+pub fn is_key(h: House, key: u64) -> bool
+    ensures { λ r. ⌜ r ≡ isKey h key ⌝ }
+{
+    let site = site_of(h, key);
+    let sites = h.sites;
+    site <= sites
+}
+
+pub fn tx_of(coordinator: u64, serial: u64) -> u64
+    requires { ⌜ (coordinator ≤ 8) × (serial < 4294967296) ⌝ }
+    ensures { λ r. ⌜ r ≡ txOf coordinator serial ⌝ }
+{
+    coordinator * SERIALS + serial
+}
+
+pub fn coordinator_of(tx: u64) -> u64
+    ensures { λ r. ⌜ r ≡ coordinatorOf tx ⌝ }
+{
+    tx / SERIALS
+}
+
+pub fn serial_of(tx: u64) -> u64
+    ensures { λ r. ⌜ r ≡ serialOf tx ⌝ }
+{
+    tx % SERIALS
+}
+
+pub fn is_tx(h: House, tx: u64) -> bool
+    ensures { λ r. ⌜ r ≡ isTx h tx ⌝ }
+{
+    let coordinator = coordinator_of(tx);
+    let serial = serial_of(tx);
+    if !is_site(h, coordinator) {
+        return false;
+    }
+    1 <= serial
+}
+
+// The mask of one site.
+pub fn mask_of(site: u64) -> u64
+    requires { ⌜ (1 ≤ site) × (site ≤ 8) ⌝ }
+    ensures { λ r. ⌜ r ≡ maskOf site ⌝ }
+{
+    1 << (site - 1)
+}
+
+pub fn in_mask(mask: u64, site: u64) -> bool
+    requires { ⌜ (1 ≤ site) × (site ≤ 8) ⌝ }
+    ensures { λ r. ⌜ r ≡ inMask mask site ⌝ }
+{
+    (mask >> (site - 1)) % 2 == 1
+}
+
+pub fn is_mask(h: House, mask: u64) -> bool
+    requires { ⌜ h .sites ≤ 8 ⌝ }
+    ensures { λ r. ⌜ r ≡ isMask h mask ⌝ }
+{
+    let sites = h.sites;
+    mask < 1 << sites
+}
+
+pub fn participants(mask: u64) -> u64
+    ensures { λ r. ⌜ r ≡ participantsOf mask ⌝ }
+{
+    u64::count_ones(mask) as u64
+}
+
+pub fn replies_wanted(mask: u64) -> u64
+    ensures { λ r. ⌜ r ≡ repliesWanted mask ⌝ }
+{
+    let n = participants(mask);
+    if n == 0 {
+        return 0;
+    }
+    n - 1
+}
+
+// (m, d) precedes (n, c): by commit number, then by coordinator.
+pub fn precedes(m: u64, d: u64, n: u64, c: u64) -> bool
+    ensures { λ r. ⌜ r ≡ precedesOf m d n c ⌝ }
+{
+    if m < n {
+        return true;
+    }
+    if m == n {
+        return d < c;
+    }
+    false
+}

@@ -1,0 +1,74 @@
+// What the writes of a record must be. The functions take the words of the writes alone.
+use kinds::House;
+use kinds::sizes::KEYS;
+use kinds::sizes::WRITE;
+use kinds::word;
+use numbers::site_of;
+ghost use mathlib.Core.Path.{_≡_};
+ghost use Prim.Native.Nat.{_+_, _*_, _≤_, _<_};
+ghost use lib.ListN.{length};
+ghost use Rattle.laws.specs.Scan.{allBelow};
+ghost use Rattle.kinds.specs.Sizes as sizes;
+ghost use Rattle.rules.specs.Record.{keyAscends, partWriteOk, mergedWriteOk};
+
+// Whether the write's key is above that of the one before.
+fn key_ascends(ws: &[u64], i: usize) -> bool
+    requires { ⌜ (i < sizes.mergedWrites) × (sizes.write * i + 1 < length (now ws)) ⌝ }
+    ensures { λ r. ⌜ r ≡ keyAscends (now (ws .entry)) i ⌝ }
+{
+    if i == 0 {
+        return true;
+    }
+    ws[WRITE * (i - 1) + word::WRITE_KEY] < ws[WRITE * i + word::WRITE_KEY]
+}
+
+fn part_write_ok(o: House, site: u64, ws: &[u64], i: usize) -> bool
+    requires { ⌜ (i < sizes.mergedWrites) × (sizes.write * i + 1 < length (now ws)) ⌝ }
+    ensures { λ r. ⌜ r ≡ partWriteOk o site (now (ws .entry)) i ⌝ }
+{
+    if !key_ascends(ws, i) {
+        return false;
+    }
+    let key = ws[WRITE * i + word::WRITE_KEY];
+    let home = site_of(o, key);
+    home == site
+}
+
+fn merged_write_ok(ws: &[u64], i: usize) -> bool
+    requires { ⌜ (i < sizes.mergedWrites) × (sizes.write * i + 1 < length (now ws)) ⌝ }
+    ensures { λ r. ⌜ r ≡ mergedWriteOk (now (ws .entry)) i ⌝ }
+{
+    if !key_ascends(ws, i) {
+        return false;
+    }
+    let key = ws[WRITE * i + word::WRITE_KEY];
+    key < KEYS as u64
+}
+
+pub fn part_writes_ok(o: House, site: u64, ws: &[u64], n: usize) -> bool
+    requires { ⌜ (n ≤ sizes.mergedWrites) × (sizes.write * n ≤ length (now ws)) ⌝ }
+    ensures { λ r. ⌜ r ≡ allBelow (partWriteOk o site (now (ws .entry))) n ⌝ }
+{
+    let mut i: usize = 0;
+    while i < n {
+        if !part_write_ok(o, site, ws, i) {
+            return false;
+        }
+        i += 1;
+    }
+    true
+}
+
+pub fn merged_writes_ok(ws: &[u64], n: usize) -> bool
+    requires { ⌜ (n ≤ sizes.mergedWrites) × (sizes.write * n ≤ length (now ws)) ⌝ }
+    ensures { λ r. ⌜ r ≡ allBelow (mergedWriteOk (now (ws .entry))) n ⌝ }
+{
+    let mut i: usize = 0;
+    while i < n {
+        if !merged_write_ok(ws, i) {
+            return false;
+        }
+        i += 1;
+    }
+    true
+}

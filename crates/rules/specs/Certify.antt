@@ -1,0 +1,92 @@
+-- 01, course 5 to 8: the list of concurrent transactions that a site makes, and its vote on a joined list.
+use Prim.Native.Nat.{ℕ, zero, suc, _+_, _-_, _*_, _≤_, _<_}
+use mathlib.Core.List.{List, [], _∷_, _++_}
+use mathlib.Core.Bool.{Bool, true, false, not}
+use lib.ListN.{length}
+use lib.Dec.{ltb, leb, eqb}
+use Rattle.laws.specs.Choice.{pick, every, some}
+use Rattle.laws.specs.Scan.{anyBelow, foldBelow}
+use Rattle.kinds.specs.Sizes as sizes
+use Rattle.kinds.specs.Reason as reason
+use Rattle.kinds.specs.declared.Keys.{Keys}
+use Rattle.kinds.specs.declared.Sub.{Sub}
+use Rattle.kinds.specs.declared.Entry.{Entry}
+use Rattle.kinds.specs.declared.Site.{Site}
+use Rattle.kinds.specs.State.{subAt}
+use Rattle.rules.specs.House.{inMask}
+use Rattle.rules.specs.Message.{entryTx, entryMask, entryMark, entryCount}
+use Rattle.rules.specs.Keys.{dependent}
+use Rattle.rules.specs.Live.{partAt, isPrepared, isHeld}
+use Rattle.rules.specs.History.{recall, remembered, forgotten, within, recallPlace}
+use Rattle.rules.specs.Join.{joined}
+
+-- Concurrent with the part at `place`: every other prepared one, then every install after its snapshot, mark 1 where dependent.
+
+abbrev pub markOf : Bool → ℕ
+markOf b = pick b 1 0
+
+-- the words of one more entry
+abbrev pub concurrentWords : Keys → ℕ → ℕ → Keys → List ℕ
+concurrentWords own tx mask other = tx ∷ mask ∷ markOf (dependent own other) ∷ []
+
+unfoldable pub preparedWords : List Sub → ℕ → ℕ → List ℕ
+preparedWords live place i =
+    pick (every (not (eqb i place) ∷ isPrepared (partAt live i) ∷ []))
+    (concurrentWords (partAt live place .keys) (partAt live i .tx) (partAt live i .course .mask) (partAt live i .keys))
+    []
+
+unfoldable pub installedWords : List Entry → ℕ → Keys → ℕ → List ℕ
+installedWords history installs own i =
+    let e = recall history installs i in
+    concurrentWords own (e .tx) (e .mask) (e .keys)
+
+-- the prepared ones among the first n places
+unfoldable pub preparedList : List Sub → ℕ → ℕ → List ℕ
+preparedList live place n = foldBelow (λ i ws. ws ++ preparedWords live place i) n []
+
+-- the first n remembered installs after the first `seen`
+unfoldable pub installedList : List Entry → ℕ → Keys → ℕ → ℕ → List ℕ
+installedList history installs own seen n = foldBelow (λ i ws. ws ++ installedWords history installs own (seen + i)) n []
+
+unfoldable pub candidates : Site → ℕ → List ℕ
+candidates s place =
+    let n = s .counters .installs in
+    let b = subAt s place in
+    preparedList (s .live) place sizes.live
+    ++ installedList (s .history) n (b .keys) (within n (b .snapshot)) (remembered n - within n (b .snapshot))
+
+-- the list itself: by transaction ascending
+unfoldable pub concurrent : Site → ℕ → List ℕ
+concurrent s place = joined (candidates s place) (entryCount (candidates s place))
+
+-- The vote of the part at `place` on a list of n entries.
+
+-- entry i was installed here within the snapshot, and is marked or dependent here
+unfoldable pub conflictsWith : Site → ℕ → List ℕ → ℕ → Bool
+conflictsWith s place es i =
+    let n = s .counters .installs in
+    let at = recallPlace (s .history) n (entryTx es i) in
+    every (ltb at (within n (subAt s place .snapshot))
+    ∷ some (eqb (entryMark es i) 1 ∷ dependent (subAt s place .keys) (recall (s .history) n at .keys) ∷ [])
+    ∷ [])
+
+-- entry i has a record here: live, or in the history
+unfoldable pub isRecorded : Site → ℕ → Bool
+isRecorded s tx =
+    some (isHeld (s .live) tx
+    ∷ ltb (recallPlace (s .history) (s .counters .installs) tx) (remembered (s .counters .installs))
+    ∷ [])
+
+-- entry i names this site, has no record here, and something has been forgotten here
+unfoldable pub uncertainOf : Site → List ℕ → ℕ → Bool
+uncertainOf s es i =
+    every (ltb 0 (forgotten (s .counters .installs))
+    ∷ inMask (entryMask es i) (s .counters .own)
+    ∷ not (isRecorded s (entryTx es i))
+    ∷ [])
+
+-- 0 is yes; where both fit, 18
+unfoldable pub voteOf : Site → ℕ → List ℕ → ℕ → ℕ
+voteOf s place es n =
+    pick (anyBelow (conflictsWith s place es) n) reason.conflict
+    (pick (anyBelow (uncertainOf s es) n) reason.uncertain 0)

@@ -1,0 +1,102 @@
+-- Demand 3, the claims: what holds after any list of calls, in the words of the book.
+use Prim.Native.Nat.{ℕ, _+_, _≤_, _<_}
+use mathlib.Core.Path.{_≡_}
+use mathlib.Core.Logic.{_⊎_}
+use mathlib.Core.Bool.{Bool, true, false}
+use mathlib.Core.List.{List, [], _∷_, _++_}
+use lib.Dec.{eqb}
+use Rattle.laws.specs.Choice.{pick}
+use Rattle.laws.specs.Pair.{precedes}
+use Rattle.kinds.specs.Sizes as sizes
+use Rattle.kinds.specs.State.{Value, fresh}
+use Rattle.kinds.specs.declared.House.{House}
+use Rattle.kinds.specs.declared.Answer.{Answer}
+use Rattle.kinds.specs.declared.Answer.the-variants.{Standing}
+use Rattle.rules.specs.House.{siteOf}
+use Rattle.rules.specs.Copy.{valueOf}
+use Rattle.rules.specs.World.{Call, World, Is, Lawful, freshWorld, run}
+use Rattle.rules.specs.Book.{Fact, began, used, wrote, committed, installed, replayed, bookFrom}
+
+-- f stands in the book before g
+abbrev pub Before : Fact → Fact → List Fact → Type 0
+Before f g b = (p : List Fact) × (q : List Fact) × (b ≡ p ++ q) × Is f p × Is g q
+
+-- the last value that tx wrote to a key: none is written behind it
+abbrev pub LastWrite : List Fact → ℕ → ℕ → Value → Type 0
+LastWrite b tx key v =
+    (p : List Fact) × (q : List Fact) × (b ≡ p ++ (wrote tx key v ∷ q)) × ((u : Value) → Is (wrote tx key u) q → ⊥)
+
+abbrev pub Wrote : List Fact → ℕ → ℕ → Type 0
+Wrote b tx key = (v : Value) × Is (wrote tx key v) b
+
+abbrev pub Used : List Fact → ℕ → ℕ → Type 0
+Used b tx key = Is (used tx key) b
+
+abbrev pub Committed : List Fact → ℕ → ℕ → ℕ → Type 0
+Committed b tx n c = Is (committed tx n c) b
+
+-- the pair of a copy's last replay, (0, 0) before the first
+abbrev pub lastReplay : ℕ → List Fact → ℕ → ℕ → Type 0
+lastReplay copy b n c =
+    (((p : List Fact) × (q : List Fact) × (b ≡ p ++ (replayed copy n c ∷ q)) × ((m d : ℕ) → Is (replayed copy m d) q → ⊥))
+    ⊎ (((m d : ℕ) → Is (replayed copy m d) b → ⊥) × (n ≡ 0) × (c ≡ 0)))
+
+-- (m, d) is not above (n, c)
+abbrev pub UpTo : ℕ → ℕ → ℕ → ℕ → Type 0
+UpTo n c m d = precedes n c m d ≡ false
+
+-- v is what the writes of the committed up to (n, c), by pair, leave at a key, over zeros
+abbrev pub LeftBy : List Fact → ℕ → ℕ → ℕ → Value → Type 0
+LeftBy b n c key v =
+    ((((tx m d : ℕ) → Committed b tx m d → UpTo n c m d → Wrote b tx key → ⊥) × (v ≡ fresh))
+    ⊎ ((tx : ℕ) × (m : ℕ) × (d : ℕ) × Committed b tx m d × UpTo n c m d × LastWrite b tx key v
+    × ((ux k e : ℕ) → Committed b ux k e → UpTo n c k e → Wrote b ux key → UpTo m d k e)))
+
+-- (A) each copy holds the values left by the writes of the first so many committed transactions, each whole
+pub record CopyHolds (b : List Fact) (w : World) (copy key : ℕ) : Type 0 where
+  pub value : Value
+  pub number : ℕ
+  pub coordinator : ℕ
+  pub answers : valueOf (w .copy copy) key ≡ Standing value number coordinator
+  pub last : lastReplay copy b number coordinator
+  pub up-to : ((number ≡ 0) × (coordinator ≡ 0)) ⊎ ((tx : ℕ) × Committed b tx number coordinator)
+  pub left : LeftBy b number coordinator key value
+
+-- commit order: a pair is one transaction's, and a transaction has one pair
+pub record Ordered (b : List Fact) : Type 0 where
+  pub one : (tx ux n c : ℕ) → Committed b tx n c → Committed b ux n c → tx ≡ ux
+  pub once : (tx n c m d : ℕ) → Committed b tx n c → Committed b tx m d → (n ≡ m) × (c ≡ d)
+
+-- (B) of two committed writers of one key, the later began its part at that key's site after the earlier was installed there
+abbrev pub WritersInOrder : House → List Fact → Type 0
+WritersInOrder o b =
+    (tx ux key n c m d : ℕ) → Committed b tx n c → Committed b ux m d → Wrote b tx key → Wrote b ux key → precedes n c m d ≡ true
+    → Before (installed (siteOf o key) n c) (began (siteOf o key) ux) b
+
+-- at a site where both have parts, tx saw ux if ux was installed there before tx's part began, else missed it
+abbrev pub Parts : List Fact → ℕ → ℕ → ℕ → Type 0
+Parts b s tx ux = Is (began s tx) b × Is (began s ux) b
+
+abbrev pub Saw : List Fact → ℕ → ℕ → ℕ → Type 0
+Saw b s tx ux = (n : ℕ) × (c : ℕ) × Committed b ux n c × Before (installed s n c) (began s tx) b
+
+-- (C) no committed transaction saw, at one site, another that wrote a key it used, or used a key it wrote, and missed it at a second
+abbrev pub Dependent : List Fact → ℕ → ℕ → Type 0
+Dependent b tx ux = (key : ℕ) × ((Used b tx key × Wrote b ux key) ⊎ (Wrote b tx key × Used b ux key))
+
+abbrev pub NoneHalfSeen : List Fact → Type 0
+NoneHalfSeen b =
+    (tx ux n c s r : ℕ) → (tx ≡ ux → ⊥) → Committed b tx n c → Dependent b tx ux
+    → Parts b s tx ux → Saw b s tx ux → Parts b r tx ux → (Saw b r tx ux → ⊥) → ⊥
+
+pub record Holds (o : House) (b : List Fact) (w : World) : Type 0 where
+  pub copies : (copy key : ℕ) → key < sizes.keys → CopyHolds b w copy key
+  pub ordered : Ordered b
+  pub writers : WritersInOrder o b
+  pub half-seen : NoneHalfSeen b
+
+-- the claim: any list of the thirteen calls, from a fresh house of 1 to 8 sites
+unfoldable pub Demand3 : Type 0
+Demand3 =
+    (sites : ℕ) (calls : List Call) → 1 ≤ sites → sites ≤ sizes.sites → Lawful (freshWorld sites) calls
+    → Holds (record { sites = sites }) (bookFrom (freshWorld sites) calls) (run (freshWorld sites) calls)

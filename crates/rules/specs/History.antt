@@ -1,0 +1,63 @@
+-- 01, course 3, 5, 7, 10: the history of the 32 last installed parts, what is forgotten, and the version that a snapshot sees.
+use Prim.Native.Nat.{ℕ, zero, suc, _+_, _-_, _*_, _%_, _≤_, _<_, min}
+use mathlib.Core.List.{List, [], _∷_}
+use mathlib.Core.Bool.{Bool, true, false}
+use lib.ListN.{getD, set}
+use lib.Dec.{ltb, leb, eqb}
+use Rattle.laws.specs.Choice.{pick}
+use Rattle.laws.specs.Scan.{firstBelow, anyBelow, foldBelow}
+use Rattle.kinds.specs.Sizes as sizes
+use Rattle.kinds.specs.declared.Keys.{Keys}
+use Rattle.kinds.specs.declared.Entry.{Entry}
+use Rattle.kinds.specs.declared.Snapshot.{Snapshot}
+use Rattle.kinds.specs.State.{Value, fresh, pastEntry}
+use Rattle.rules.specs.Keys.{wroteKey, wroteValue}
+
+-- how many installs are remembered, and how many forgotten
+unfoldable pub remembered : ℕ → ℕ
+remembered installs = min installs sizes.history
+
+unfoldable pub forgotten : ℕ → ℕ
+forgotten installs = installs - sizes.history
+
+-- install number n + 1 is kept in slot n mod 32
+abbrev pub slotOf : ℕ → ℕ
+slotOf n = n % sizes.history
+
+-- the i-th remembered install, oldest first
+abbrev pub recall : List Entry → ℕ → ℕ → Entry
+recall history installs i = getD history (slotOf (forgotten installs + i)) pastEntry
+
+-- an install after the snapshot has been forgotten
+unfoldable pub isForgotten : ℕ → Snapshot → Bool
+isForgotten installs p = ltb (p .installs) (forgotten installs)
+
+-- how many remembered installs are within the snapshot
+unfoldable pub within : ℕ → Snapshot → ℕ
+within installs p = min (p .installs) installs - forgotten installs
+
+-- Reading: from the newest version within the snapshot backwards.
+unfoldable pub backwards : List Entry → ℕ → ℕ → ℕ → Entry
+backwards history installs visible j = recall history installs (visible - 1 - j)
+
+-- how many of the visible ones are newer than the newest that wrote k
+unfoldable pub newer : List Entry → ℕ → ℕ → ℕ → ℕ
+newer history installs visible k = firstBelow (λ j. wroteKey (backwards history installs visible j .keys) k) visible
+
+unfoldable pub versionOf : List Entry → ℕ → List Value → Snapshot → ℕ → Value
+versionOf history installs base p k =
+    let n = newer history installs (within installs p) k in
+    pick (ltb n (within installs p)) (wroteValue (backwards history installs (within installs p) n .keys) k) (getD base k fresh)
+
+-- a remembered install after the snapshot wrote k
+unfoldable pub isNewer : List Entry → ℕ → Snapshot → ℕ → Bool
+isNewer history installs p k =
+    anyBelow (λ i. pick (leb (within installs p) i) (wroteKey (recall history installs i .keys) k) false) (remembered installs)
+
+-- where transaction tx is remembered, or `remembered` where it is not
+unfoldable pub recallPlace : List Entry → ℕ → ℕ → ℕ
+recallPlace history installs tx = firstBelow (λ i. eqb (recall history installs i .tx) tx) (remembered installs)
+
+-- the base values with the writes of a forgotten entry
+unfoldable pub forgetInto : List Value → Keys → List Value
+forgetInto base b = foldBelow (λ i l. set l (getD (b .writes) i 0) (getD (b .values) i fresh)) (b .wrote) base

@@ -1,0 +1,127 @@
+-- 01, course 10, and the state number: install and report, which write the site's log. And a fresh site.
+use Prim.Native.Nat.{ℕ, _+_, _-_, _*_, _≤_, _<_}
+use mathlib.Core.List.{List, [], _∷_}
+use mathlib.Core.Bool.{Bool, true, false, not}
+use lib.ListN.{length, getD, set, replicate}
+use lib.Dec.{ltb, leb, eqb}
+use Rattle.laws.specs.Choice.{pick, every}
+use Rattle.laws.specs.Cause.{Cause, cause, codeOf}
+use Rattle.kinds.specs.Sizes as sizes
+use Rattle.kinds.specs.Reason as reason
+use Rattle.kinds.specs.Kind as kind
+use Rattle.kinds.specs.declared.House.{House}
+use Rattle.kinds.specs.declared.Sub.{Sub}
+use Rattle.kinds.specs.declared.Entry.{Entry}
+use Rattle.kinds.specs.declared.RecordHead.{RecordHead}
+use Rattle.kinds.specs.declared.Site.{Site}
+use Rattle.kinds.specs.declared.Out.{Out}
+use Rattle.kinds.specs.declared.Answer.the-variants.{Refused, Done, Installed, Reported}
+use Rattle.kinds.specs.State.{Value, fresh, noSub, noEntry, subAt, entryAt, withInstalls}
+use Rattle.rules.specs.House.{houseOk, isSite, coordinatorOf}
+use Rattle.rules.specs.Record.{recordWords}
+use Rattle.rules.specs.Keys.{sortedCount, sortedWords}
+use Rattle.rules.specs.History.{slotOf, forgetInto}
+use Rattle.rules.specs.Queue.{leastQueued, isDue, stateNumber}
+use Rattle.rules.specs.Valid.{siteOk}
+use Rattle.rules.specs.Effect.{Effect, refused, unless}
+
+-- Install: the queue's least, if decided.
+unfoldable pub installCode : Site → ℕ → ℕ → ℕ → ℕ
+installCode s room given place =
+    codeOf (cause (ltb room sizes.part) reason.short
+    ∷ cause (not (eqb given sizes.keys)) reason.malformed
+    ∷ cause (not (siteOk s)) reason.malformed
+    ∷ cause (every (isDue (s .live) place ∷ leb sizes.last (s .counters .installs) ∷ [])) reason.spent
+    ∷ cause (not (isDue (s .live) place)) reason.nothing
+    ∷ [])
+
+-- what the history keeps of a part
+unfoldable pub entryOf : Sub → Entry
+entryOf b = record { tx = b .tx; mask = b .course .mask; number = b .course .number; keys = b .keys }
+
+-- the part record
+unfoldable pub partHead : ℕ → Sub → RecordHead
+partHead own b =
+    record {
+      kind = kind.part;
+      site = own;
+      number = b .course .number;
+      coordinator = coordinatorOf (b .tx);
+      tx = b .tx;
+      mask = b .course .mask;
+      count = sortedCount (b .keys);
+    }
+
+unfoldable pub partWords : ℕ → Sub → List ℕ
+partWords own b = recordWords (partHead own b) (sortedWords (b .keys) (sortedCount (b .keys)))
+
+-- the oldest entry beyond 32 stands where the new one goes, and is forgotten into the base values
+unfoldable pub baseAfter : Site → List Value → List Value
+baseAfter s base =
+    let n = s .counters .installs in
+    pick (leb sizes.history n) (forgetInto base (entryAt s (slotOf n) .keys)) base
+
+unfoldable pub installedAt : Site → List Value → ℕ → Effect
+installedAt s base place =
+    let b = subAt s place in
+    let n = s .counters .installs in
+    record {
+      answer = Installed (b .course .number) (coordinatorOf (b .tx));
+      words = partWords (s .counters .own) b;
+      site =
+          record {
+            house = s .house;
+            counters = withInstalls (s .counters) (n + 1);
+            channels = s .channels;
+            live = set (s .live) place noSub;
+            history = set (s .history) (slotOf n) (entryOf b);
+          };
+      lent = baseAfter s base;
+    }
+
+unfoldable pub installOf : Site → ℕ → List Value → Effect
+installOf s room base =
+    let place = leastQueued (s .live) sizes.live in
+    unless (installCode s room (length base) place) s base (installedAt s base place)
+
+-- Report: the state number as a state record.
+unfoldable pub reportCode : Site → ℕ → ℕ
+reportCode s room = codeOf (cause (ltb room sizes.part) reason.short ∷ cause (not (siteOk s)) reason.malformed ∷ [])
+
+unfoldable pub stateWords : ℕ → ℕ → List ℕ
+stateWords own n = recordWords (record { kind = kind.state; site = own; number = n; coordinator = 0; tx = 0; mask = 0; count = 0 }) []
+
+unfoldable pub reportOf : Site → ℕ → Effect
+reportOf s room =
+    let n = stateNumber (s .live) (s .counters .clock) sizes.live in
+    unless (reportCode s room) s [] (record { answer = Reported n; words = stateWords (s .counters .own) n; site = s; lent = [] })
+
+-- Start: a fresh site; a refused start hands back one that no call accepts.
+unfoldable pub freshSite : ℕ → ℕ → Site
+freshSite sites own =
+    record {
+      house = record { sites = sites };
+      counters = record { own = own; clock = 0; serial = 0; installs = 0 };
+      channels = record { sent = replicate sizes.sites 0; taken = replicate sizes.sites 0 };
+      live = replicate sizes.live noSub;
+      history = replicate sizes.history noEntry;
+    }
+
+unfoldable pub startCode : ℕ → ℕ → ℕ → ℕ → ℕ
+startCode sites own base lists =
+    codeOf (cause (not (houseOk (record { sites = sites }))) reason.malformed
+    ∷ cause (not (isSite (record { sites = sites }) own)) reason.malformed
+    ∷ cause (not (eqb base sizes.keys)) reason.malformed
+    ∷ cause (not (eqb lists sizes.lists)) reason.malformed
+    ∷ [])
+
+unfoldable pub startOf : ℕ → ℕ → ℕ → ℕ → Out
+startOf sites own base lists =
+    let code = startCode sites own base lists in
+    pick (eqb code 0)
+    (record { answer = Done; words = 0; site = freshSite sites own })
+    (record { answer = Refused code; words = 0; site = freshSite 0 0 })
+
+-- a lent table of n words after it
+unfoldable pub startTable : ℕ → List ℕ → List ℕ
+startTable code d = pick (eqb code 0) (replicate (length d) 0) d

@@ -1,0 +1,55 @@
+-- 01, "A transaction's course": the live table, a part's place in it, and who holds a key.
+use Prim.Native.Nat.{ℕ, _+_, _-_, _*_, _≤_, _<_}
+use mathlib.Core.List.{List, [], _∷_}
+use mathlib.Core.Bool.{Bool, true, false, not}
+use lib.ListN.{getD}
+use lib.Dec.{ltb, leb, eqb}
+use Rattle.laws.specs.Choice.{pick, every}
+use Rattle.laws.specs.Scan.{firstBelow, anyBelow}
+use Rattle.kinds.specs.Sizes as sizes
+use Rattle.kinds.specs.Stage as stage
+use Rattle.kinds.specs.declared.Sub.{Sub}
+use Rattle.kinds.specs.State.{pastSub}
+use Rattle.rules.specs.House.{coordinatorOf, participants, repliesWanted}
+use Rattle.rules.specs.Keys.{wroteKey}
+
+abbrev pub partAt : List Sub → ℕ → Sub
+partAt live i = getD live i pastSub
+
+abbrev pub stageAt : List Sub → ℕ → ℕ
+stageAt live i = partAt live i .course .stage
+
+-- the first free place, or 16
+unfoldable pub freePlace : List Sub → ℕ
+freePlace live = firstBelow (λ i. eqb (stageAt live i) stage.free) sizes.live
+
+-- place i holds a part of transaction tx
+unfoldable pub holdsTx : List Sub → ℕ → ℕ → Bool
+holdsTx live tx i = every (not (eqb (stageAt live i) stage.free) ∷ eqb (partAt live i .tx) tx ∷ [])
+
+-- the place of tx, or 16 where it is not held here
+unfoldable pub placeOf : List Sub → ℕ → ℕ
+placeOf live tx = firstBelow (holdsTx live tx) sizes.live
+
+unfoldable pub isHeld : List Sub → ℕ → Bool
+isHeld live tx = ltb (placeOf live tx) sizes.live
+
+-- key k is held by a part other than that at `place`: it wrote k, and is neither installed nor aborted
+unfoldable pub holdsKey : List Sub → ℕ → ℕ → ℕ → Bool
+holdsKey live place k i =
+    every (not (eqb i place) ∷ not (eqb (stageAt live i) stage.free) ∷ wroteKey (partAt live i .keys) k ∷ [])
+
+unfoldable pub keyHeld : List Sub → ℕ → ℕ → Bool
+keyHeld live place k = anyBelow (holdsKey live place k) sizes.live
+
+-- PREPARE taken, or the commit requested, and neither installed nor aborted
+unfoldable pub isPrepared : Sub → Bool
+isPrepared b = leb stage.prepared (b .course .stage)
+
+-- in the queue: voted yes
+unfoldable pub isQueued : Sub → Bool
+isQueued b = pick (eqb (b .course .stage) stage.queued) true (eqb (b .course .stage) stage.decided)
+
+-- every other participant has replied in this round, as their ones say
+unfoldable pub allHeard : ℕ → ℕ → Bool
+allHeard heard mask = eqb (participants heard) (repliesWanted mask)

@@ -1,0 +1,73 @@
+//! Refusals, reasons of abort and decisions (01, "When the store says no").
+
+#[derive(Clone, Copy, PartialEq, Eq, Debug, PartialOrd, Ord)]
+#[repr(u8)]
+pub enum Refusal {
+    BufferTooShort = 1,
+    Impossible = 2,
+    OtherSite = 3,
+    NotNext = 4,
+    NotHeld = 5,
+    Stage = 6,
+    JoinedOutstanding = 7,
+    Forgotten = 8,
+    KeyHeld = 9,
+    NewerVersion = 10,
+    TooManyKeys = 11,
+    LiveFull = 12,
+    CountSpent = 13,
+    NotAbove = 14,
+    QueueFull = 15,
+    PartsDisagree = 16,
+    Nothing = 17,
+}
+
+impl Refusal {
+    pub fn number(self) -> u64 {
+        self as u64
+    }
+}
+
+/// Arguments of a VOTE or JOINED, and reasons of abort.
+pub mod reason {
+    pub const NOT_HELD: u64 = 5;
+    pub const LIVE_FULL: u64 = 12;
+    pub const CLOCK_SPENT: u64 = 13;
+    pub const INCONSISTENT: u64 = 18;
+    pub const FORGOTTEN: u64 = 19;
+    pub const ABANDONED: u64 = 20;
+}
+
+#[derive(Clone, Copy, PartialEq, Eq, Debug)]
+pub enum Decision {
+    Commit(u64),
+    Abort(u64),
+}
+
+/// Outcome of a call that may send: words written, and the decision that fell in it.
+#[derive(Clone, Copy, PartialEq, Eq, Debug)]
+pub struct Sent {
+    pub words: usize,
+    pub decision: Option<Decision>,
+}
+
+/// Order of commits: number first, coordinator second.
+#[derive(Clone, Copy, PartialEq, Eq, PartialOrd, Ord, Hash, Debug, Default)]
+pub struct Pair {
+    pub number: u64,
+    pub coordinator: u64,
+}
+
+impl Pair {
+    pub fn new(number: u64, coordinator: u64) -> Self {
+        Pair { number, coordinator }
+    }
+}
+
+pub fn require(condition: bool, otherwise: Refusal) -> Result<(), Refusal> {
+    if condition {
+        Ok(())
+    } else {
+        Err(otherwise)
+    }
+}

@@ -1,0 +1,169 @@
+//! Which call comes next in a random list.
+
+use super::{Fuzz, Words};
+use crate::site::Stage;
+use crate::sizes::*;
+use crate::world::Call;
+
+//                         begin enl read wri com ab take inst rep merge emit repl val
+const SPANNING: [u64; 13] = [8, 10, 8, 14, 10, 1, 60, 16, 4, 14, 10, 8, 2];
+/// Few messages, many installs: history is forgotten.
+const LONE: [u64; 13] = [30, 3, 8, 14, 40, 0, 30, 40, 2, 16, 12, 6, 1];
+
+/// A call but for the words that are handed in.
+#[derive(Clone, Copy)]
+pub(super) enum Source {
+    Plain(Call<'static>),
+    Message { site: u64 },
+    Merge,
+    Replay { copy: u64 },
+}
+
+impl Source {
+    pub(super) fn call(self, words: &[u64]) -> Call<'_> {
+        match self {
+            Source::Plain(call) => call,
+            Source::Message { site } => Call::Message { site, words },
+            Source::Merge => Call::Merge { words },
+            Source::Replay { copy } => Call::Replay { copy, words },
+        }
+    }
+}
+
+impl Fuzz {
+    pub(super) fn choose(&mut self) -> (Words, Source) {
+        let plain = |call| (Vec::new(), Source::Plain(call));
+        let site = self.any_site();
+        let (at, transaction) = self.any_part();
+        match self.random.weighted(if self.lone { &LONE } else { &SPANNING }) {
+            0 => plain(Call::Begin { site }),
+            1 => plain(Call::Enlist { site: at, transaction, target: site }),
+            2 => plain(Call::Read { site: at, transaction, key: self.any_key(at) }),
+            3 => {
+                let value = self.random.word();
+                plain(Call::Write { site: at, transaction, key: self.any_key(at), value })
+            }
+            4 => plain(Call::Commit { site: at, transaction }),
+            5 => plain(Call::Abandon { site: at, transaction }),
+            6 => self.any_message(),
+            7 => plain(Call::Install { site: self.busy_site() }),
+            8 => plain(Call::Report { site }),
+            9 => (self.any_record(), Source::Merge),
+            10 => plain(Call::Emit),
+            11 => self.any_replay(),
+            _ => {
+                let (copy, key) = (self.random.between(0, 9), self.random.below(KEYS + 2));
+                plain(Call::Value { copy, key })
+            }
+        }
+    }
+
+    /// Now and then a site that is not there.
+    fn any_site(&mut self) -> u64 {
+        let sites = self.world.sites.len() as u64;
+        match self.random.below(60) {
+            0 => self.random.between(0, 9),
+            _ => self.random.between(1, sites),
+        }
+    }
+
+    /// A site with a decided part, if there is one.
+    fn busy_site(&mut self) -> u64 {
+        let decided = |stage: &Stage| matches!(stage, Stage::Decided { .. });
+        let sites = self.world.sites.iter();
+        let busy: Vec<u64> = sites
+            .filter(|site| site.live.iter().any(|part| decided(&part.stage)))
+            .map(|site| site.own)
+            .collect();
+        self.random.pick(&busy).unwrap_or(1)
+    }
+
+    /// A live part with its site; now and then at a wrong site, or none.
+    fn any_part(&mut self) -> (u64, u64) {
+        let site = self.any_site();
+        let sites = self.world.sites.iter();
+        let live: Vec<(u64, u64)> = sites
+            .flat_map(|site| site.live.iter().map(|part| (site.own, part.transaction)))
+            .collect();
+        let strange = transaction_number(site, self.random.below(4));
+        let (own, transaction) = self.random.pick(&live).unwrap_or((site, strange));
+        match self.random.below(30) {
+            0 => (site, strange),
+            1 => (site, transaction),
+            _ => (own, transaction),
+        }
+    }
+
+    fn any_key(&mut self, site: u64) -> u64 {
+        match self.random.below(30) {
+            0 => self.random.word(),
+            1 => self.random.below(KEYS + 1),
+            _ => site.saturating_sub(1) * SITE_KEYS + self.random.below(self.keys),
+        }
+    }
+
+    /// Words that some call wrote, of any kind.
+    fn any_words(&mut self) -> Words {
+        let log = self.random.below(self.logs.len() as u64) as usize;
+        let list = match self.random.below(3) {
+            0 => &self.posted,
+            1 => &self.logs[log].records,
+            _ => &self.stream,
+        };
+        self.random.pick(list).unwrap_or_default()
+    }
+
+    /// Mostly the next of a channel; else any, to its site or a wrong one.
+    fn any_message(&mut self) -> (Words, Source) {
+        let site = self.any_site();
+        if self.random.chance(self.order) {
+            let next: Vec<&Words> =
+                self.posted.iter().filter(|words| self.is_next(words)).collect();
+            if let Some(words) = self.random.pick(&next) {
+                return (words.clone(), Source::Message { site: words[3] });
+            }
+        }
+        match self.random.below(10) {
+            0 => (self.any_words(), Source::Message { site }),
+            1 => (self.random.pick(&self.posted).unwrap_or_default(), Source::Message { site }),
+            _ => {
+                let words = self.random.pick(&self.posted).unwrap_or_default();
+                let to = words.get(3).copied().unwrap_or(site);
+                (words, Source::Message { site: to })
+            }
+        }
+    }
+
+    fn is_next(&self, words: &[u64]) -> bool {
+        let (from, to) = (words[2], words[3]);
+        let taken = self.world.sites[to as usize - 1].taken[from as usize - 1];
+        (from, to) != self.mute && taken.checked_add(1) == Some(words[4])
+    }
+
+    /// A log's next record or one taken before; now and then no log's.
+    fn any_record(&mut self) -> Words {
+        if self.random.chance(4) {
+            // A record of a log may come only after all before it.
+            return self.random.pick(&self.posted).unwrap_or_default();
+        }
+        let log = self.random.below(self.logs.len() as u64) as usize;
+        let log = &self.logs[log];
+        let reach = (log.taken + 1).min(log.records.len());
+        if self.random.chance(85) {
+            return log.records.get(log.taken).cloned().unwrap_or_default();
+        }
+        self.random.pick(&log.records[..reach]).unwrap_or_default()
+    }
+
+    fn any_replay(&mut self) -> (Words, Source) {
+        let copy = self.random.between(1, COPIES as u64);
+        let taken = self.replayed[copy as usize - 1];
+        let reach = (taken + 1).min(self.stream.len());
+        let words = match self.random.below(20) {
+            0 => self.random.pick(&self.posted),
+            1 | 2 => self.random.pick(&self.stream[..reach]),
+            _ => self.stream.get(taken).cloned(),
+        };
+        (words.unwrap_or_default(), Source::Replay { copy })
+    }
+}

@@ -1,0 +1,18 @@
+//! The house store a second time: sites, a merger and copies at the level of
+//! words, written from the rules alone, to compare the proved store with.
+
+pub mod answer;
+pub mod book;
+pub mod copy;
+pub mod fuzz;
+pub mod house;
+pub mod merger;
+pub mod message;
+pub mod random;
+pub mod record;
+pub mod script;
+pub mod scripts;
+pub mod site;
+pub mod sizes;
+pub mod tally;
+pub mod world;

@@ -1,0 +1,67 @@
+//! Lines of a `house` script (01, "Fixed points", and the reading of lines).
+
+/// A line that has a command's form; whether it can be obeyed is asked later.
+#[derive(Clone, Copy, PartialEq, Eq, Debug)]
+pub enum Command {
+    Sites(u64),
+    Begin(u64),
+    Enlist { transaction: u64, target: u64 },
+    Read { site: u64, transaction: u64, key: u64 },
+    Write { site: u64, transaction: u64, key: u64, value: u64 },
+    Commit(u64),
+    Abandon(u64),
+    Take { from: u64, to: u64 },
+    Install(u64),
+    Report(u64),
+    Merge(u64),
+    Emit,
+    Replay(u64),
+    Value { copy: u64, key: u64 },
+}
+
+impl Command {
+    /// One space between words; decimal numbers below 2^64.
+    pub fn parse(line: &[u8]) -> Option<Command> {
+        let mut words = line.split(|&byte| byte == b' ');
+        let name = words.next()?;
+        let mut numbers = [0; 4];
+        let mut count = 0;
+        for word in words {
+            *numbers.get_mut(count)? = number(word)?;
+            count += 1;
+        }
+        Self::form(name, &numbers[..count])
+    }
+
+    fn form(name: &[u8], numbers: &[u64]) -> Option<Command> {
+        Some(match (name, numbers) {
+            (b"sites", &[sites]) => Command::Sites(sites),
+            (b"begin", &[site]) => Command::Begin(site),
+            (b"enlist", &[transaction, target]) => Command::Enlist { transaction, target },
+            (b"read", &[site, transaction, key]) => Command::Read { site, transaction, key },
+            (b"write", &[site, transaction, key, value]) => {
+                Command::Write { site, transaction, key, value }
+            }
+            (b"commit", &[transaction]) => Command::Commit(transaction),
+            (b"abandon", &[transaction]) => Command::Abandon(transaction),
+            (b"take", &[from, to]) => Command::Take { from, to },
+            (b"install", &[site]) => Command::Install(site),
+            (b"report", &[site]) => Command::Report(site),
+            (b"merge", &[site]) => Command::Merge(site),
+            (b"emit", &[]) => Command::Emit,
+            (b"replay", &[copy]) => Command::Replay(copy),
+            (b"value", &[copy, key]) => Command::Value { copy, key },
+            _ => return None,
+        })
+    }
+}
+
+fn number(word: &[u8]) -> Option<u64> {
+    if word.is_empty() {
+        return None;
+    }
+    word.iter().try_fold(0u64, |sum, &byte| {
+        let digit = byte.is_ascii_digit().then(|| u64::from(byte - b'0'))?;
+        sum.checked_mul(10)?.checked_add(digit)
+    })
+}

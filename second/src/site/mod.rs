@@ -1,0 +1,216 @@
+//! A site: its state and the calls of clients (01, "A transaction's course").
+//!
+//! Every call first finds the lowest refusal that applies, then alters.
+
+mod certify;
+mod install;
+mod part;
+mod post;
+
+use std::collections::VecDeque;
+
+pub use install::{InstallDone, Report};
+pub use part::{Footprint, Installed, KeySet, Part, Stage};
+
+use crate::answer::{reason, require, Decision, Refusal, Sent};
+use crate::message::{Kind, Letter, Outbox};
+use crate::sizes::*;
+
+#[derive(Clone, PartialEq, Eq, Debug)]
+pub struct Site {
+    /// Number of sites of the house.
+    pub sites: u64,
+    pub own: u64,
+    pub clock: u64,
+    /// The last serial given.
+    pub serial: u64,
+    /// Installs so far.
+    pub installs: u64,
+    /// Messages sent to, and taken from, each site.
+    pub sent: [u64; SITES],
+    pub taken: [u64; SITES],
+    pub live: Vec<Part>,
+    /// The last installed, oldest first.
+    pub history: VecDeque<Installed>,
+    /// Values of this site's keys, as the forgotten installs left them.
+    pub base: Vec<u64>,
+}
+
+impl Site {
+    pub fn start(sites: u64, own: u64) -> Result<Self, Refusal> {
+        require(is_site(sites, SITES as u64) && is_site(own, sites), Refusal::Impossible)?;
+        Ok(Site {
+            sites,
+            own,
+            clock: 0,
+            serial: 0,
+            installs: 0,
+            sent: [0; SITES],
+            taken: [0; SITES],
+            live: Vec::with_capacity(LIVE),
+            history: VecDeque::with_capacity(HISTORY + 1),
+            base: vec![0; SITE_KEYS as usize],
+        })
+    }
+
+    /// Answers the new transaction's number.
+    pub fn begin(&mut self) -> Result<u64, Refusal> {
+        require(self.live.len() < LIVE, Refusal::LiveFull)?;
+        require(self.serial < LAST_SERIAL, Refusal::CountSpent)?;
+        self.serial += 1;
+        let transaction = transaction_number(self.own, self.serial);
+        self.live.push(Part::begin(transaction, self.installs, self.own_bit()));
+        Ok(transaction)
+    }
+
+    pub fn enlist(
+        &mut self,
+        transaction: u64,
+        site: u64,
+        out: &mut [u64],
+    ) -> Result<Sent, Refusal> {
+        let mut out = Outbox::new(out)?;
+        require(is_site(site, self.sites), Refusal::Impossible)?;
+        let place = self.find(transaction).ok_or(Refusal::NotHeld)?;
+        let part = &self.live[place];
+        let Stage::Active { joining, full } = part.stage else { return Err(Refusal::Stage) };
+        let bit = site_bit(site);
+        let allowed = self.coordinates(transaction) && part.participants & bit == 0;
+        require(allowed, Refusal::Stage)?;
+        self.can_send(bit)?;
+        let part = &mut self.live[place];
+        part.participants |= bit;
+        part.stage = Stage::Active { joining: joining | bit, full };
+        self.send(bit, Letter::bare(Kind::Join, transaction), &[], &mut out);
+        Ok(Sent { words: out.used(), decision: None })
+    }
+
+    pub fn read(&mut self, transaction: u64, key: u64) -> Result<u64, Refusal> {
+        let place = self.find_active(transaction, key)?;
+        let part = &self.live[place];
+        if let Some(value) = part.footprint.value(key) {
+            return Ok(value);
+        }
+        require(!self.has_forgotten_since(part.snapshot), Refusal::Forgotten)?;
+        let reads = &part.footprint.reads;
+        require(reads.contains(key) || reads.len() < SET_KEYS, Refusal::TooManyKeys)?;
+        let value = self.version(key, part.snapshot);
+        self.live[place].footprint.reads.insert(key);
+        Ok(value)
+    }
+
+    pub fn write(&mut self, transaction: u64, key: u64, value: u64) -> Result<(), Refusal> {
+        let place = self.find_active(transaction, key)?;
+        let part = &self.live[place];
+        if !part.footprint.writes.contains(key) {
+            require(!self.has_forgotten_since(part.snapshot), Refusal::Forgotten)?;
+            let held = self.live.iter().any(|other| other.footprint.writes.contains(key));
+            require(!held, Refusal::KeyHeld)?;
+            let mut later = self.installed_since(part.snapshot);
+            let newer = later.any(|installed| installed.footprint.writes.contains(key));
+            require(!newer, Refusal::NewerVersion)?;
+            require(part.footprint.writes.len() < SET_KEYS, Refusal::TooManyKeys)?;
+        }
+        self.live[place].footprint.put(key, value);
+        Ok(())
+    }
+
+    /// 01, course 4.
+    pub fn commit(&mut self, transaction: u64, out: &mut [u64]) -> Result<Sent, Refusal> {
+        let mut out = Outbox::new(out)?;
+        let place = self.find(transaction).ok_or(Refusal::NotHeld)?;
+        require(self.coordinates(transaction), Refusal::Stage)?;
+        let Stage::Active { joining, full } = self.live[place].stage else {
+            return Err(Refusal::Stage);
+        };
+        require(joining == 0, Refusal::JoinedOutstanding)?;
+        let others = self.others(place);
+        self.can_send(others)?;
+        let decision = if full {
+            Some(self.abort(place, reason::LIVE_FULL, &mut out))
+        } else {
+            self.request(place, others, &mut out)
+        };
+        Ok(Sent { words: out.used(), decision })
+    }
+
+    pub fn abandon(&mut self, transaction: u64, out: &mut [u64]) -> Result<Sent, Refusal> {
+        let mut out = Outbox::new(out)?;
+        let place = self.find(transaction).ok_or(Refusal::NotHeld)?;
+        let decided = matches!(self.live[place].stage, Stage::Decided { .. });
+        require(self.coordinates(transaction) && !decided, Refusal::Stage)?;
+        self.can_send(self.others(place))?;
+        let decision = self.abort(place, reason::ABANDONED, &mut out);
+        Ok(Sent { words: out.used(), decision: Some(decision) })
+    }
+
+    /// The own list is made before PREPARE goes out; a lone participant goes
+    /// the same way without messages.
+    fn request(&mut self, place: usize, others: u64, out: &mut Outbox) -> Option<Decision> {
+        let part = &self.live[place];
+        if self.has_forgotten_since(part.snapshot) {
+            return Some(self.abort(place, reason::FORGOTTEN, out));
+        }
+        let list = self.concurrent(part);
+        if others == 0 {
+            return self.close(place, &list, out);
+        }
+        let letter = Letter {
+            kind: Kind::Prepare,
+            transaction: part.transaction,
+            clock: self.clock,
+            argument: part.participants,
+        };
+        self.live[place].stage = Stage::Gathering { awaited: others, list };
+        self.send(others, letter, &[], out);
+        None
+    }
+
+    /// Refusals 2, 3, 5 and 6 of read and write.
+    fn find_active(&self, transaction: u64, key: u64) -> Result<usize, Refusal> {
+        require(is_site(key_site(key), self.sites), Refusal::Impossible)?;
+        require(key_site(key) == self.own, Refusal::OtherSite)?;
+        let place = self.find(transaction).ok_or(Refusal::NotHeld)?;
+        require(self.live[place].is_active(), Refusal::Stage)?;
+        Ok(place)
+    }
+
+    /// The newest version of a key within a snapshot.
+    fn version(&self, key: u64, snapshot: u64) -> u64 {
+        self.history
+            .iter()
+            .rev()
+            .skip_while(|installed| installed.install > snapshot)
+            .find_map(|installed| installed.footprint.value(key))
+            .unwrap_or(self.base[(key % SITE_KEYS) as usize])
+    }
+
+    fn installed_since(&self, snapshot: u64) -> impl Iterator<Item = &Installed> {
+        self.history.iter().rev().take_while(move |installed| installed.install > snapshot)
+    }
+
+    /// How many installs have left the history.
+    pub fn forgotten(&self) -> u64 {
+        self.installs.saturating_sub(HISTORY as u64)
+    }
+
+    fn has_forgotten_since(&self, snapshot: u64) -> bool {
+        self.forgotten() > snapshot
+    }
+
+    pub fn find(&self, transaction: u64) -> Option<usize> {
+        self.live.iter().position(|part| part.transaction == transaction)
+    }
+
+    fn coordinates(&self, transaction: u64) -> bool {
+        coordinator_of(transaction) == self.own
+    }
+
+    fn own_bit(&self) -> u64 {
+        site_bit(self.own)
+    }
+
+    fn others(&self, place: usize) -> u64 {
+        self.live[place].participants & !self.own_bit()
+    }
+}

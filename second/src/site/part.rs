@@ -1,0 +1,140 @@
+//! A subtransaction: the part of a transaction that lives at one site.
+
+use crate::message::Entry;
+use crate::record::Write;
+use crate::sizes::*;
+
+/// Keys of one site, a bit for each.
+#[derive(Clone, Copy, PartialEq, Eq, Debug, Default)]
+pub struct KeySet([u64; SITE_KEYS as usize / 64]);
+
+impl KeySet {
+    fn place(key: u64) -> (usize, u64) {
+        let offset = key % SITE_KEYS;
+        (offset as usize / 64, 1 << (offset % 64))
+    }
+
+    pub fn contains(&self, key: u64) -> bool {
+        let (word, bit) = Self::place(key);
+        self.0[word] & bit != 0
+    }
+
+    pub fn insert(&mut self, key: u64) {
+        let (word, bit) = Self::place(key);
+        self.0[word] |= bit;
+    }
+
+    pub fn len(&self) -> usize {
+        self.0.iter().map(|word| word.count_ones() as usize).sum()
+    }
+
+    pub fn is_empty(&self) -> bool {
+        self.0.iter().all(|&word| word == 0)
+    }
+
+    pub fn meets(&self, other: &KeySet) -> bool {
+        self.0.iter().zip(&other.0).any(|(one, two)| one & two != 0)
+    }
+}
+
+/// What a part read and wrote at its site.
+#[derive(Clone, PartialEq, Eq, Debug, Default)]
+pub struct Footprint {
+    pub reads: KeySet,
+    pub writes: KeySet,
+    /// By key ascending, the same keys as `writes`.
+    pub values: Vec<Write>,
+}
+
+impl Footprint {
+    pub fn put(&mut self, key: u64, value: u64) {
+        self.writes.insert(key);
+        match self.values.binary_search_by_key(&key, |write| write.0) {
+            Ok(place) => self.values[place].1 = value,
+            Err(place) => self.values.insert(place, (key, value)),
+        }
+    }
+
+    pub fn value(&self, key: u64) -> Option<u64> {
+        if !self.writes.contains(key) {
+            return None;
+        }
+        let place = self.values.binary_search_by_key(&key, |write| write.0).ok()?;
+        Some(self.values[place].1)
+    }
+
+    /// 01, course 5: one wrote a key the other read or wrote.
+    pub fn depends(&self, other: &Footprint) -> bool {
+        self.writes.meets(&other.writes)
+            || self.writes.meets(&other.reads)
+            || self.reads.meets(&other.writes)
+    }
+}
+
+/// How far a part has come. The fields beside are masks of sites and, at a
+/// participant, empty.
+#[derive(Clone, PartialEq, Eq, Debug)]
+pub enum Stage {
+    /// Takes reads and writes. `joining`: JOINED outstanding; `full`: one said 12.
+    Active { joining: u64, full: bool },
+    /// Coordinator after the commit request. `awaited`: CONC outstanding.
+    Gathering { awaited: u64, list: Vec<Entry> },
+    /// Participant that replied CONC.
+    Listed,
+    /// Participant that voted no; it keeps its keys until ABORT.
+    VotedNo,
+    /// Voted yes, in the queue. `awaited`: VOTE outstanding.
+    Open { mark: u64, awaited: u64 },
+    /// Committed, in the queue.
+    Decided { number: u64 },
+}
+
+#[derive(Clone, PartialEq, Eq, Debug)]
+pub struct Part {
+    pub transaction: u64,
+    /// Installs at this site when the part began.
+    pub snapshot: u64,
+    pub participants: u64,
+    pub stage: Stage,
+    pub footprint: Footprint,
+}
+
+impl Part {
+    pub fn begin(transaction: u64, snapshot: u64, participants: u64) -> Self {
+        Part {
+            transaction,
+            snapshot,
+            participants,
+            stage: Stage::Active { joining: 0, full: false },
+            footprint: Footprint::default(),
+        }
+    }
+
+    pub fn is_active(&self) -> bool {
+        matches!(self.stage, Stage::Active { .. })
+    }
+
+    /// 01, course 5: PREPARE taken, or commit requested; a no included.
+    pub fn is_prepared(&self) -> bool {
+        !self.is_active()
+    }
+
+    /// Place in the queue, for a part that entered it.
+    pub fn queue_order(&self) -> Option<(u64, u64, u64)> {
+        let first = match self.stage {
+            Stage::Open { mark, .. } => mark,
+            Stage::Decided { number } => number,
+            _ => return None,
+        };
+        Some((first, coordinator_of(self.transaction), self.transaction))
+    }
+}
+
+/// An entry of the history: the `install`-th install of its site.
+#[derive(Clone, PartialEq, Eq, Debug)]
+pub struct Installed {
+    pub install: u64,
+    pub transaction: u64,
+    pub participants: u64,
+    pub footprint: Footprint,
+}

@@ -1,0 +1,64 @@
+//! The generator, the book and random lists of calls.
+
+use second::book::Book;
+use second::copy::Copy;
+use second::fuzz;
+use second::house::House;
+use second::scripts::generate;
+use second::sizes::COPIES;
+use second::tally::Tally;
+use second::world::{Answer, Call};
+
+#[test]
+fn a_seed_makes_one_script_and_its_output_can_be_had_again() {
+    for seed in 1..20 {
+        let script = generate(seed, Some(150));
+        assert_eq!(script.text, generate(seed, Some(150)).text);
+        let mut house = House::new(());
+        let mut output = String::new();
+        for line in script.text.strip_suffix('\n').unwrap_or(&script.text).split('\n') {
+            let _ = house.line(line.as_bytes(), &mut output);
+        }
+        assert_eq!(output, script.output, "seed {seed}");
+    }
+}
+
+#[test]
+fn scripts_reach_all_that_they_can() {
+    let mut tally = Tally::default();
+    for seed in 1..=150 {
+        tally.add(&generate(seed, None).tally);
+    }
+    for number in [2, 3, 5, 6, 7, 8, 9, 10, 11, 12, 15, 17] {
+        assert!(tally.get("any line", &format!("refused {number:2}")) > 0, "refusal {number}");
+    }
+    for number in [1, 4, 13, 14, 16] {
+        assert_eq!(tally.get("any line", &format!("refused {number:2}")), 0, "refusal {number}");
+    }
+    for reason in [12, 18, 19, 20] {
+        assert!(tally.get("any line", &format!("ok, abort {reason}")) > 0, "reason {reason}");
+    }
+    assert_eq!(tally.get("line take", "refused  6"), 0);
+    assert!(tally.get("any line", "ok, commits") > 0);
+}
+
+#[test]
+fn random_lists_keep_the_book() {
+    for seed in 1..=40 {
+        fuzz::run(seed, 600, false);
+    }
+}
+
+/// The book notices a copy that lacks a write of the prefix.
+#[test]
+fn the_book_finds_a_wrong_copy() {
+    let transaction = (1 << 32) + 1;
+    let mut copies = vec![Copy::start(); COPIES];
+    let mut book = Book::default();
+    let begun = Call::Begin { site: 1 };
+    let written = Call::Write { site: 1, transaction, key: 5, value: 6 };
+    assert!(book.enter(&begun, &Ok(Answer::Begun(transaction)), &[], &copies).is_ok());
+    assert!(book.enter(&written, &Ok(Answer::Done), &[], &copies).is_ok());
+    copies[2].values[5] = 6;
+    assert!(book.enter(&Call::Emit, &Ok(Answer::Done), &[], &copies).is_err());
+}

@@ -1,0 +1,271 @@
+//! Each refusal from 1 to 17: its number, and that nothing is altered.
+
+mod common;
+
+use common::*;
+use second::copy::Copy;
+use second::merger::Merger;
+use second::site::{Site, Stage};
+use second::sizes::*;
+
+const T: u64 = (1 << 32) + 1;
+const FULL: usize = SEND_BUFFER;
+
+/// Site 1 of a house of two, with one active transaction.
+fn begun() -> Site {
+    let mut one = site(2, 1);
+    one.begin().unwrap();
+    one
+}
+
+/// The same, with site 2 enlisted and its JOINED outstanding.
+fn enlisted() -> Site {
+    let mut one = begun();
+    one.enlist(T, 2, &mut buffer()).unwrap();
+    one
+}
+
+#[test]
+fn a_short_buffer_goes_before_everything() {
+    let one = begun();
+    refused(&one, FULL - 1, 1, |site, out| site.enlist(T, 9, out));
+    refused(&one, 0, 1, |site, out| site.commit(0, out));
+    refused(&one, FULL - 1, 1, |site, out| site.abandon(T, out));
+    refused(&one, FULL - 1, 1, |site, out| site.message(&[], out));
+    refused(&one, 40, 1, |site, out| site.install(out));
+    refused(&one, 40, 1, |site, out| site.report(out));
+    let mut merger = Merger::start(1).unwrap();
+    assert_eq!(merger.emit(&mut [0; 264]).unwrap_err().number(), 1);
+    assert_eq!(merger.emit(&mut [0; 265]).unwrap_err().number(), 17);
+}
+
+#[test]
+fn impossible_sites_and_keys() {
+    let one = begun();
+    refused(&one, FULL, 2, |site, out| site.enlist(0, 3, out));
+    refused(&one, FULL, 2, |site, out| site.enlist(T, 0, out));
+    for key in [512, 2_047, 2_048, u64::MAX] {
+        refused(&one, 0, 2, |site, _| site.read(0, key));
+        refused(&one, 0, 2, |site, _| site.write(0, key, 1));
+    }
+    assert!(Site::start(0, 1).is_err() && Site::start(9, 1).is_err());
+    assert!(Site::start(3, 0).is_err() && Site::start(3, 4).is_err());
+    assert!(Merger::start(0).is_err() && Merger::start(9).is_err());
+    assert_eq!(Copy::start().value(2_048).unwrap_err().number(), 2);
+}
+
+#[test]
+fn a_key_or_message_for_another_site() {
+    let one = begun();
+    refused(&one, 0, 3, |site, _| site.read(0, 256));
+    refused(&one, 0, 3, |site, _| site.write(0, 511, 1));
+    let mut far = message(1, 1, 2, T);
+    far[4] = 99;
+    refused(&one, FULL, 3, |site, out| site.message(&far, out));
+}
+
+#[test]
+fn a_message_that_is_not_the_next() {
+    let mut one = enlisted();
+    let mut joined = message(2, 2, 1, T);
+    for channel in [0, 2, u64::MAX] {
+        joined[4] = channel;
+        refused(&one, FULL, 4, |site, out| site.message(&joined, out));
+    }
+    one.taken[1] = u64::MAX;
+    joined[4] = 0;
+    refused(&one, FULL, 4, |site, out| site.message(&joined, out));
+}
+
+#[test]
+fn a_transaction_that_is_not_held() {
+    let one = begun();
+    for number in [0, T + 1, u64::MAX, (2 << 32) + 1] {
+        refused(&one, FULL, 5, |site, out| site.enlist(number, 1, out));
+        refused(&one, 0, 5, |site, _| site.read(number, 1));
+        refused(&one, 0, 5, |site, _| site.write(number, 1, 1));
+        refused(&one, FULL, 5, |site, out| site.commit(number, out));
+        refused(&one, FULL, 5, |site, out| site.abandon(number, out));
+    }
+}
+
+#[test]
+fn a_stage_or_post_that_does_not_allow_the_call() {
+    let mut one = enlisted();
+    refused(&one, FULL, 6, |site, out| site.enlist(T, 1, out));
+    refused(&one, FULL, 6, |site, out| site.enlist(T, 2, out));
+    take(&mut one, &message(2, 2, 1, T));
+    one.commit(T, &mut buffer()).unwrap();
+    refused(&one, FULL, 6, |site, out| site.commit(T, out));
+    refused(&one, 0, 6, |site, _| site.read(T, 1));
+    refused(&one, 0, 6, |site, _| site.write(T, 1, 1));
+    refused(&one, FULL, 6, |site, out| site.enlist(T, 2, out));
+    let mut two = site(3, 2);
+    take(&mut two, &message(1, 1, 2, T));
+    refused(&two, FULL, 6, |site, out| site.enlist(T, 3, out));
+    refused(&two, FULL, 6, |site, out| site.commit(T, out));
+    refused(&two, FULL, 6, |site, out| site.abandon(T, out));
+    two.live[0].stage = Stage::Decided { number: 3 };
+    let mut abort = message(8, 1, 2, T);
+    abort[4] = 2;
+    refused(&two, FULL, 6, |site, out| site.message(&abort, out));
+}
+
+#[test]
+fn a_message_out_of_turn() {
+    let one = enlisted();
+    let mut yes = message(6, 2, 1, T);
+    refused(&one, FULL, 6, |site, out| site.message(&message(4, 2, 1, T), out));
+    refused(&one, FULL, 6, |site, out| site.message(&yes, out));
+    let mut two = site(2, 2);
+    take(&mut two, &message(1, 1, 2, T));
+    for kind in [1, 5, 7] {
+        let mut early = message(kind, 1, 2, T);
+        early[4] = 2;
+        refused(&two, FULL, 6, |site, out| site.message(&early, out));
+    }
+    // A yes in the place of a CONC is out of turn, a no is not.
+    let mut gathering = one.clone();
+    take(&mut gathering, &message(2, 2, 1, T));
+    gathering.commit(T, &mut buffer()).unwrap();
+    yes[4] = 2;
+    refused(&gathering, FULL, 6, |site, out| site.message(&yes, out));
+    let mut again = message(2, 2, 1, T);
+    again[4] = 2;
+    refused(&gathering, FULL, 6, |site, out| site.message(&again, out));
+}
+
+#[test]
+fn a_commit_request_with_a_joined_outstanding() {
+    let mut one = site(3, 1);
+    one.begin().unwrap();
+    one.enlist(T, 2, &mut buffer()).unwrap();
+    one.enlist(T, 3, &mut buffer()).unwrap();
+    let mut full = message(2, 2, 1, T);
+    full[7] = 12;
+    take(&mut one, &full);
+    refused(&one, FULL, 7, |site, out| site.commit(T, out));
+}
+
+#[test]
+fn a_read_or_write_past_a_forgotten_install() {
+    let mut one = site(1, 1);
+    one.begin().unwrap();
+    one.write(T, 3, 30).unwrap();
+    one.read(T, 4).unwrap();
+    for install in 0..33 {
+        assert_eq!(one.read(T, 4), Ok(0), "after {install} installs");
+        let other = one.begin().unwrap();
+        one.commit(other, &mut buffer()).unwrap();
+        one.install(&mut buffer()).unwrap();
+    }
+    refused(&one, 0, 8, |site, _| site.read(T, 4));
+    refused(&one, 0, 8, |site, _| site.write(T, 4, 1));
+    assert_eq!(one.read(T, 3), Ok(30));
+    assert_eq!(one.write(T, 3, 31), Ok(()));
+}
+
+#[test]
+fn a_write_to_a_key_held_by_another() {
+    let mut one = begun();
+    let other = one.begin().unwrap();
+    one.write(T, 7, 70).unwrap();
+    refused(&one, 0, 9, |site, _| site.write(other, 7, 1));
+    one.commit(T, &mut buffer()).unwrap();
+    refused(&one, 0, 9, |site, _| site.write(other, 7, 1));
+    one.install(&mut buffer()).unwrap();
+    refused(&one, 0, 10, |site, _| site.write(other, 7, 1));
+    assert_eq!(one.read(other, 7), Ok(0));
+}
+
+#[test]
+fn a_seventeenth_live_part_or_a_spent_serial() {
+    let mut one = site(1, 1);
+    one.serial = LAST_SERIAL - 16;
+    for _ in 0..16 {
+        one.begin().unwrap();
+    }
+    refused(&one, 0, 12, |site, _| site.begin());
+    one.live.pop();
+    refused(&one, 0, 13, |site, _| site.begin());
+}
+
+#[test]
+fn a_count_that_would_pass_its_end() {
+    let mut one = begun();
+    one.sent[1] = u64::MAX;
+    refused(&one, FULL, 13, |site, out| site.enlist(T, 2, out));
+    assert!(one.clone().commit(T, &mut buffer()).is_ok(), "a lone save sends nothing");
+    one.live[0].participants = 3;
+    refused(&one, FULL, 13, |site, out| site.commit(T, out));
+    refused(&one, FULL, 13, |site, out| site.abandon(T, out));
+    let mut two = site(2, 2);
+    two.sent[0] = u64::MAX;
+    refused(&two, FULL, 13, |site, out| site.message(&message(1, 1, 2, T), out));
+    let mut prepare = message(3, 1, 2, T);
+    (prepare[6], prepare[7]) = (40, 3);
+    refused(&two, FULL, 13, |site, out| site.message(&prepare, out));
+    assert!(two.message(&message(8, 1, 2, T), &mut buffer()).is_ok());
+    let mut three = site(1, 1);
+    three.installs = u64::MAX;
+    refused(&three, 41, 17, |site, out| site.install(out));
+    three.live.push(queued(T, Stage::Decided { number: 1 }));
+    refused(&three, 41, 13, |site, out| site.install(out));
+}
+
+#[test]
+fn records_that_do_not_ascend() {
+    let mut merger = Merger::start(2).unwrap();
+    merger.merge(&[9, 2, 1, 4, 0, 0, 0, 0, 0]).unwrap();
+    merger.merge(&[9, 1, 1, 5, 1, T, 1, 0, 0]).unwrap();
+    let before = merger.clone();
+    for record in
+        [[9, 1, 1, 5, 1, T, 1, 0, 0], [9, 1, 1, 4, 1, T, 1, 0, 0], [9, 2, 1, 3, 0, 0, 0, 0, 0]]
+    {
+        assert_eq!(merger.merge(&record).unwrap_err().number(), 14, "{record:?}");
+    }
+    assert_eq!(merger.merge(&[9, 2, 1, 4, 0, 0, 0, 0, 0]), Ok(()));
+    assert_eq!(merger, before);
+    let mut copy = Copy::start();
+    let merged = [11, 3, 0, 5, 1, T, 1, 1, 9, 6, 66];
+    copy.replay(&merged).unwrap();
+    let before = copy.clone();
+    assert_eq!(copy.replay(&merged).unwrap_err().number(), 14);
+    assert_eq!(copy, before);
+}
+
+#[test]
+fn a_seventeenth_queued_part() {
+    let mut merger = Merger::start(2).unwrap();
+    for number in 1..=16 {
+        merger.merge(&[9, 1, 1, number, 1, T + number, 1, 0, 0]).unwrap();
+    }
+    let before = merger.clone();
+    assert_eq!(merger.merge(&[9, 1, 1, 17, 1, T, 1, 0, 0]).unwrap_err().number(), 15);
+    assert_eq!(merger.merge(&[9, 1, 1, 16, 1, T, 1, 0, 0]).unwrap_err().number(), 14);
+    assert_eq!(merger, before);
+    assert_eq!(merger.merge(&[9, 2, 1, 16, 0, 0, 0, 0, 0]), Ok(()));
+}
+
+#[test]
+fn a_due_record_whose_parts_lack_or_disagree() {
+    let mut lacking = Merger::start(2).unwrap();
+    lacking.merge(&[9, 1, 1, 5, 1, T, 3, 0, 0]).unwrap();
+    assert_eq!(lacking.emit(&mut buffer()).unwrap_err().number(), 17);
+    lacking.merge(&[9, 2, 2, 5, 0, 0, 0, 0, 0]).unwrap();
+    let before = lacking.clone();
+    assert_eq!(lacking.emit(&mut buffer()).unwrap_err().number(), 16);
+    assert_eq!(lacking, before);
+    for other in [[9, 1, 2, 5, 1, T + 1, 3, 0, 0], [9, 1, 2, 5, 1, T, 2, 0, 0]] {
+        let mut merger = Merger::start(2).unwrap();
+        merger.merge(&[9, 1, 1, 5, 1, T, 3, 0, 0]).unwrap();
+        merger.merge(&other).unwrap();
+        assert_eq!(merger.emit(&mut buffer()).unwrap_err().number(), 16);
+    }
+}
+
+#[test]
+fn nothing_to_install_or_emit() {
+    refused(&begun(), 41, 17, |site, out| site.install(out));
+    assert_eq!(Merger::start(3).unwrap().emit(&mut buffer()).unwrap_err().number(), 17);
+}
