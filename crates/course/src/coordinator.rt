@@ -1,18 +1,18 @@
 // The coordinator's steps.
 use crate::send::{send_all, send_to};
-use crate::turn::{no_sub, quietly, with_course, with_decision, with_mark, with_participant, with_reply};
+use crate::turn::{no_sub, quietly, with_course, with_decision, with_heard, with_mark, with_participant};
 use kinds::kind::{ABORT, CERT, COMMIT, JOIN, PREPARE};
 use kinds::reason::SPENT;
 use kinds::sizes::LAST;
 use kinds::{Answer, Taken, Turn};
 ghost use mathlib.Core.Path.{_≡_};
+ghost use mathlib.Core.Bool.{true};
 ghost use Prim.Native.Nat.{_+_, _≤_, _<_};
 ghost use lib.ListN.{length};
 ghost use Rattle.laws.specs.Overlay.{overlay};
 ghost use Rattle.kinds.specs.Sizes as sizes;
 ghost use Rattle.rules.specs.Effect.{takenOf};
-ghost use Rattle.rules.specs.Live.{allHeard};
-ghost use Rattle.rules.specs.Course.{enlistStep, abortStep, commitStep, decideStep, castStep, prepareStep, voteStep, Entries, CanSendTo, CanSendAll};
+ghost use Rattle.rules.specs.Course.{enlistStep, abortStep, commitStep, decideStep, castStep, prepareStep, voteDecides, voteStep, Entries, CanSendTo, CanSendAll};
 
 // A participant more, and JOIN to it.
 pub fn enlist_step(t: Turn, site: u64, out: &mut [u64]) -> Taken
@@ -80,18 +80,10 @@ fn cast_yes(t: Turn, es: &[u64], out: &mut [u64]) -> Taken
     let clock = t.counters.clock;
     let c = with_mark(t.sub.course, clock);
     let u = with_course(t, c);
-    if all_heard(0, mask) {
+    if live::all_heard(0, mask) {
         return decide_step(u, out);
     }
     send_all(u, Answer::Done, CERT, 0, 0, es, out)
-}
-
-fn all_heard(heard: u64, mask: u64) -> bool
-    ensures { λ r. ⌜ r ≡ allHeard heard mask ⌝ }
-{
-    let n = numbers::participants(heard);
-    let wanted = numbers::replies_wanted(mask);
-    n == wanted
 }
 
 // All lists are here: the coordinator's vote on their join.
@@ -119,18 +111,19 @@ pub fn prepare_step(t: Turn, out: &mut [u64]) -> Taken
 
 // A VOTE taken: the first no aborts, the last yes decides.
 pub fn vote_step(t: Turn, site: u64, vote: u64, out: &mut [u64]) -> Taken
-    requires { ⌜ CanSendAll t (length (now out)) × ((1 ≤ site) × (site ≤ sizes.sites)) ⌝ }
+    requires { ⌜ ((voteDecides (t .sub .course) site vote ≡ true) → CanSendAll t (length (now out))) ⌝ }
+    requires { ⌜ (1 ≤ site) × (site ≤ sizes.sites) ⌝ }
     ensures { λ r. ⌜ r ≡ takenOf (voteStep t site vote) ⌝ }
     ensures { λ _. ⌜ now (out .exit) ≡ overlay (now (out .entry)) (voteStep t site vote .words) ⌝ }
 {
     if vote != 0 {
         return abort_step(t, vote, out);
     }
-    let c = with_reply(t.sub.course, site, 0, 0);
+    let c = with_heard(t.sub.course, site, 0);
     let heard = c.heard;
     let mask = c.mask;
     let u = with_course(t, c);
-    if all_heard(heard, mask) {
+    if live::all_heard(heard, mask) {
         return decide_step(u, out);
     }
     quietly(u)

@@ -68,7 +68,7 @@ pub fn send_to(
     let tx = t.sub.tx;
     let count = (es.len() / ENTRY) as u64;
     let h = head_of(kind, own, to, sent[i] + 1, tx, clock, argument, count);
-    let words = messages::write::write_message(out, h, es);
+    let words = messages::write_message(out, h, es);
     let stepped = sent_to(channels, to);
     let mut u = t;
     u.channels = stepped;
@@ -100,8 +100,8 @@ pub fn send_all(
     let mask = t.sub.course.mask;
     let count = (es.len() / ENTRY) as u64;
     let h = head_of(kind, own, 0, 0, tx, clock, argument, count);
-    let words = messages::send::broadcast(out, h, sent, mask, es);
-    let stepped = messages::send::step_recipients(sent, mask, own);
+    let words = messages::broadcast(out, h, sent, mask, es);
+    let stepped = messages::step_recipients(sent, mask, own);
     channels.sent = stepped;
     let mut u = t;
     u.channels = channels;

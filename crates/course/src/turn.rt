@@ -157,15 +157,25 @@ pub fn with_participant(c: Course, site: u64) -> Course
     d
 }
 
-pub fn with_reply(c: Course, site: u64, reason: u64, entries: usize) -> Course
-    requires { ⌜ (1 ≤ site) × ((site ≤ sizes.sites) × (c .listed + entries ≤ sizes.last)) ⌝ }
-    ensures { λ r. ⌜ r ≡ withReply c site reason entries ⌝ }
+// A reply that brings no entries.
+pub fn with_heard(c: Course, site: u64, reason: u64) -> Course
+    requires { ⌜ (1 ≤ site) × (site ≤ sizes.sites) ⌝ }
+    ensures { λ r. ⌜ r ≡ withReply c site reason 0 ⌝ }
 {
     let bit = numbers::mask_of(site);
     let worse = larger(c.reason, reason);
     let mut d = c;
     d.heard = c.heard | bit;
     d.reason = worse;
+    d
+}
+
+pub fn with_reply(c: Course, site: u64, entries: usize) -> Course
+    requires { ⌜ (1 ≤ site) × ((site ≤ sizes.sites) × (c .listed + entries ≤ sizes.last)) ⌝ }
+    ensures { λ r. ⌜ r ≡ withReply c site 0 entries ⌝ }
+{
+    let h = with_heard(c, site, 0);
+    let mut d = h;
     d.listed = c.listed + entries;
     d
 }

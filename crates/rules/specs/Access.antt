@@ -10,6 +10,7 @@ use Rattle.laws.specs.Cause.{Cause, cause, codeOf}
 use Rattle.kinds.specs.Sizes as sizes
 use Rattle.kinds.specs.Stage as stage
 use Rattle.kinds.specs.Reason as reason
+use Rattle.kinds.specs.declared.House.{House}
 use Rattle.kinds.specs.declared.Keys.{Keys}
 use Rattle.kinds.specs.declared.Sub.{Sub}
 use Rattle.kinds.specs.declared.Site.{Site}
@@ -24,22 +25,28 @@ use Rattle.rules.specs.Effect.{Effect, turnAt, changed, unless}
 use Rattle.rules.specs.Course.{withSubOf, quietly}
 
 -- Causes that both have: the state and the key, then the part that is found at `place`.
-unfoldable pub accessCode : Site → ℕ → ℕ → ℕ → ℕ
-accessCode s room k place =
-    codeOf (cause (not (eqb room sizes.keys)) reason.malformed
-    ∷ cause (not (siteOk s)) reason.malformed
-    ∷ cause (not (isKey (s .house) k)) reason.malformed
-    ∷ cause (not (eqb (siteOf (s .house) k) (s .counters .own))) reason.elsewhere
+abbrev pub accessCauses : Bool → ℕ → House → ℕ → ℕ → ℕ → ℕ → List Cause
+accessCauses ok room o own k place st =
+    cause (not (eqb room sizes.keys)) reason.malformed
+    ∷ cause (not ok) reason.malformed
+    ∷ cause (not (isKey o k)) reason.malformed
+    ∷ cause (not (eqb (siteOf o k) own)) reason.elsewhere
     ∷ cause (leb sizes.live place) reason.unknown
-    ∷ cause (not (eqb (stageAt (s .live) place) stage.active)) reason.stage
-    ∷ [])
+    ∷ cause (not (eqb st stage.active)) reason.stage
+    ∷ []
+
+unfoldable pub accessCode : Bool → ℕ → House → ℕ → ℕ → ℕ → ℕ → ℕ
+accessCode ok room o own k place st = codeOf (accessCauses ok room o own k place st)
 
 -- Read: the own write, which enters no set; else the newest version within the snapshot.
-unfoldable pub readCode : Site → Sub → ℕ → ℕ
-readCode s b k =
-    codeOf (cause (isForgotten (s .counters .installs) (b .snapshot)) reason.forgotten
-    ∷ cause (every (not (readKey (b .keys) k) ∷ leb sizes.reads (b .keys .read) ∷ [])) reason.tooMany
-    ∷ [])
+abbrev pub readCauses : Bool → Bool → ℕ → List Cause
+readCauses lost has read =
+    cause lost reason.forgotten
+    ∷ cause (every (not has ∷ leb sizes.reads read ∷ [])) reason.tooMany
+    ∷ []
+
+unfoldable pub readCode : Bool → Bool → ℕ → ℕ
+readCode lost has read = codeOf (readCauses lost has read)
 
 unfoldable pub readVersion : Site → List Value → ℕ → ℕ → Effect
 readVersion s base place k =
@@ -57,22 +64,30 @@ readAt s base place k =
     let b = subAt s place in
     pick (wroteKey (b .keys) k)
     (record { answer = Found (wroteValue (b .keys) k); words = []; site = s; lent = [] })
-    (unless (readCode s b k) s [] (readVersion s base place k))
+    (unless (readCode (isForgotten (s .counters .installs) (b .snapshot)) (readKey (b .keys) k) (b .keys .read)) s [] (readVersion s base place k))
 
 unfoldable pub readOf : Site → List Value → ℕ → ℕ → Effect
 readOf s base tx k =
     let place = placeOf (s .live) tx in
-    unless (accessCode s (length base) k place) s [] (readAt s base place k)
+    unless (accessCode (siteOk s) (length base) (s .house) (s .counters .own) k place (stageAt (s .live) place)) s [] (readAt s base place k)
 
 -- Write: kept privately; the key is held until install or abort.
-unfoldable pub writeCode : Site → ℕ → ℕ → ℕ
-writeCode s place k =
+abbrev pub writeCauses : Bool → Bool → Bool → ℕ → List Cause
+writeCauses lost held newer wrote =
+    cause lost reason.forgotten
+    ∷ cause held reason.held
+    ∷ cause newer reason.newer
+    ∷ cause (leb sizes.writes wrote) reason.tooMany
+    ∷ []
+
+unfoldable pub writeCode : Bool → Bool → Bool → ℕ → ℕ
+writeCode lost held newer wrote = codeOf (writeCauses lost held newer wrote)
+
+unfoldable pub writeCodeAt : Site → ℕ → ℕ → ℕ
+writeCodeAt s place k =
     let b = subAt s place in
-    codeOf (cause (isForgotten (s .counters .installs) (b .snapshot)) reason.forgotten
-    ∷ cause (keyHeld (s .live) place k) reason.held
-    ∷ cause (isNewer (s .history) (s .counters .installs) (b .snapshot) k) reason.newer
-    ∷ cause (leb sizes.writes (b .keys .wrote)) reason.tooMany
-    ∷ [])
+    writeCode (isForgotten (s .counters .installs) (b .snapshot)) (keyHeld (s .live) place k)
+    (isNewer (s .history) (s .counters .installs) (b .snapshot) k) (b .keys .wrote)
 
 unfoldable pub written : Site → ℕ → ℕ → Value → Effect
 written s place k v =
@@ -83,9 +98,9 @@ written s place k v =
 unfoldable pub writeAt : Site → ℕ → ℕ → Value → Effect
 writeAt s place k v =
     pick (wroteKey (subAt s place .keys) k) (written s place k v)
-    (unless (writeCode s place k) s [] (written s place k v))
+    (unless (writeCodeAt s place k) s [] (written s place k v))
 
 unfoldable pub writeOf : Site → ℕ → ℕ → Value → Effect
 writeOf s tx k v =
     let place = placeOf (s .live) tx in
-    unless (accessCode s sizes.keys k place) s [] (writeAt s place k v)
+    unless (accessCode (siteOk s) sizes.keys (s .house) (s .counters .own) k place (stageAt (s .live) place)) s [] (writeAt s place k v)

@@ -29,24 +29,21 @@ markOf b = pick b 1 0
 abbrev pub concurrentWords : Keys → ℕ → ℕ → Keys → List ℕ
 concurrentWords own tx mask other = tx ∷ mask ∷ markOf (dependent own other) ∷ []
 
-unfoldable pub preparedWords : List Sub → ℕ → ℕ → List ℕ
-preparedWords live place i =
-    pick (every (not (eqb i place) ∷ isPrepared (partAt live i) ∷ []))
-    (concurrentWords (partAt live place .keys) (partAt live i .tx) (partAt live i .course .mask) (partAt live i .keys))
-    []
+-- of the part b at place i: none for the part itself, nor for one that is not prepared
+unfoldable pub preparedWords : ℕ → Keys → ℕ → Sub → List ℕ
+preparedWords place own i b =
+    pick (every (not (eqb i place) ∷ isPrepared b ∷ [])) (concurrentWords own (b .tx) (b .course .mask) (b .keys)) []
 
-unfoldable pub installedWords : List Entry → ℕ → Keys → ℕ → List ℕ
-installedWords history installs own i =
-    let e = recall history installs i in
-    concurrentWords own (e .tx) (e .mask) (e .keys)
+unfoldable pub installedWords : Keys → Entry → List ℕ
+installedWords own e = concurrentWords own (e .tx) (e .mask) (e .keys)
 
 -- the prepared ones among the first n places
 unfoldable pub preparedList : List Sub → ℕ → ℕ → List ℕ
-preparedList live place n = foldBelow (λ i ws. ws ++ preparedWords live place i) n []
+preparedList live place n = foldBelow (λ i ws. ws ++ preparedWords place (partAt live place .keys) i (partAt live i)) n []
 
 -- the first n remembered installs after the first `seen`
 unfoldable pub installedList : List Entry → ℕ → Keys → ℕ → ℕ → List ℕ
-installedList history installs own seen n = foldBelow (λ i ws. ws ++ installedWords history installs own (seen + i)) n []
+installedList history installs own seen n = foldBelow (λ i ws. ws ++ installedWords own (recall history installs (seen + i))) n []
 
 unfoldable pub candidates : Site → ℕ → List ℕ
 candidates s place =
@@ -61,14 +58,17 @@ concurrent s place = joined (candidates s place) (entryCount (candidates s place
 
 -- The vote of the part at `place` on a list of n entries.
 
+-- entry i is for the install e, and is marked or dependent here
+unfoldable pub conflictsAt : Keys → List ℕ → ℕ → Entry → Bool
+conflictsAt own es i e =
+    every (eqb (entryTx es i) (e .tx) ∷ some (eqb (entryMark es i) 1 ∷ dependent own (e .keys) ∷ []) ∷ [])
+
 -- entry i was installed here within the snapshot, and is marked or dependent here
 unfoldable pub conflictsWith : Site → ℕ → List ℕ → ℕ → Bool
 conflictsWith s place es i =
     let n = s .counters .installs in
-    let at = recallPlace (s .history) n (entryTx es i) in
-    every (ltb at (within n (subAt s place .snapshot))
-    ∷ some (eqb (entryMark es i) 1 ∷ dependent (subAt s place .keys) (recall (s .history) n at .keys) ∷ [])
-    ∷ [])
+    let b = subAt s place in
+    anyBelow (λ k. conflictsAt (b .keys) es i (recall (s .history) n k)) (within n (b .snapshot))
 
 -- entry i has a record here: live, or in the history
 unfoldable pub isRecorded : Site → ℕ → Bool

@@ -22,59 +22,78 @@ use Rattle.rules.specs.History.{isForgotten}
 use Rattle.rules.specs.Join.{joined}
 use Rattle.rules.specs.Certify.{concurrent, voteOf}
 use Rattle.rules.specs.Valid.{siteOk}
-use Rattle.rules.specs.Effect.{Effect, turnAt, changed, unless}
+use Rattle.rules.specs.Effect.{Change, Effect, turnAt, changed, unless}
 use Rattle.rules.specs.Course.{withCourseOf, withRequest, abortStep, castStep, prepareStep}
 
--- Commit request. Whatever follows, each other participant is sent one message.
-unfoldable pub commitCode : Site → ℕ → ℕ → ℕ → ℕ → ℕ
-commitCode s room given tx place =
-    let c = subAt s place .course in
-    codeOf (cause (ltb room sizes.outgoing) reason.short
-    ∷ cause (not (eqb given sizes.lists)) reason.malformed
-    ∷ cause (not (siteOk s)) reason.malformed
+-- Commit request and abandon: buffer, lent lists (a commit's), state, part, and that it is the coordinator's.
+abbrev pub requestCauses : Bool → ℕ → Bool → ℕ → Bool → List Cause
+requestCauses ok room given place mine =
+    cause (ltb room sizes.outgoing) reason.short
+    ∷ cause (not given) reason.malformed
+    ∷ cause (not ok) reason.malformed
     ∷ cause (leb sizes.live place) reason.unknown
-    ∷ cause (not (eqb (coordinatorOf tx) (s .counters .own))) reason.notCoordinator
-    ∷ cause (not (eqb (c .stage) stage.active)) reason.stage
-    ∷ cause (not (allHeard (c .heard) (c .mask))) reason.outstanding
-    ∷ cause (not (countsLow (s .channels .sent) (c .mask) (s .counters .own))) reason.spent
-    ∷ [])
+    ∷ cause (not mine) reason.notCoordinator
+    ∷ []
+
+unfoldable pub requestCode : Bool → ℕ → Bool → ℕ → Bool → ℕ
+requestCode ok room given place mine = codeOf (requestCauses ok room given place mine)
+
+-- Commit: whatever follows, each other participant is sent one message.
+abbrev pub commitCauses : ℕ → Bool → Bool → List Cause
+commitCauses st heard low =
+    cause (not (eqb st stage.active)) reason.stage
+    ∷ cause (not heard) reason.outstanding
+    ∷ cause (not low) reason.spent
+    ∷ []
+
+unfoldable pub commitCode : ℕ → Bool → Bool → ℕ
+commitCode st heard low = codeOf (commitCauses st heard low)
 
 -- the coordinator makes its list before it sends PREPARE; a lone participant votes on it at once
-unfoldable pub requestAt : Site → List ℕ → ℕ → List ℕ → Effect
-requestAt s lists place own =
+unfoldable pub requestChange : Site → ℕ → List ℕ → Change
+requestChange s place own =
     let t = withCourseOf (turnAt s place) (withRequest (subAt s place .course) (entryCount own)) in
     let es = joined own (entryCount own) in
-    changed s place
-    (pick (allHeard 0 (subAt s place .course .mask)) (castStep t (voteOf s place es (entryCount es)) es) (prepareStep t))
-    (putAt (sizes.gathered * place) lists own)
+    pick (allHeard 0 (subAt s place .course .mask)) (castStep t (voteOf s place es (entryCount es)) es) (prepareStep t)
 
--- with a JOINED of 12 it aborts 12; where an install after the snapshot is forgotten, 19
-unfoldable pub commitAt : Site → List ℕ → ℕ → Effect
-commitAt s lists place =
-    pick (eqb (subAt s place .course .reason) 0)
-    (pick (isForgotten (s .counters .installs) (subAt s place .snapshot))
-    (changed s place (abortStep (turnAt s place) reason.uncertain) lists)
-    (requestAt s lists place (concurrent s place)))
-    (changed s place (abortStep (turnAt s place) reason.full) lists)
+-- where it makes no list: with a JOINED of 12, or where an install after the snapshot is forgotten
+unfoldable pub isFull : Site → ℕ → Bool
+isFull s place = not (eqb (subAt s place .course .reason) 0)
+
+abbrev pub isLost : Site → ℕ → Bool
+isLost s place = isForgotten (s .counters .installs) (subAt s place .snapshot)
+
+-- it aborts 12, 19, or makes its list
+unfoldable pub commitChange : Site → ℕ → Change
+commitChange s place =
+    pick (isFull s place) (abortStep (turnAt s place) reason.full)
+    (pick (isLost s place) (abortStep (turnAt s place) reason.uncertain) (requestChange s place (concurrent s place)))
+
+unfoldable pub commitLists : Site → List ℕ → ℕ → List ℕ
+commitLists s lists place = pick (isFull s place) lists (pick (isLost s place) lists (putAt (sizes.gathered * place) lists (concurrent s place)))
+
+abbrev pub isMine : Site → ℕ → Bool
+isMine s tx = eqb (coordinatorOf tx) (s .counters .own)
 
 unfoldable pub commitOf : Site → ℕ → List ℕ → ℕ → Effect
 commitOf s room lists tx =
     let place = placeOf (s .live) tx in
-    unless (commitCode s room (length lists) tx place) s lists (commitAt s lists place)
+    let c = subAt s place .course in
+    unless (requestCode (siteOk s) room (eqb (length lists) sizes.lists) place (isMine s tx)) s lists
+    (unless (commitCode (c .stage) (allHeard (c .heard) (c .mask)) (countsLow (s .channels .sent) (c .mask) (s .counters .own))) s lists
+    (changed s place (commitChange s place) (commitLists s lists place)))
 
 -- Abandon, before the decision.
-unfoldable pub abandonCode : Site → ℕ → ℕ → ℕ → ℕ
-abandonCode s room tx place =
-    let c = subAt s place .course in
-    codeOf (cause (ltb room sizes.outgoing) reason.short
-    ∷ cause (not (siteOk s)) reason.malformed
-    ∷ cause (leb sizes.live place) reason.unknown
-    ∷ cause (not (eqb (coordinatorOf tx) (s .counters .own))) reason.notCoordinator
-    ∷ cause (eqb (c .stage) stage.decided) reason.stage
-    ∷ cause (not (countsLow (s .channels .sent) (c .mask) (s .counters .own))) reason.spent
-    ∷ [])
+abbrev pub abandonCauses : ℕ → Bool → List Cause
+abandonCauses st low = cause (eqb st stage.decided) reason.stage ∷ cause (not low) reason.spent ∷ []
+
+unfoldable pub abandonCode : ℕ → Bool → ℕ
+abandonCode st low = codeOf (abandonCauses st low)
 
 unfoldable pub abandonOf : Site → ℕ → ℕ → Effect
 abandonOf s room tx =
     let place = placeOf (s .live) tx in
-    unless (abandonCode s room tx place) s [] (changed s place (abortStep (turnAt s place) reason.abandoned) [])
+    let c = subAt s place .course in
+    unless (requestCode (siteOk s) room true place (isMine s tx)) s []
+    (unless (abandonCode (c .stage) (countsLow (s .channels .sent) (c .mask) (s .counters .own))) s []
+    (changed s place (abortStep (turnAt s place) reason.abandoned) []))

@@ -6,7 +6,7 @@ use mathlib.Core.Bool.{Bool, true, false, not}
 use lib.ListN.{length, getD}
 use lib.Bits.{bitOr}
 use lib.Dec.{ltb, leb, eqb}
-use Rattle.laws.specs.Choice.{pick, every}
+use Rattle.laws.specs.Choice.{pick, every, some}
 use Rattle.kinds.specs.Sizes as sizes
 use Rattle.kinds.specs.Stage as stage
 use Rattle.kinds.specs.Reason as reason
@@ -148,6 +148,10 @@ withRequest c n = record { stage = stage.prepared; mask = c .mask; number = c .n
 
 unfoldable pub prepareStep : Turn → Change
 prepareStep t = sendAll t Done kind.prepare (t .counters .clock) (t .sub .course .mask) []
+
+-- a VOTE decides: a no, or the last yes
+unfoldable pub voteDecides : Course → ℕ → ℕ → Bool
+voteDecides c from v = some (not (eqb v 0) ∷ allHeard (withReply c from 0 0 .heard) (c .mask) ∷ [])
 
 -- a VOTE with its reason, 0 for yes: the first no aborts, the last yes decides
 unfoldable pub voteStep : Turn → ℕ → ℕ → Change

@@ -16,6 +16,8 @@ use Rattle.kinds.specs.declared.Course.{Course}
 use Rattle.kinds.specs.declared.MessageHead.{MessageHead}
 use Rattle.kinds.specs.declared.Site.{Site}
 use Rattle.kinds.specs.declared.Turn.{Turn}
+use Rattle.kinds.specs.declared.Taken.{Taken}
+use Rattle.kinds.specs.declared.Out.{Out}
 use Rattle.kinds.specs.declared.Answer.the-variants.{Done}
 use Rattle.kinds.specs.State.{noSub, subAt, withChannels}
 use Rattle.rules.specs.House.{maskOf}
@@ -27,152 +29,193 @@ use Rattle.rules.specs.Join.{joined}
 use Rattle.rules.specs.Certify.{concurrent, voteOf}
 use Rattle.rules.specs.Valid.{siteOk}
 use Rattle.rules.specs.Effect.{Change, Effect, turnAt, changed, refused, unless}
-use Rattle.rules.specs.Course.{newSub, withSubOf, withCourseOf, raise, takenFrom, channelSpent, sendTo, quietly, isOutstanding, withReply, withDecision, castStep, voteStep, preparedStep, certifiedStep}
+use Rattle.rules.specs.Course.{newSub, withSubOf, withCourseOf, raise, takenFrom, channelSpent, sendTo, quietly, isOutstanding, withReply, withDecision, castStep, voteDecides, voteStep, preparedStep, certifiedStep}
 
 -- causes before the message's kind is looked at
-unfoldable pub arrivalCode : Site → ℕ → ℕ → List ℕ → ℕ
-arrivalCode s room given m =
-    let h = messageHead m in
-    codeOf (cause (ltb room sizes.outgoing) reason.short
-    ∷ cause (not (eqb given sizes.lists)) reason.malformed
-    ∷ cause (not (siteOk s)) reason.malformed
-    ∷ cause (not (messageOk (s .house) m)) reason.malformed
-    ∷ cause (not (eqb (h .to) (s .counters .own))) reason.elsewhere
-    ∷ cause (not (eqb (h .channel) (getD (s .channels .taken) (h .from - 1) 0 + 1))) reason.notNext
-    ∷ [])
+abbrev pub arrivalCauses : Bool → ℕ → Bool → Bool → List Cause
+arrivalCauses ok room given fine =
+    cause (ltb room sizes.outgoing) reason.short
+    ∷ cause (not given) reason.malformed
+    ∷ cause (not ok) reason.malformed
+    ∷ cause (not fine) reason.malformed
+    ∷ []
+
+unfoldable pub arrivalCode : Bool → ℕ → Bool → Bool → ℕ
+arrivalCode ok room given fine = codeOf (arrivalCauses ok room given fine)
+
+-- and its place on its channel
+abbrev pub nextCauses : ℕ → ℕ → ℕ → ℕ → List Cause
+nextCauses to own channel taken = cause (not (eqb to own)) reason.elsewhere ∷ cause (not (eqb channel (taken + 1))) reason.notNext ∷ []
+
+unfoldable pub nextCode : ℕ → ℕ → ℕ → ℕ → ℕ
+nextCode to own channel taken = codeOf (nextCauses to own channel taken)
+
+-- the channel's next number can be counted
+pub record Arriving (s : Site) (from : ℕ) : Type 0 where
+  pub first : 1 ≤ from
+  pub last : from ≤ sizes.sites
+  pub low : getD (s .channels .taken) (from - 1) 0 < sizes.last
 
 -- the part with the channel's count stepped
 unfoldable pub arrived : Site → ℕ → ℕ → Turn
 arrived s place from = record { counters = s .counters; channels = takenFrom (s .channels) from; sub = subAt s place }
 
 -- for a transaction not held it only steps the count
-unfoldable pub passed : Site → ℕ → List ℕ → Effect
-passed s from lists = record { answer = Done; words = []; site = withChannels s (takenFrom (s .channels) from); lent = lists }
+unfoldable pub passed : Site → ℕ → Effect
+passed s from = record { answer = Done; words = []; site = withChannels s (takenFrom (s .channels) from); lent = [] }
 
 -- the part's turn, and no spent channel to reply on, or to the others
-unfoldable pub replyCode : Bool → Site → ℕ → ℕ
-replyCode inTurn s to = codeOf (cause (not inTurn) reason.stage ∷ cause (channelSpent (s .channels) to) reason.spent ∷ [])
+abbrev pub replyCauses : Bool → Bool → List Cause
+replyCauses inTurn spent = cause (not inTurn) reason.stage ∷ cause spent reason.spent ∷ []
 
-unfoldable pub othersCode : Bool → Bool → Site → ℕ → ℕ
-othersCode inTurn sends s mask =
-    codeOf (cause (not inTurn) reason.stage
-    ∷ cause (every (sends ∷ not (countsLow (s .channels .sent) mask (s .counters .own)) ∷ [])) reason.spent
-    ∷ [])
+unfoldable pub replyCode : Bool → Bool → ℕ
+replyCode inTurn spent = codeOf (replyCauses inTurn spent)
+
+abbrev pub spentTo : Site → ℕ → Bool
+spentTo s to = channelSpent (s .channels) to
+
+abbrev pub spentToAll : Site → ℕ → Bool
+spentToAll s mask = not (countsLow (s .channels .sent) mask (s .counters .own))
+
+-- a step taken at a place, or its refusal
+abbrev pub stepUnless : ℕ → Site → ℕ → Change → Effect
+stepUnless code s place c = unless code s [] (changed s place c [])
 
 -- JOIN: the part begins, or is answered 12 where 16 are live.
-unfoldable pub joinAt : Site → MessageHead → List ℕ → ℕ → Effect
-joinAt s h lists free =
-    let t = withSubOf (arrived s free (h .from)) (newSub (h .tx) 0 (s .counters .installs)) in
-    pick (ltb free sizes.live)
-    (changed s free (sendTo t kind.joined (h .from) 0 0 []) lists)
-    (let c = sendTo t kind.joined (h .from) 0 reason.full [] in
-    record { answer = Done; words = c .words; site = withChannels s (c .turn .channels); lent = lists })
+unfoldable pub joinTurn : Site → MessageHead → Turn
+joinTurn s h = record { counters = s .counters; channels = takenFrom (s .channels) (h .from); sub = newSub (h .tx) 0 (s .counters .installs) }
 
-unfoldable pub takeJoin : Site → MessageHead → List ℕ → ℕ → Effect
-takeJoin s h lists place = unless (replyCode (leb sizes.live place) s (h .from)) s lists (joinAt s h lists (freePlace (s .live)))
-
--- JOINED
-unfoldable pub takeJoined : Site → MessageHead → List ℕ → ℕ → Effect
-takeJoined s h lists place =
-    let t = arrived s place (h .from) in
-    let c = t .sub .course in
-    unless (othersCode (every (eqb (c .stage) stage.active ∷ isOutstanding c (h .from) ∷ [])) false s 0) s lists
-    (changed s place (quietly (withCourseOf t (withReply c (h .from) (h .argument) 0))) lists)
-
--- PREPARE; for a transaction not held it raises the clock and is voted 5
-unfoldable pub takePrepare : Site → MessageHead → List ℕ → ℕ → Effect
-takePrepare s h lists place =
-    let t = raise (arrived s place (h .from)) (h .clock) in
-    unless (replyCode (eqb (t .sub .course .stage) stage.active) s (h .from)) s lists
-    (changed s place (preparedStep t (h .from) (h .argument) (isForgotten (s .counters .installs) (t .sub .snapshot)) (concurrent s place)) lists)
-
-unfoldable pub passPrepare : Site → MessageHead → List ℕ → Effect
-passPrepare s h lists =
-    let t = raise (withSubOf (arrived s 0 (h .from)) (newSub (h .tx) 0 0)) (h .clock) in
-    let c = sendTo t kind.vote (h .from) (t .counters .clock) reason.unknown [] in
-    unless (replyCode true s (h .from)) s lists
-    (record {
-      answer = Done;
+-- without a part
+unfoldable pub spoken : Site → Change → Effect
+spoken s c =
+    record {
+      answer = c .answer;
       words = c .words;
       site = record { house = s .house; counters = c .turn .counters; channels = c .turn .channels; live = s .live; history = s .history };
-      lent = lists;
-    })
+      lent = [];
+    }
+
+unfoldable pub spokenOf : Site → Taken → Out
+spokenOf s a =
+    record {
+      answer = a .answer;
+      words = a .words;
+      site = record { house = s .house; counters = a .turn .counters; channels = a .turn .channels; live = s .live; history = s .history };
+    }
+
+unfoldable pub joinAt : Site → MessageHead → ℕ → Effect
+joinAt s h free =
+    pick (ltb free sizes.live)
+    (changed s free (sendTo (joinTurn s h) kind.joined (h .from) 0 0 []) [])
+    (spoken s (sendTo (joinTurn s h) kind.joined (h .from) 0 reason.full []))
+
+unfoldable pub takeJoin : Site → MessageHead → ℕ → Effect
+takeJoin s h place = unless (replyCode (leb sizes.live place) (spentTo s (h .from))) s [] (joinAt s h (freePlace (s .live)))
+
+-- JOINED
+unfoldable pub joinedInTurn : Course → ℕ → Bool
+joinedInTurn c from = every (eqb (c .stage) stage.active ∷ isOutstanding c from ∷ [])
+
+unfoldable pub takeJoined : Site → MessageHead → ℕ → Effect
+takeJoined s h place =
+    let t = arrived s place (h .from) in
+    stepUnless (replyCode (joinedInTurn (t .sub .course) (h .from)) false) s place
+    (quietly (withCourseOf t (withReply (t .sub .course) (h .from) (h .argument) 0)))
+
+-- PREPARE; for a transaction not held it raises the clock and is voted 5
+unfoldable pub takePrepare : Site → MessageHead → ℕ → Effect
+takePrepare s h place =
+    let t = raise (arrived s place (h .from)) (h .clock) in
+    stepUnless (replyCode (eqb (t .sub .course .stage) stage.active) (spentTo s (h .from))) s place
+    (preparedStep t (h .from) (h .argument) (isForgotten (s .counters .installs) (t .sub .snapshot)) (concurrent s place))
+
+unfoldable pub passPrepare : Site → MessageHead → Effect
+passPrepare s h =
+    let t = raise (joinTurn s h) (h .clock) in
+    unless (replyCode true (spentTo s (h .from))) s [] (spoken s (sendTo t kind.vote (h .from) (t .counters .clock) reason.unknown []))
 
 -- CONC: appended to the gathered lists; the last one brings the vote on their join
-unfoldable pub gatherAt : Site → MessageHead → List ℕ → ℕ → Course → Effect
-gatherAt s h lists place c =
+unfoldable pub concInTurn : Course → ℕ → Bool
+concInTurn c from = every (eqb (c .stage) stage.prepared ∷ isOutstanding c from ∷ [])
+
+unfoldable pub gatherChange : Site → MessageHead → ℕ → List ℕ → Change
+gatherChange s h place lists =
+    let c = withReply (subAt s place .course) (h .from) 0 (h .count) in
     let t = withCourseOf (arrived s place (h .from)) c in
     let es = joined (drop (sizes.gathered * place) lists) (c .listed) in
-    changed s place
-    (pick (allHeard (c .heard) (c .mask)) (castStep t (voteOf s place es (entryCount es)) es) (quietly t))
-    lists
+    pick (allHeard (c .heard) (c .mask)) (castStep t (voteOf s place es (entryCount es)) es) (quietly t)
+
+unfoldable pub gatherLists : Site → ℕ → List ℕ → List ℕ → List ℕ
+gatherLists s place es lists = putAt (sizes.gathered * place + sizes.entry * subAt s place .course .listed) lists es
 
 unfoldable pub takeConc : Site → MessageHead → List ℕ → List ℕ → ℕ → Effect
 takeConc s h es lists place =
     let b = subAt s place .course in
     let c = withReply b (h .from) 0 (h .count) in
-    unless (othersCode (every (eqb (b .stage) stage.prepared ∷ isOutstanding b (h .from) ∷ [])) (allHeard (c .heard) (c .mask)) s (b .mask)) s lists
-    (gatherAt s h (putAt (sizes.gathered * place + sizes.entry * b .listed) lists es) place c)
+    unless (replyCode (concInTurn b (h .from)) (every (allHeard (c .heard) (c .mask) ∷ spentToAll s (b .mask) ∷ []))) s lists
+    (changed s place (gatherChange s h place (gatherLists s place es lists)) (gatherLists s place es lists))
 
 -- CERT
-unfoldable pub takeCert : Site → MessageHead → List ℕ → List ℕ → ℕ → Effect
-takeCert s h es lists place =
+unfoldable pub takeCert : Site → MessageHead → List ℕ → ℕ → Effect
+takeCert s h es place =
     let t = arrived s place (h .from) in
-    unless (replyCode (eqb (t .sub .course .stage) stage.prepared) s (h .from)) s lists
-    (changed s place (certifiedStep t (h .from) (voteOf s place es (h .count))) lists)
+    stepUnless (replyCode (eqb (t .sub .course .stage) stage.prepared) (spentTo s (h .from))) s place
+    (certifiedStep t (h .from) (voteOf s place es (h .count)))
 
 -- VOTE: yes while votes are outstanding; no also from a site whose CONC is
 unfoldable pub voteInTurn : Course → ℕ → ℕ → Bool
 voteInTurn c from v =
     every (some (eqb (c .stage) stage.queued ∷ every (eqb (c .stage) stage.prepared ∷ not (eqb v 0) ∷ []) ∷ []) ∷ isOutstanding c from ∷ [])
 
--- this vote decides
-unfoldable pub voteDecides : Course → ℕ → ℕ → Bool
-voteDecides c from v = some (not (eqb v 0) ∷ allHeard (withReply c from 0 0 .heard) (c .mask) ∷ [])
-
-unfoldable pub takeVote : Site → MessageHead → List ℕ → ℕ → Effect
-takeVote s h lists place =
+unfoldable pub takeVote : Site → MessageHead → ℕ → Effect
+takeVote s h place =
     let t = raise (arrived s place (h .from)) (h .clock) in
     let c = t .sub .course in
-    unless (othersCode (voteInTurn c (h .from) (h .argument)) (voteDecides c (h .from) (h .argument)) s (c .mask)) s lists
-    (changed s place (voteStep t (h .from) (h .argument)) lists)
+    stepUnless (replyCode (voteInTurn c (h .from) (h .argument)) (every (voteDecides c (h .from) (h .argument) ∷ spentToAll s (c .mask) ∷ []))) s place
+    (voteStep t (h .from) (h .argument))
 
 -- COMMIT, after a yes: its clock is the commit number
-unfoldable pub takeCommit : Site → MessageHead → List ℕ → ℕ → Effect
-takeCommit s h lists place =
+unfoldable pub takeCommit : Site → MessageHead → ℕ → Effect
+takeCommit s h place =
     let t = raise (arrived s place (h .from)) (h .clock) in
-    let c = t .sub .course in
-    unless (othersCode (eqb (c .stage) stage.queued) false s 0) s lists
-    (changed s place (quietly (withCourseOf t (withDecision c (h .clock)))) lists)
+    stepUnless (replyCode (eqb (t .sub .course .stage) stage.queued) false) s place
+    (quietly (withCourseOf t (withDecision (t .sub .course) (h .clock))))
 
 -- ABORT, any time before COMMIT
-unfoldable pub takeAbort : Site → MessageHead → List ℕ → ℕ → Effect
-takeAbort s h lists place =
+unfoldable pub takeAbort : Site → MessageHead → ℕ → Effect
+takeAbort s h place =
     let t = arrived s place (h .from) in
-    unless (othersCode (not (eqb (t .sub .course .stage) stage.decided)) false s 0) s lists
-    (changed s place (quietly (withSubOf t noSub)) lists)
+    stepUnless (replyCode (not (eqb (t .sub .course .stage) stage.decided)) false) s place (quietly (withSubOf t noSub))
 
--- the handler of each kind
+-- the lent lists stay
+abbrev pub keeping : List ℕ → Effect → Effect
+keeping lists e = record { answer = e .answer; words = e .words; site = e .site; lent = lists }
+
+-- The handler of each kind: for a transaction held at `place`, or not held.
 unfoldable pub takeHeld : ℕ → Site → MessageHead → List ℕ → List ℕ → ℕ → Effect
 takeHeld k s h es lists place =
-    pick (eqb k kind.joined) (takeJoined s h lists place)
-    (pick (eqb k kind.prepare) (takePrepare s h lists place)
+    pick (eqb k kind.joined) (keeping lists (takeJoined s h place))
+    (pick (eqb k kind.prepare) (keeping lists (takePrepare s h place))
     (pick (eqb k kind.conc) (takeConc s h es lists place)
-    (pick (eqb k kind.cert) (takeCert s h es lists place)
-    (pick (eqb k kind.vote) (takeVote s h lists place)
-    (pick (eqb k kind.commit) (takeCommit s h lists place)
-    (takeAbort s h lists place))))))
+    (pick (eqb k kind.cert) (keeping lists (takeCert s h es place))
+    (pick (eqb k kind.vote) (keeping lists (takeVote s h place))
+    (pick (eqb k kind.commit) (keeping lists (takeCommit s h place))
+    (keeping lists (takeAbort s h place)))))))
 
 unfoldable pub takeOther : ℕ → Site → MessageHead → List ℕ → Effect
-takeOther k s h lists = pick (eqb k kind.prepare) (passPrepare s h lists) (passed s (h .from) lists)
+takeOther k s h lists = pick (eqb k kind.prepare) (keeping lists (passPrepare s h)) (keeping lists (passed s (h .from)))
 
 unfoldable pub takeKind : ℕ → Site → MessageHead → List ℕ → List ℕ → ℕ → Effect
 takeKind k s h es lists place =
-    pick (eqb k kind.join) (takeJoin s h lists place)
+    pick (eqb k kind.join) (keeping lists (takeJoin s h place))
     (pick (ltb place sizes.live) (takeHeld k s h es lists place) (takeOther k s h lists))
+
+unfoldable pub messageAt : Site → List ℕ → List ℕ → Effect
+messageAt s lists m =
+    let h = messageHead m in
+    unless (nextCode (h .to) (s .counters .own) (h .channel) (getD (s .channels .taken) (h .from - 1) 0)) s lists
+    (takeKind (h .kind) s h (messageEntries m) lists (placeOf (s .live) (h .tx)))
 
 unfoldable pub messageOf : Site → ℕ → List ℕ → List ℕ → Effect
 messageOf s room lists m =
-    let h = messageHead m in
-    unless (arrivalCode s room (length lists) m) s lists
-    (takeKind (h .kind) s h (messageEntries m) lists (placeOf (s .live) (h .tx)))
+    unless (arrivalCode (siteOk s) room (eqb (length lists) sizes.lists) (messageOk (s .house) m)) s lists (messageAt s lists m)

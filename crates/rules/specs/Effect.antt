@@ -41,6 +41,11 @@ turnAt s place = record { counters = s .counters; channels = s .channels; sub = 
 unfoldable pub settle : Site → ℕ → Turn → Site
 settle s place t = record { house = s .house; counters = t .counters; channels = t .channels; live = set (s .live) place (t .sub); history = s .history }
 
+-- what a step taken leaves of the site
+unfoldable pub settledOf : Site → ℕ → Taken → Out
+unfolding settle
+settledOf s place a = record { answer = a .answer; words = a .words; site = settle s place (a .turn) }
+
 abbrev pub changed : Site → ℕ → Change → List ℕ → Effect
 changed s place c lent = record { answer = c .answer; words = c .words; site = settle s place (c .turn); lent = lent }
 

@@ -15,20 +15,37 @@ use Rattle.rules.specs.Valid.{siteOk}
 use Rattle.rules.specs.Effect.{Effect, turnAt, changed, unless}
 use Rattle.rules.specs.Course.{channelSpent, enlistStep}
 
-unfoldable pub enlistCode : Site → ℕ → ℕ → ℕ → ℕ → ℕ
-enlistCode s room tx site place =
-    codeOf (cause (ltb room sizes.outgoing) reason.short
-    ∷ cause (not (siteOk s)) reason.malformed
-    ∷ cause (not (isSite (s .house) site)) reason.malformed
+abbrev pub enlistCauses : Bool → ℕ → Bool → ℕ → Bool → List Cause
+enlistCauses ok room known place mine =
+    cause (ltb room sizes.outgoing) reason.short
+    ∷ cause (not ok) reason.malformed
+    ∷ cause (not known) reason.malformed
     ∷ cause (leb sizes.live place) reason.unknown
-    ∷ cause (not (eqb (coordinatorOf tx) (s .counters .own))) reason.notCoordinator
-    ∷ cause (not (eqb (stageAt (s .live) place) stage.active)) reason.stage
-    ∷ cause (eqb site (s .counters .own)) reason.stage
-    ∷ cause (inMask (subAt s place .course .mask) site) reason.stage
-    ∷ cause (channelSpent (s .channels) site) reason.spent
-    ∷ [])
+    ∷ cause (not mine) reason.notCoordinator
+    ∷ []
+
+unfoldable pub enlistCode : Bool → ℕ → Bool → ℕ → Bool → ℕ
+enlistCode ok room known place mine = codeOf (enlistCauses ok room known place mine)
+
+-- then: its stage, whether the site is in the mask, and the channel to it
+abbrev pub joinerCauses : ℕ → Bool → Bool → Bool → List Cause
+joinerCauses st own there spent =
+    cause (not (eqb st stage.active)) reason.stage
+    ∷ cause own reason.stage
+    ∷ cause there reason.stage
+    ∷ cause spent reason.spent
+    ∷ []
+
+unfoldable pub joinerCode : ℕ → Bool → Bool → Bool → ℕ
+joinerCode st own there spent = codeOf (joinerCauses st own there spent)
+
+unfoldable pub enlistAt : Site → ℕ → ℕ → Effect
+enlistAt s place site =
+    let c = subAt s place .course in
+    unless (joinerCode (c .stage) (eqb site (s .counters .own)) (inMask (c .mask) site) (channelSpent (s .channels) site)) s []
+    (changed s place (enlistStep (turnAt s place) site) [])
 
 unfoldable pub enlistOf : Site → ℕ → ℕ → ℕ → Effect
 enlistOf s room tx site =
     let place = placeOf (s .live) tx in
-    unless (enlistCode s room tx site place) s [] (changed s place (enlistStep (turnAt s place) site) [])
+    unless (enlistCode (siteOk s) room (isSite (s .house) site) place (eqb (coordinatorOf tx) (s .counters .own))) s [] (enlistAt s place site)

@@ -26,14 +26,17 @@ use Rattle.rules.specs.Valid.{siteOk}
 use Rattle.rules.specs.Effect.{Effect, refused, unless}
 
 -- Install: the queue's least, if decided.
-unfoldable pub installCode : Site → ℕ → ℕ → ℕ → ℕ
-installCode s room given place =
-    codeOf (cause (ltb room sizes.part) reason.short
+abbrev pub installCauses : Bool → ℕ → ℕ → Bool → ℕ → List Cause
+installCauses ok room given due installs =
+    cause (ltb room sizes.part) reason.short
     ∷ cause (not (eqb given sizes.keys)) reason.malformed
-    ∷ cause (not (siteOk s)) reason.malformed
-    ∷ cause (every (isDue (s .live) place ∷ leb sizes.last (s .counters .installs) ∷ [])) reason.spent
-    ∷ cause (not (isDue (s .live) place)) reason.nothing
-    ∷ [])
+    ∷ cause (not ok) reason.malformed
+    ∷ cause (every (due ∷ leb sizes.last installs ∷ [])) reason.spent
+    ∷ cause (not due) reason.nothing
+    ∷ []
+
+unfoldable pub installCode : Bool → ℕ → ℕ → Bool → ℕ → ℕ
+installCode ok room given due installs = codeOf (installCauses ok room given due installs)
 
 -- what the history keeps of a part
 unfoldable pub entryOf : Sub → Entry
@@ -82,11 +85,14 @@ installedAt s base place =
 unfoldable pub installOf : Site → ℕ → List Value → Effect
 installOf s room base =
     let place = leastQueued (s .live) sizes.live in
-    unless (installCode s room (length base) place) s base (installedAt s base place)
+    unless (installCode (siteOk s) room (length base) (isDue (s .live) place) (s .counters .installs)) s base (installedAt s base place)
 
 -- Report: the state number as a state record.
-unfoldable pub reportCode : Site → ℕ → ℕ
-reportCode s room = codeOf (cause (ltb room sizes.part) reason.short ∷ cause (not (siteOk s)) reason.malformed ∷ [])
+abbrev pub reportCauses : Bool → ℕ → List Cause
+reportCauses ok room = cause (ltb room sizes.part) reason.short ∷ cause (not ok) reason.malformed ∷ []
+
+unfoldable pub reportCode : Bool → ℕ → ℕ
+reportCode ok room = codeOf (reportCauses ok room)
 
 unfoldable pub stateWords : ℕ → ℕ → List ℕ
 stateWords own n = recordWords (record { kind = kind.state; site = own; number = n; coordinator = 0; tx = 0; mask = 0; count = 0 }) []
@@ -94,7 +100,7 @@ stateWords own n = recordWords (record { kind = kind.state; site = own; number =
 unfoldable pub reportOf : Site → ℕ → Effect
 reportOf s room =
     let n = stateNumber (s .live) (s .counters .clock) sizes.live in
-    unless (reportCode s room) s [] (record { answer = Reported n; words = stateWords (s .counters .own) n; site = s; lent = [] })
+    unless (reportCode (siteOk s) room) s [] (record { answer = Reported n; words = stateWords (s .counters .own) n; site = s; lent = [] })
 
 -- Start: a fresh site; a refused start hands back one that no call accepts.
 unfoldable pub freshSite : ℕ → ℕ → Site
@@ -107,13 +113,16 @@ freshSite sites own =
       history = replicate sizes.history noEntry;
     }
 
-unfoldable pub startCode : ℕ → ℕ → ℕ → ℕ → ℕ
-startCode sites own base lists =
-    codeOf (cause (not (houseOk (record { sites = sites }))) reason.malformed
+abbrev pub startCauses : ℕ → ℕ → ℕ → ℕ → List Cause
+startCauses sites own base lists =
+    cause (not (houseOk (record { sites = sites }))) reason.malformed
     ∷ cause (not (isSite (record { sites = sites }) own)) reason.malformed
     ∷ cause (not (eqb base sizes.keys)) reason.malformed
     ∷ cause (not (eqb lists sizes.lists)) reason.malformed
-    ∷ [])
+    ∷ []
+
+unfoldable pub startCode : ℕ → ℕ → ℕ → ℕ → ℕ
+startCode sites own base lists = codeOf (startCauses sites own base lists)
 
 unfoldable pub startOf : ℕ → ℕ → ℕ → ℕ → Out
 startOf sites own base lists =

@@ -31,3 +31,16 @@ pub mod Claim
 pub mod KeysLaws
 pub mod ValidLaws
 pub mod CourseLaws
+pub mod HistoryLaws
+pub mod QueueLaws
+pub mod CallLaws
+pub mod AccessLaws
+pub mod CommitLaws
+pub mod EntryLaws
+pub mod CertifyLaws
+pub mod MergerWords
+pub mod MergerClear
+pub mod MergerLaws
+pub mod MergerJoin
+pub mod MergerKept
+pub mod DeliverLaws

@@ -23,24 +23,24 @@ stageAt live i = partAt live i .course .stage
 unfoldable pub freePlace : List Sub → ℕ
 freePlace live = firstBelow (λ i. eqb (stageAt live i) stage.free) sizes.live
 
--- place i holds a part of transaction tx
-unfoldable pub holdsTx : List Sub → ℕ → ℕ → Bool
-holdsTx live tx i = every (not (eqb (stageAt live i) stage.free) ∷ eqb (partAt live i .tx) tx ∷ [])
+-- a part of transaction tx
+unfoldable pub isPartOf : Sub → ℕ → Bool
+isPartOf b tx = every (not (eqb (b .course .stage) stage.free) ∷ eqb (b .tx) tx ∷ [])
 
 -- the place of tx, or 16 where it is not held here
 unfoldable pub placeOf : List Sub → ℕ → ℕ
-placeOf live tx = firstBelow (holdsTx live tx) sizes.live
+placeOf live tx = firstBelow (λ i. isPartOf (partAt live i) tx) sizes.live
 
 unfoldable pub isHeld : List Sub → ℕ → Bool
 isHeld live tx = ltb (placeOf live tx) sizes.live
 
--- key k is held by a part other than that at `place`: it wrote k, and is neither installed nor aborted
-unfoldable pub holdsKey : List Sub → ℕ → ℕ → ℕ → Bool
-holdsKey live place k i =
-    every (not (eqb i place) ∷ not (eqb (stageAt live i) stage.free) ∷ wroteKey (partAt live i .keys) k ∷ [])
+-- the part at place i, which is not `place`, holds key k: it wrote k, and is neither installed nor aborted
+unfoldable pub otherHolds : ℕ → ℕ → ℕ → Sub → Bool
+otherHolds place k i b =
+    every (not (eqb i place) ∷ not (eqb (b .course .stage) stage.free) ∷ wroteKey (b .keys) k ∷ [])
 
 unfoldable pub keyHeld : List Sub → ℕ → ℕ → Bool
-keyHeld live place k = anyBelow (holdsKey live place k) sizes.live
+keyHeld live place k = anyBelow (λ i. otherHolds place k i (partAt live i)) sizes.live
 
 -- PREPARE taken, or the commit requested, and neither installed nor aborted
 unfoldable pub isPrepared : Sub → Bool

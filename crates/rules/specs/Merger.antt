@@ -33,6 +33,9 @@ pub record Merging : Type 0 where
 unfoldable pub mergerOutOf : Merging → MergerOut
 mergerOutOf e = record { answer = e .answer; words = length (e .words); merger = e .merger }
 
+abbrev pub doneMerger : Merger → List ℕ → Merging
+doneMerger g queues = record { answer = Done; words = []; merger = g; queues = queues }
+
 abbrev pub refusedMerger : ℕ → Merger → List ℕ → Merging
 refusedMerger n g queues = record { answer = Refused n; words = []; merger = g; queues = queues }
 
@@ -53,17 +56,17 @@ withSource g i c = record { house = g .house; sources = set (g .sources) i c }
 abbrev pub placeAt : ℕ → ℕ → ℕ
 placeAt i j = sizes.siteQueue * i + sizes.part * j
 
--- the words from place j of site i + 1 on, and the record there
-abbrev pub wordsFrom : List ℕ → ℕ → ℕ → List ℕ
-wordsFrom queues i j = drop (placeAt i j) queues
+-- the words of place j of site i + 1, and the record there
+unfoldable pub placeWords : List ℕ → ℕ → ℕ → List ℕ
+placeWords queues i j = take sizes.part (drop (placeAt i j) queues)
 
 unfoldable pub queuedPart : List ℕ → ℕ → ℕ → List ℕ
-queuedPart queues i j = take (getD (wordsFrom queues i j) word.length 0) (wordsFrom queues i j)
+queuedPart queues i j = take (getD (placeWords queues i j) word.length 0) (placeWords queues i j)
 
 -- A handed state: counts within the sizes, queued parts well made and of their site.
 unfoldable pub queuedOk : House → List ℕ → ℕ → ℕ → Bool
 queuedOk o queues i j =
-    every (leb (getD (wordsFrom queues i j) word.length 0) sizes.part
+    every (leb (getD (placeWords queues i j) word.length 0) sizes.part
     ∷ partOk o (queuedPart queues i j)
     ∷ eqb (recordHead (queuedPart queues i j) .site) (i + 1)
     ∷ [])
@@ -92,12 +95,9 @@ mergePart g queues m =
     let i = r .site - 1 in
     let c = sourceAt g i in
     unlessMerger (mergePartCode c r) g queues
-    (record {
-      answer = Done;
-      words = [];
-      merger = withSource g i (record { state = c .state; number = r .number; coordinator = r .coordinator; queued = c .queued + 1 });
-      queues = putAt (placeAt i (c .queued)) queues m;
-    })
+    (doneMerger
+    (withSource g i (record { state = c .state; number = r .number; coordinator = r .coordinator; queued = c .queued + 1 }))
+    (putAt (placeAt i (c .queued)) queues m))
 
 unfoldable pub mergeStateCode : Source → RecordHead → ℕ
 mergeStateCode c r = codeOf (cause (ltb (r .number) (c .state)) reason.behind ∷ [])
@@ -108,12 +108,9 @@ mergeState g queues m =
     let i = r .site - 1 in
     let c = sourceAt g i in
     unlessMerger (mergeStateCode c r) g queues
-    (record {
-      answer = Done;
-      words = [];
-      merger = withSource g i (record { state = r .number; number = c .number; coordinator = c .coordinator; queued = c .queued });
-      queues = queues;
-    })
+    (doneMerger
+    (withSource g i (record { state = r .number; number = c .number; coordinator = c .coordinator; queued = c .queued }))
+    queues)
 
 unfoldable pub mergeCode : Merger → List ℕ → List ℕ → ℕ
 mergeCode g queues m =
@@ -126,99 +123,133 @@ mergeOf g queues m =
     unlessMerger (mergeCode g queues m) g queues
     (pick (eqb (recordHead m .kind) kind.part) (mergePart g queues m) (mergeState g queues m))
 
--- Emit: g is the least head by (number, coordinator).
+-- Emit: the heads of the sites are one value, in the order by (number, coordinator).
 unfoldable pub headAt : List ℕ → ℕ → RecordHead
-headAt queues i = recordHead (wordsFrom queues i 0)
+headAt queues i = recordHead (placeWords queues i 0)
 
-abbrev pub hasHead : Merger → ℕ → Bool
+abbrev pub noHead : RecordHead
+noHead = record { kind = 0; site = 0; number = 0; coordinator = 0; tx = 0; mask = 0; count = 0 }
+
+unfoldable pub headsOf : List ℕ → ℕ → List RecordHead
+headsOf queues n = foldBelow (λ i l. set l i (headAt queues i)) n (replicate sizes.sites noHead)
+
+abbrev pub headIn : List RecordHead → ℕ → RecordHead
+headIn heads i = getD heads i noHead
+
+abbrev pub headBefore : RecordHead → RecordHead → Bool
+headBefore a b = precedes (a .number) (a .coordinator) (b .number) (b .coordinator)
+
+-- which of them count: those of the sites that have a part queued
+unfoldable pub hasHead : Merger → ℕ → Bool
 hasHead g i = ltb 0 (sourceAt g i .queued)
 
 -- the better of the best site index so far and i; 8 for none
-unfoldable pub betterHead : Merger → List ℕ → ℕ → ℕ → ℕ
-betterHead g queues i best =
-    pick (hasHead g i)
-    (pick (ltb best sizes.sites)
-    (pick (precedes (headAt queues i .number) (headAt queues i .coordinator) (headAt queues best .number) (headAt queues best .coordinator)) i best)
-    i)
-    best
+unfoldable pub betterHead : Merger → List RecordHead → ℕ → ℕ → ℕ
+betterHead g heads i best =
+    pick (hasHead g i) (pick (ltb best sizes.sites) (pick (headBefore (headIn heads i) (headIn heads best)) i best) i) best
 
-unfoldable pub leastHead : Merger → List ℕ → ℕ → ℕ
-leastHead g queues n = foldBelow (betterHead g queues) n sizes.sites
+-- the site index of g, the least head; 8 for none
+unfoldable pub leastHead : Merger → List RecordHead → ℕ → ℕ
+leastHead g heads n = foldBelow (betterHead g heads) n sizes.sites
 
--- due when every site of the house has a queued part or a state number at or above the head's number
+-- g itself, of the heads as they stand in the queues
+abbrev pub leastSite : Merger → List ℕ → ℕ
+leastSite g queues = leastHead g (headsOf queues (g .house .sites)) (g .house .sites)
+
+abbrev pub dueHead : Merger → List ℕ → RecordHead
+dueHead g queues = headIn (headsOf queues (g .house .sites)) (leastSite g queues)
+
+-- due when every site of the house has a queued part or a state number at or above g's number
 unfoldable pub isDueAt : Merger → ℕ → ℕ → Bool
 isDueAt g number i = pick (hasHead g i) true (leb number (sourceAt g i .state))
 
-unfoldable pub isDue : Merger → List ℕ → ℕ → Bool
-isDue g queues least =
-    every (ltb least sizes.sites ∷ allBelow (isDueAt g (headAt queues least .number)) (g .house .sites) ∷ [])
+unfoldable pub isDue : Merger → List RecordHead → ℕ → Bool
+isDue g heads least =
+    every (ltb least sizes.sites ∷ allBelow (isDueAt g (headIn heads least .number)) (g .house .sites) ∷ [])
 
--- site i + 1 has a head of that pair
-unfoldable pub hasPart : Merger → List ℕ → RecordHead → ℕ → Bool
-hasPart g queues r i =
-    every (hasHead g i ∷ eqb (headAt queues i .number) (r .number) ∷ eqb (headAt queues i .coordinator) (r .coordinator) ∷ [])
+-- site i + 1 has a head of r's pair
+unfoldable pub hasPart : Merger → List RecordHead → RecordHead → ℕ → Bool
+hasPart g heads r i =
+    every (hasHead g i ∷ eqb (headIn heads i .number) (r .number) ∷ eqb (headIn heads i .coordinator) (r .coordinator) ∷ [])
 
--- it has one where the mask names it, and not elsewhere, and its parts agree in words 5 and 6
-unfoldable pub isWholeAt : Merger → List ℕ → RecordHead → ℕ → Bool
-isWholeAt g queues r i =
+-- it has one where r's mask names it, and not elsewhere, and agrees with r in words 5 and 6
+unfoldable pub isWholeAt : Merger → List RecordHead → RecordHead → ℕ → Bool
+isWholeAt g heads r i =
     pick (inMask (r .mask) (i + 1))
-    (every (hasPart g queues r i ∷ eqb (headAt queues i .tx) (r .tx) ∷ eqb (headAt queues i .mask) (r .mask) ∷ []))
-    (not (hasPart g queues r i))
+    (every (hasPart g heads r i ∷ eqb (headIn heads i .tx) (r .tx) ∷ eqb (headIn heads i .mask) (r .mask) ∷ []))
+    (not (hasPart g heads r i))
 
-unfoldable pub isWhole : Merger → List ℕ → RecordHead → Bool
-isWhole g queues r = allBelow (isWholeAt g queues r) (g .house .sites)
+unfoldable pub isWhole : Merger → List RecordHead → RecordHead → Bool
+isWhole g heads r = allBelow (isWholeAt g heads r) (g .house .sites)
 
-unfoldable pub emitCode : Merger → List ℕ → ℕ → ℕ → ℕ
-emitCode g queues room least =
-    codeOf (cause (ltb room sizes.merged) reason.short
-    ∷ cause (not (mergerOk g queues)) reason.malformed
-    ∷ cause (every (isDue g queues least ∷ not (isWhole g queues (headAt queues least)) ∷ [])) reason.notWhole
-    ∷ cause (not (isDue g queues least)) reason.nothing
+unfoldable pub dueCode : Merger → List RecordHead → ℕ → ℕ
+dueCode g heads least =
+    codeOf (cause (every (isDue g heads least ∷ not (isWhole g heads (headIn heads least)) ∷ [])) reason.notWhole
+    ∷ cause (not (isDue g heads least)) reason.nothing
     ∷ [])
 
--- the writes of the parts of the pair among the first n sites, by key ascending since sites hold ascending keys
-unfoldable pub partWrites : Merger → List ℕ → RecordHead → ℕ → List ℕ
-partWrites g queues r i = pick (hasPart g queues r i) (recordWrites (queuedPart queues i 0)) []
+-- the writes of a whole record's parts among the first n sites, by key ascending since sites hold ascending keys
+unfoldable pub partWrites : List ℕ → ℕ → ℕ → List ℕ
+partWrites queues mask i = pick (inMask mask (i + 1)) (recordWrites (queuedPart queues i 0)) []
 
-unfoldable pub joinedWrites : Merger → List ℕ → RecordHead → ℕ → List ℕ
-joinedWrites g queues r n = foldBelow (λ i ws. ws ++ partWrites g queues r i) n []
+unfoldable pub joinedWrites : List ℕ → ℕ → ℕ → List ℕ
+joinedWrites queues mask n = foldBelow (λ i ws. ws ++ partWrites queues mask i) n []
 
 abbrev pub writesIn : List ℕ → ℕ
 writesIn ws = length ws / sizes.write
 
-unfoldable pub mergedWords : Merger → List ℕ → RecordHead → List ℕ
-mergedWords g queues r =
-    let ws = joinedWrites g queues r (g .house .sites) in
-    recordWords
-    (record { kind = kind.merged; site = 0; number = r .number; coordinator = r .coordinator; tx = r .tx; mask = r .mask; count = writesIn ws })
-    ws
+abbrev pub mergedHead : RecordHead → ℕ → RecordHead
+mergedHead r count =
+    record { kind = kind.merged; site = 0; number = r .number; coordinator = r .coordinator; tx = r .tx; mask = r .mask; count = count }
+
+unfoldable pub mergedWords : List ℕ → ℕ → RecordHead → List ℕ
+mergedWords queues n r =
+    let ws = joinedWrites queues (r .mask) n in
+    recordWords (mergedHead r (writesIn ws)) ws
 
 -- a site's queue without its head: the places behind it move up, and the last is 0
-unfoldable pub shifted : List ℕ → ℕ → List ℕ
-shifted queues i =
-    putAt (sizes.siteQueue * i) queues
-    (take (sizes.siteQueue - sizes.part) (drop (sizes.siteQueue * i + sizes.part) queues) ++ replicate sizes.part 0)
+abbrev pub behindHead : List ℕ → List ℕ
+behindHead ws = drop sizes.part ws ++ replicate sizes.part 0
 
-unfoldable pub popQueues : Merger → List ℕ → RecordHead → ℕ → List ℕ
-popQueues g queues r n = foldBelow (λ i q. pick (hasPart g queues r i) (shifted q i) q) n queues
+unfoldable pub siteWords : List ℕ → ℕ → List ℕ
+siteWords queues i = take sizes.siteQueue (drop (sizes.siteQueue * i) queues)
+
+unfoldable pub popQueue : List ℕ → ℕ → List ℕ
+popQueue queues i = putAt (sizes.siteQueue * i) queues (behindHead (siteWords queues i))
+
+unfoldable pub popQueueAt : ℕ → ℕ → List ℕ → List ℕ
+popQueueAt mask i queues = pick (inMask mask (i + 1)) (popQueue queues i) queues
+
+unfoldable pub popQueues : List ℕ → ℕ → ℕ → List ℕ
+popQueues queues mask n = foldBelow (popQueueAt mask) n queues
 
 abbrev pub popSource : Source → Source
 popSource c = record { state = c .state; number = c .number; coordinator = c .coordinator; queued = c .queued - 1 }
 
-unfoldable pub popMerger : Merger → List ℕ → RecordHead → ℕ → Merger
-popMerger g queues r n = foldBelow (λ i h. pick (hasPart g queues r i) (withSource h i (popSource (sourceAt h i))) h) n g
+unfoldable pub popMergerAt : ℕ → ℕ → Merger → Merger
+popMergerAt mask i g = pick (inMask mask (i + 1)) (withSource g i (popSource (sourceAt g i))) g
+
+unfoldable pub popMerger : Merger → ℕ → ℕ → Merger
+popMerger g mask n = foldBelow (popMergerAt mask) n g
+
+unfoldable pub emitDue : Merger → List ℕ → List RecordHead → ℕ → Merging
+emitDue g queues heads least =
+    let r = headIn heads least in
+    unlessMerger (dueCode g heads least) g queues
+    (record {
+      answer = Emitted (r .number) (r .coordinator) (r .tx);
+      words = mergedWords queues (g .house .sites) r;
+      merger = popMerger g (r .mask) (g .house .sites);
+      queues = popQueues queues (r .mask) (g .house .sites);
+    })
+
+unfoldable pub emitCode : Merger → List ℕ → ℕ → ℕ
+emitCode g queues room =
+    codeOf (cause (ltb room sizes.merged) reason.short ∷ cause (not (mergerOk g queues)) reason.malformed ∷ [])
 
 unfoldable pub emitOf : Merger → ℕ → List ℕ → Merging
 emitOf g room queues =
-    let least = leastHead g queues (g .house .sites) in
-    let r = headAt queues least in
-    unlessMerger (emitCode g queues room least) g queues
-    (record {
-      answer = Emitted (r .number) (r .coordinator) (r .tx);
-      words = mergedWords g queues r;
-      merger = popMerger g queues r (g .house .sites);
-      queues = popQueues g queues r (g .house .sites);
-    })
+    unlessMerger (emitCode g queues room) g queues (emitDue g queues (headsOf queues (g .house .sites)) (leastSite g queues))
 
 -- Start.
 unfoldable pub freshMerger : ℕ → Merger
@@ -232,5 +263,5 @@ unfoldable pub mergerStartOf : ℕ → List ℕ → Merging
 mergerStartOf sites queues =
     let code = mergerStartCode sites (length queues) in
     pick (eqb code 0)
-    (record { answer = Done; words = []; merger = freshMerger sites; queues = replicate (length queues) 0 })
-    (record { answer = Refused code; words = []; merger = freshMerger 0; queues = queues })
+    (doneMerger (freshMerger sites) (replicate (length queues) 0))
+    (refusedMerger code (freshMerger 0) queues)

@@ -2,15 +2,14 @@
 use Prim.Native.Nat.{ℕ, zero, suc, _+_, _*_, _≤_, _<_}
 use mathlib.Core.Path.{_≡_, refl, ap, sym, _∙_}
 use mathlib.Core.List.{List, [], _∷_, _++_}
-use mathlib.Core.Bool.{Bool, true, false, not}
-use native.Mathlib.Nat.{add-zero, add-suc, suc-add}
+use mathlib.Core.Bool.{true}
+use native.Mathlib.Nat.{add-zero}
 use native.Mathlib.Omega.{arith}
 use borrow.Author.Tests.{leb-true, eqb-true, eqb-false, le-leb, eq-eqb, ne-eqb, not-true}
-use lib.ListN.{length, getD, drop, length-append, length-drop}
+use lib.ListN.{length, getD, drop, length-drop}
 use lib.Seq.{drop-cons}
 use lib.Dec.{leb, eqb}
-use Rattle.laws.specs.Choice.{pick, every, every-at, by-test}
-use Rattle.laws.specs.Scan.{allBelow}
+use Rattle.laws.specs.Choice.{every-at, by-test}
 use Rattle.kinds.specs.Sizes as sizes
 use Rattle.kinds.specs.Kind as kind
 use Rattle.kinds.specs.Word as word

@@ -17,12 +17,13 @@ use Rattle.rules.specs.Live.{partAt, isQueued}
 unfoldable pub queuedBefore : Sub → Sub → Bool
 queuedBefore a b = precedes (a .course .number) (a .tx) (b .course .number) (b .tx)
 
--- the better of the best place so far and place i; 16 for none
+-- part b is queued and before the best so far, `first` at place `best`; 16 for none
+unfoldable pub comesFirst : Sub → ℕ → Sub → Bool
+comesFirst b best first = every (isQueued b ∷ some (leb sizes.live best ∷ queuedBefore b first ∷ []) ∷ [])
+
+-- the better of the best place so far and place i
 unfoldable pub betterPlace : List Sub → ℕ → ℕ → ℕ
-betterPlace live i best =
-    pick (isQueued (partAt live i))
-    (pick (ltb best sizes.live) (pick (queuedBefore (partAt live i) (partAt live best)) i best) i)
-    best
+betterPlace live i best = pick (comesFirst (partAt live i) best (partAt live best)) i best
 
 -- the place of the queue's least among the first n places, or 16
 unfoldable pub leastQueued : List Sub → ℕ → ℕ

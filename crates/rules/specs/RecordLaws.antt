@@ -1,10 +1,10 @@
 -- Laws of the record layouts: what is written passes its check and reads back; the check passes nothing else; no words are a message and a record.
-use Prim.Native.Nat.{ℕ, _+_, _*_, _≤_, _<_}
-use mathlib.Core.Path.{_≡_, refl, ap, sym, _∙_}
-use mathlib.Core.List.{List, [], _∷_, _++_}
+use Prim.Native.Nat.{ℕ, _*_, _≤_, _<_}
+use mathlib.Core.Path.{_≡_, refl, sym, _∙_}
+use mathlib.Core.List.{List}
 use mathlib.Core.Bool.{Bool, true, false}
 use native.Mathlib.Omega.{arith}
-use borrow.Author.Tests.{leb-true, eqb-true, le-leb, eq-eqb, ne-eqb}
+use borrow.Author.Tests.{leb-true, eqb-true, le-leb, eq-eqb}
 use lib.ListN.{length, getD, length-drop}
 use lib.Dec.{eqb}
 use Rattle.laws.specs.Choice.{every-at, by-test}
@@ -14,7 +14,7 @@ use Rattle.kinds.specs.Word as word
 use Rattle.kinds.specs.declared.House.{House}
 use Rattle.kinds.specs.declared.RecordHead.{RecordHead}
 use Rattle.rules.specs.House.{isSite, isTx, isMask, inMask, coordinatorOf, wholeHouse}
-use Rattle.rules.specs.Message.{messageHead, headOk, messageOk, messageTests}
+use Rattle.rules.specs.Message.{messageHead, messageOk, messageTests}
 use Rattle.rules.specs.MessageLaws as message
 use Rattle.rules.specs.MessageLaws.{front-rest}
 use Rattle.rules.specs.Record.{writeOffset, recordLength, recordWords, recordHead, recordWrites, pairTests, pairOk, partHeadTests, partHeadOk, stateHeadTests, stateHeadOk, mergedHeadTests, mergedHeadOk, shapeTests, recordShape, partTests, partOk, stateTests, stateOk, mergedTests, mergedOk, GoodPart, GoodState, GoodMerged}

@@ -1,18 +1,17 @@
 -- Laws of outgoing messages: they fit the buffer, and step the count of each recipient once.
 use Prim.Native.Nat.{ℕ, zero, suc, _+_, _*_, _≤_, _<_}
-use mathlib.Core.Path.{_≡_, refl, ap, sym, _∙_}
-use mathlib.Core.List.{List, [], _∷_, _++_}
+use mathlib.Core.Path.{_≡_, refl, ap, _∙_}
+use mathlib.Core.List.{List, [], _++_}
 use mathlib.Core.Bool.{Bool, true, false, not}
 use mathlib.Core.Logic.{⊎-elim}
 use native.Mathlib.Nat.{eq-or-lt-of-le}
 use native.Mathlib.Omega.{arith}
 use native.Mathlib.Numerals.{add-one}
 use borrow.Author.Tests.{eq-eqb, leb-true, leb-false}
-use lib.ListN.{length, getD, set, length-append, length-set}
+use lib.ListN.{length, getD, length-append, length-set}
 use lib.Seq.{getD-set-same, getD-set-other}
-use lib.Dec.{eqb, leb}
+use lib.Dec.{leb}
 use Rattle.laws.specs.Choice.{pick, pick-same, by-test}
-use Rattle.laws.specs.Digits.{digit}
 use Rattle.laws.specs.Scan.{foldBelow, fold-more, split-last}
 use Rattle.kinds.specs.Sizes as sizes
 use Rattle.kinds.specs.declared.MessageHead.{MessageHead}

@@ -1,15 +1,15 @@
 -- 01, "Sizes of a house": what a state that is not refused 2 satisfies, by name.
 use Prim.Native.Nat.{ℕ, zero, suc, _+_, _-_, _*_, _^_, _≤_, _<_}
-use mathlib.Core.Path.{_≡_, refl, sym, _∙_}
+use mathlib.Core.Path.{_≡_}
 use mathlib.Core.List.{List, [], _∷_}
-use mathlib.Core.Bool.{Bool, true, false, not}
+use mathlib.Core.Bool.{true, false, not}
 use native.Mathlib.Nat.{pow-le-pow-right}
 use native.Mathlib.Omega.{arith}
 use borrow.Author.Tests.{ltb-true, ltb-false, leb-true, eqb-true, eqb-false, not-true}
 use lib.ListN.{getD}
 use lib.Dec.{ltb, leb, eqb, lit<}
-use Rattle.laws.specs.Choice.{every, every-at, by-test}
-use Rattle.laws.specs.Scan.{allBelow, all-below-at, split-last}
+use Rattle.laws.specs.Choice.{every-at, by-test}
+use Rattle.laws.specs.Scan.{all-below-at, split-last}
 use Rattle.laws.specs.Digits.{digit, onesBelow, digit-le, ones-most}
 use Rattle.kinds.specs.Sizes as sizes
 use Rattle.kinds.specs.Stage as stage
@@ -23,6 +23,8 @@ use Rattle.kinds.specs.declared.Site.{Site}
 use Rattle.kinds.specs.State.{pastSub, pastEntry, subAt, entryAt}
 use Rattle.rules.specs.House.{houseOk, isSite, siteOf, isMask, inMask, participants, participants-sites}
 use Rattle.rules.specs.Keys.{keysAt, keysOk}
+use Rattle.rules.specs.History.{forgotten, slotOf, recall}
+use Rattle.rules.specs.HistoryLaws.{slot-low}
 use Rattle.rules.specs.Valid.{courseOk, subOk, entryOk, countersOk, liveOk, historyOk, siteOk}
 
 -- The house and the site in it.
@@ -77,7 +79,7 @@ pub mask-low : (o : House) (m : ℕ) → o .sites ≤ 8 → isMask o m ≡ true 
 unfolding isMask
 mask-low o m h t = omega (arith, ltb-true m (2 ^ o .sites) t, pow-le-pow-right (lit< {m = 0} {n = 2} tt) {i = o .sites} {j = 8} h)
 
--- a mask that lacks one of the eight sites has at most seven; two, six
+-- a mask has at most eight sites; one that lacks a site seven, and one that lacks two six
 digit-none : (mask s : ℕ) → inMask mask s ≡ false → digit mask (s - 1) ≡ 0
 unfolding inMask
 digit-none mask s t =
@@ -104,6 +106,9 @@ ones-lack-two mask (suc k) s r l h e f =
     split-last h
     (λ (z : r ≡ k). let f′ = rw z at f in omega (arith, ones-lack mask k s (omega arith) e))
     (λ (z : r < k). omega (arith, ones-lack-two mask k s r l z e f, digit-le mask k))
+
+pub participants-few : (mask : ℕ) → mask < 256 → participants mask ≤ 8
+participants-few mask h = omega (arith, participants-sites mask h, ones-most mask 8)
 
 pub participants-lack : (mask s : ℕ) → mask < 256 → 1 ≤ s → s ≤ 8 → inMask mask s ≡ false → participants mask ≤ 7
 participants-lack mask s h l k t =
@@ -180,11 +185,11 @@ valid-entry o own e h t =
       keys = valid-keys o own (e .keys) (omega arith) (every-at l 1 t);
     }
 
-counters-own : (o : House) (c : Counters) → countersOk o c ≡ true → isSite o (c .own) ≡ true
+pub counters-own : (o : House) (c : Counters) → countersOk o c ≡ true → isSite o (c .own) ≡ true
 unfolding countersOk
 counters-own o c t = every-at (isSite o (c .own) ∷ leb (c .serial) sizes.lastSerial ∷ []) 0 t
 
-counters-serial : (o : House) (c : Counters) → countersOk o c ≡ true → c .serial < 4294967296
+pub counters-serial : (o : House) (c : Counters) → countersOk o c ≡ true → c .serial < 4294967296
 unfolding countersOk
 counters-serial o c t = omega (arith, leb-true (c .serial) sizes.lastSerial (every-at (isSite o (c .own) ∷ leb (c .serial) sizes.lastSerial ∷ []) 1 t))
 
@@ -209,3 +214,16 @@ valid-site s t =
       part = λ i q. valid-sub o own (subAt s i) h (live-at o own (s .live) i (every-at l 2 t) q);
       entry = λ i q. valid-entry o own (entryAt s i) h (history-at o own (s .history) i (every-at l 3 t) q);
     }
+
+-- What the scans of the tables ask for.
+pub live-wrote : (s : Site) → siteOk s ≡ true → (i : ℕ) → i < 16 → subAt s i .keys .wrote ≤ 16
+live-wrote s t i h = valid-site s t .part i h .keys .few-wrote
+
+pub history-wrote : (s : Site) → siteOk s ≡ true → (i : ℕ) → i < 32 → entryAt s i .keys .wrote ≤ 16
+history-wrote s t i h = valid-site s t .entry i h .keys .few-wrote
+
+-- each remembered install lies in a slot of the history
+pub valid-recall : (s : Site) → siteOk s ≡ true → (i : ℕ) → ValidEntry (s .house) (s .counters .own) (recall (s .history) (s .counters .installs) i)
+valid-recall s t i =
+    let n = forgotten (s .counters .installs) + i in
+    valid-site s t .entry (slotOf n) (slot-low n)

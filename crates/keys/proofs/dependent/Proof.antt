@@ -3,7 +3,6 @@ use mathlib.Core.Path.{sym, _∙_}
 use borrow.Author.Needs.{needs}
 use Rattle.laws.specs.Choice.{pick-self}
 use Rattle.rules.specs.Keys.{dependent}
-use Rattle.rules.specs.KeysLaws.{common-key}
 use Rattle.keys.proofs.dependent.Statement.{statement}
 use Rattle.keys.proofs.dependent.Tie as tie
 

@@ -18,6 +18,9 @@ old : (b : Keys) (k r : ℕ) → r ≡ keyPlace (b .writes) (b .wrote) k → r <
 unfolding wroteKey
 old b k r e l = lt-ltb (keyPlace (b .writes) (b .wrote) k) (b .wrote) (omega arith)
 
+room : (c : tie.Else1) → c .before .before .before .before .before .args .t1 .wrote < 16
+room c = c .before .before .before .before .before .pre .1 (new _ _ _ (c .before .key-place .ensures) (c .if1 .left))
+
 key-place-requires : tie.Need-key-place-requires
 key-place-requires c κs = search needs
 
@@ -32,19 +35,19 @@ unfolding withWrite
 returns c = simp (old (c .before .before .before .before .before .args .t1) (c .before .before .before .before .before .args .k) _ (c .before .key-place .ensures) (c .if1 .taken), ← c .before .key-place .ensures)
 
 mul-c-2 : tie.Need-mul-c-2
-mul-c-2 c = let h = c .before .before .before .before .before .pre .1 (new _ _ _ (c .before .key-place .ensures) (c .if1 .left)) in omega arith
+mul-c-2 c = let h = room c in omega arith
 
 element-write-c-2 : tie.Need-element-write-c-2
-element-write-c-2 c = let h = c .before .before .before .before .before .pre .1 (new _ _ _ (c .before .key-place .ensures) (c .if1 .left)) in omega arith
+element-write-c-2 c = room c
 
 mul-c-3 : tie.Need-mul-c-3
-mul-c-3 c = let h = c .before .before .before .before .before .pre .1 (new _ _ _ (c .before .key-place .ensures) (c .if1 .left)) in omega arith
+mul-c-3 c = let h = room c in omega arith
 
 element-write-c-3 : tie.Need-element-write-c-3
-element-write-c-3 c = let h = c .before .before .before .before .before .pre .1 (new _ _ _ (c .before .key-place .ensures) (c .if1 .left)) in omega arith
+element-write-c-3 c = room c
 
 add-c : tie.Need-add-c
-add-c c = let h = c .before .before .before .before .before .pre .1 (new _ _ _ (c .before .key-place .ensures) (c .if1 .left)) in omega arith
+add-c c = let h = room c in omega arith
 
 returns-2 : tie.Need-returns-2
 unfolding withWrite

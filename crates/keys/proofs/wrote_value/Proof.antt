@@ -1,27 +1,24 @@
 -- The key was written, so its place is below the count.
-use Prim.Native.Nat.{ℕ, _<_}
-use mathlib.Core.Path.{_≡_}
-use mathlib.Core.Bool.{true}
+use Prim.Native.Nat.{_<_}
 use native.Mathlib.Omega.{arith}
 use borrow.Author.Needs.{needs}
 use borrow.Author.Tests.{ltb-true}
-use Rattle.rules.specs.Keys.{keyPlace, wroteKey, wroteValue}
-use Rattle.kinds.specs.declared.Keys.{Keys}
+use Rattle.rules.specs.Keys.{wroteKey, wroteValue}
 use Rattle.keys.proofs.wrote_value.Statement.{statement}
 use Rattle.keys.proofs.wrote_value.Tie as tie
 
-place : (b : Keys) (k r : ℕ) → wroteKey b k ≡ true → r ≡ keyPlace (b .writes) (b .wrote) k → r < b .wrote
+low : (c : tie.After-key-place) → c .key-place .result < c .before .before .before .before .args .t1 .wrote
 unfolding wroteKey
-place b k r t e = rw e (ltb-true _ _ t)
+low c = rw (c .key-place .ensures) (ltb-true _ _ (c .before .before .before .before .pre .1))
 
 key-place-requires : tie.Need-key-place-requires
 key-place-requires c κs = search needs
 
 mul-result : tie.Need-mul-result
-mul-result c = let h = place _ _ _ (c .before .before .before .before .pre .1) (c .key-place .ensures) in omega arith
+mul-result c = let h = low c in omega arith
 
 element-copy-out-result : tie.Need-element-copy-out-result
-element-copy-out-result c = let h = place _ _ _ (c .before .before .before .before .pre .1) (c .key-place .ensures) in omega arith
+element-copy-out-result c = let h = low c in omega arith
 
 returns : tie.Need-returns
 unfolding wroteValue

@@ -7,7 +7,7 @@ use Rattle.course.proofs.coordinator.cast_yes.Statement.{statement}
 use Rattle.course.proofs.coordinator.cast_yes.Tie as tie
 use Rattle.course.proofs.coordinator.cast_yes.Reads as reads
 use Rattle.course.proofs.coordinator.cast_yes.Lts as lts
-use Rattle.course.proofs.coordinator.all_heard.Reads as all-heard-reads
+use Rattle.live.proofs.all_heard.Reads as all-heard-reads
 use Rattle.course.proofs.coordinator.decide_step.Reads as decide-step-reads
 use Rattle.course.proofs.send.send_all.Reads as send-all-reads
 use Rattle.course.proofs.turn.with_course.Reads as with-course-reads

@@ -1,11 +1,8 @@
+-- Ones of the one mask against ones of the other, less one.
 use borrow.Author.Needs.{needs}
 use Rattle.rules.specs.Live.{allHeard}
-use Rattle.course.proofs.coordinator.all_heard.Statement.{statement}
-use Rattle.course.proofs.coordinator.all_heard.Tie as tie
-use Rattle.course.proofs.coordinator.all_heard.Reads as reads
-use Rattle.course.proofs.coordinator.all_heard.Lts as lts
-use Rattle.numbers.proofs.participants.Reads as participants-reads
-use Rattle.numbers.proofs.replies_wanted.Reads as replies-wanted-reads
+use Rattle.live.proofs.all_heard.Statement.{statement}
+use Rattle.live.proofs.all_heard.Tie as tie
 
 participants-requires : tie.Need-participants-requires
 participants-requires c κs = search needs

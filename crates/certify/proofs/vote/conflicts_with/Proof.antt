@@ -1,0 +1,94 @@
+-- No entry passed is for the install and in conflict: it is for another, or neither marked nor dependent.
+use Prim.Native.Nat.{_-_, _≤_}
+use borrow.Author.Count.{below-more}
+use borrow.Author.Needs.{needs}
+use borrow.Author.Tests.{eq-eqb, ne-eqb}
+use lib.Dec.{eqb}
+use mathlib.Core.List.{[], _∷_}
+use mathlib.Core.Logic.{⊎-elim}
+use native.Mathlib.Omega.{arith}
+use Rattle.laws.specs.Choice.{every, some}
+use Rattle.laws.specs.Scan.{NoneBelow, any-below, any-end, none-none}
+use Rattle.rules.specs.Certify.{conflictsAt}
+use Rattle.rules.specs.Keys.{dependent}
+use Rattle.rules.specs.Message.{entryMark, entryTx}
+use Rattle.certify.proofs.vote.conflicts_with.Statement.{statement}
+use Rattle.certify.proofs.vote.conflicts_with.Tie as tie
+
+abbrev Inv-loop : tie.InvT-loop
+Inv-loop es n own tx other i₀ i = (i ≤ n) × NoneBelow (λ j. every (eqb (entryTx es j) tx ∷ some (eqb (entryMark es j) 1 ∷ dependent own other ∷ []) ∷ [])) i
+
+abbrev μ-loop : tie.MeasureT-loop
+μ-loop es n own tx other i₀ i = n - i
+
+loop-holds : tie.Need-loop-holds Inv-loop μ-loop
+loop-holds c = (search needs, none-none _)
+
+mul-at : tie.Need-mul-at Inv-loop μ-loop
+mul-at c = search needs
+
+add-if1 : tie.Need-add-if1 Inv-loop μ-loop
+add-if1 c = search needs
+
+mul-if1 : tie.Need-mul-if1 Inv-loop μ-loop
+mul-if1 c = search needs
+
+shared-slice-read-if1 : tie.Need-shared-slice-read-if1 Inv-loop μ-loop
+shared-slice-read-if1 c = search needs
+
+add-is-conflict : tie.Need-add-is-conflict Inv-loop μ-loop
+add-is-conflict c = search needs
+
+mul-is-conflict : tie.Need-mul-is-conflict Inv-loop μ-loop
+mul-is-conflict c = search needs
+
+shared-slice-read-is-conflict : tie.Need-shared-slice-read-is-conflict Inv-loop μ-loop
+shared-slice-read-is-conflict c = search needs
+
+is-conflict-requires : tie.Need-is-conflict-requires Inv-loop μ-loop
+is-conflict-requires c κs = search needs
+
+returns : tie.Need-returns Inv-loop μ-loop
+unfolding conflictsAt
+returns c = any-below _ _ (c .before .before .before .before .before .before .loop .i) (c .before .before .before .before .before .loop-test .taken) (rw (eq-eqb _ _ (c .before .before .before .if1 .taken), ← c .before .is-conflict .ensures, c .if2 .taken))
+
+add-i : tie.Need-add-i Inv-loop μ-loop
+add-i c = search needs
+
+loop-less : tie.Need-loop-less Inv-loop μ-loop
+loop-less c = search needs
+
+loop-again : tie.Need-loop-again Inv-loop μ-loop
+loop-again c = (
+  omega arith,
+  below-more _ _ (c .before .before .before .loop .inv .1)
+      (⊎-elim
+      (λ w. rw (eq-eqb _ _ (w .0 .taken), ← w .2 .ensures, w .3 .left))
+      (λ w. rw (ne-eqb _ _ (w .left)))
+      (c .if1 .came)),
+)
+
+returns-2 : tie.Need-returns-2 Inv-loop μ-loop
+unfolding conflictsAt
+returns-2 c = any-end _ _ _ (c .loop-test .left) (c .before .loop .inv .1)
+
+pub conflicts-with-spec : {M : Type 1} → statement M
+conflicts-with-spec =
+    tie.close
+    (tie.spec
+    Inv-loop
+    μ-loop
+    loop-holds
+    mul-at
+    add-if1
+    mul-if1
+    shared-slice-read-if1
+    add-is-conflict
+    mul-is-conflict
+    shared-slice-read-is-conflict
+    is-conflict-requires
+    returns
+    add-i
+    loop-less
+    loop-again
+    returns-2)

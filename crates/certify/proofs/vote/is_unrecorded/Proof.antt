@@ -1,0 +1,22 @@
+-- Both tests: it names this site, and is not among those on record.
+use borrow.Author.Needs.{needs}
+use borrow.Author.Tests.{not-false, not-true}
+use mathlib.Core.Path.{_∙_, sym}
+use Rattle.laws.specs.Choice.{pick-self}
+use Rattle.certify.proofs.vote.is_unrecorded.Statement.{statement}
+use Rattle.certify.proofs.vote.is_unrecorded.Tie as tie
+
+in-mask-requires : tie.Need-in-mask-requires
+in-mask-requires c κs = search needs
+
+returns : tie.Need-returns
+returns c = rw (sym (c .before .in-mask .ensures) ∙ not-true (c .before .in-mask .result) (c .if1 .taken))
+
+is-among-requires : tie.Need-is-among-requires
+is-among-requires c κs = search needs
+
+returns-2 : tie.Need-returns-2
+returns-2 c = rw (sym (c .before .before .in-mask .ensures) ∙ not-false (c .before .before .in-mask .result) (c .before .if1 .left), ← c .is-among .ensures) (sym (pick-self _))
+
+pub is-unrecorded-spec : {M : Type 1} → statement M
+is-unrecorded-spec = tie.close (tie.spec in-mask-requires returns is-among-requires returns-2)

@@ -1,0 +1,33 @@
+use Prim.Native.Nat.{_+_}
+use borrow.Author.Needs.{needs}
+use borrow.Author.Tests.{eq-eqb, ne-eqb}
+use mathlib.Core.Path.{_≡_}
+use native.Mathlib.Omega.{arith}
+use Rattle.rules.specs.CallLaws.{pred-is}
+use Rattle.rules.specs.Deliver.{nextCode}
+use Rattle.deliver.proofs.codes.next_code.Statement.{statement}
+use Rattle.deliver.proofs.codes.next_code.Tie as tie
+use Rattle.deliver.proofs.codes.next_code.Reads as reads
+use Rattle.deliver.proofs.codes.next_code.Lts as lts
+
+returns : tie.Need-returns
+unfolding nextCode
+returns c = simp (ne-eqb (c .before .args .to) (c .before .args .own) (c .if1 .taken))
+
+returns-2 : tie.Need-returns-2
+unfolding nextCode
+returns-2 c = simp (eq-eqb (c .before .before .args .to) (c .before .before .args .own) (c .before .if1 .left), ne-eqb (c .before .before .args .channel) (c .before .before .args .taken + 1) (λ e. omega (arith, e, c .if2 .taken)))
+
+sub-if3 : tie.Need-sub-if3
+sub-if3 c = search needs
+
+returns-3 : tie.Need-returns-3
+unfolding nextCode
+returns-3 c = simp (eq-eqb (c .before .before .before .args .to) (c .before .before .before .args .own) (c .before .before .if1 .left), ne-eqb (c .before .before .before .args .channel) (c .before .before .before .args .taken + 1) (λ e. c .if3 .taken (omega (arith, e))))
+
+returns-4 : tie.Need-returns-4
+unfolding nextCode
+returns-4 c = let q : c .before .before .before .args .channel ≡ c .before .before .before .args .taken + 1 = pred-is (c .before .before .before .args .channel) (c .before .before .before .args .taken) (c .before .if2 .left) (c .if3 .left) in simp (eq-eqb (c .before .before .before .args .to) (c .before .before .before .args .own) (c .before .before .if1 .left), eq-eqb (c .before .before .before .args .channel) (c .before .before .before .args .taken + 1) q)
+
+pub next-code-spec : {M : Type 1} → statement M
+next-code-spec = tie.close (tie.spec returns returns-2 sub-if3 returns-3 returns-4)

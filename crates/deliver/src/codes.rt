@@ -1,0 +1,51 @@
+// Causes of refusal of a message.
+use kinds::reason::{ELSEWHERE, MALFORMED, NOT_NEXT, SHORT, SPENT, STAGE};
+use kinds::sizes::OUTGOING;
+ghost use mathlib.Core.Path.{_≡_};
+ghost use Rattle.rules.specs.Deliver.{arrivalCode, nextCode, replyCode};
+
+pub fn arrival_code(ok: bool, room: usize, given: bool, fine: bool) -> u64
+    ensures { λ r. ⌜ r ≡ arrivalCode ok room given fine ⌝ }
+{
+    if room < OUTGOING {
+        return SHORT;
+    }
+    if !given {
+        return MALFORMED;
+    }
+    if !ok {
+        return MALFORMED;
+    }
+    if !fine {
+        return MALFORMED;
+    }
+    0
+}
+
+// A receiver that has taken 2^64 − 1 has no next message.
+pub fn next_code(to: u64, own: u64, channel: u64, taken: u64) -> u64
+    ensures { λ r. ⌜ r ≡ nextCode to own channel taken ⌝ }
+{
+    if to != own {
+        return ELSEWHERE;
+    }
+    if channel == 0 {
+        return NOT_NEXT;
+    }
+    if channel - 1 != taken {
+        return NOT_NEXT;
+    }
+    0
+}
+
+pub fn reply_code(in_turn: bool, spent: bool) -> u64
+    ensures { λ r. ⌜ r ≡ replyCode in_turn spent ⌝ }
+{
+    if !in_turn {
+        return STAGE;
+    }
+    if spent {
+        return SPENT;
+    }
+    0
+}

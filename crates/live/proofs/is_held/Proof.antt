@@ -1,0 +1,15 @@
+-- Held where the place is one of the table.
+use borrow.Author.Needs.{needs}
+use Rattle.rules.specs.Live.{isHeld}
+use Rattle.live.proofs.is_held.Statement.{statement}
+use Rattle.live.proofs.is_held.Tie as tie
+
+place-of-requires : tie.Need-place-of-requires
+place-of-requires c κs = search needs
+
+returns : tie.Need-returns
+unfolding isHeld
+returns c = rw (c .place-of .ensures)
+
+pub is-held-spec : {M : Type 1} → statement M
+is-held-spec = tie.close (tie.spec place-of-requires returns)

@@ -1,0 +1,119 @@
+// The live table: sixteen places, scanned in order.
+use keys::wrote_key;
+use kinds::Key;
+use kinds::Sub;
+use kinds::sizes::LIVE;
+use kinds::stage::DECIDED;
+use kinds::stage::FREE;
+use kinds::stage::PREPARED;
+use kinds::stage::QUEUED;
+use numbers::participants;
+use numbers::replies_wanted;
+ghost use mathlib.Core.Path.{_≡_};
+ghost use Prim.Native.Nat.{ℕ, _≤_, _<_};
+ghost use Rattle.rules.specs.Live.{partAt, freePlace, isPartOf, placeOf, isHeld, otherHolds, keyHeld, isPrepared, isQueued, allHeard};
+
+// The first free place, or `LIVE`.
+pub fn free_place(live: [Sub; LIVE]) -> usize
+    ensures { λ r. ⌜ r ≡ freePlace live ⌝ }
+{
+    let mut i: usize = 0;
+    while i < LIVE {
+        if live[i].course.stage == FREE {
+            return i;
+        }
+        i += 1;
+    }
+    i
+}
+
+// The place of the part of `tx`, or `LIVE` where it is not held here.
+pub fn place_of(live: [Sub; LIVE], tx: u64) -> usize
+    ensures { λ r. ⌜ r ≡ placeOf live tx ⌝ }
+{
+    let mut i: usize = 0;
+    while i < LIVE {
+        let b = live[i];
+        if is_part_of(b, tx) {
+            return i;
+        }
+        i += 1;
+    }
+    i
+}
+
+// Whether a place holds a part of `tx`.
+fn is_part_of(b: Sub, tx: u64) -> bool
+    ensures { λ r. ⌜ r ≡ isPartOf b tx ⌝ }
+{
+    let stage = b.course.stage;
+    let held = b.tx;
+    if stage == FREE {
+        return false;
+    }
+    held == tx
+}
+
+pub fn is_held(live: [Sub; LIVE], tx: u64) -> bool
+    ensures { λ r. ⌜ r ≡ isHeld live tx ⌝ }
+{
+    place_of(live, tx) < LIVE
+}
+
+// Whether the part at place `i`, which is not `place`, holds `k`.
+fn other_holds(place: usize, k: Key, i: usize, b: Sub) -> bool
+    requires { ⌜ b .keys .wrote ≤ 16 ⌝ }
+    ensures { λ r. ⌜ r ≡ otherHolds place k i b ⌝ }
+{
+    let stage = b.course.stage;
+    let keys = b.keys;
+    if i == place {
+        return false;
+    }
+    if stage == FREE {
+        return false;
+    }
+    wrote_key(keys, k)
+}
+
+// Whether `k` is held by another part than that at `place`.
+pub fn key_held(live: [Sub; LIVE], place: usize, k: Key) -> bool
+    requires { ⌜ ((i : ℕ) → i < 16 → partAt live i .keys .wrote ≤ 16) ⌝ }
+    ensures { λ r. ⌜ r ≡ keyHeld live place k ⌝ }
+{
+    let mut i: usize = 0;
+    while i < LIVE {
+        let b = live[i];
+        if other_holds(place, k, i, b) {
+            return true;
+        }
+        i += 1;
+    }
+    false
+}
+
+// PREPARE taken, or the commit requested, and neither installed nor aborted.
+pub fn is_prepared(b: Sub) -> bool
+    ensures { λ r. ⌜ r ≡ isPrepared b ⌝ }
+{
+    let stage = b.course.stage;
+    PREPARED <= stage
+}
+
+// In the queue, open or decided.
+pub fn is_queued(b: Sub) -> bool
+    ensures { λ r. ⌜ r ≡ isQueued b ⌝ }
+{
+    let stage = b.course.stage;
+    if stage == QUEUED {
+        return true;
+    }
+    stage == DECIDED
+}
+
+// Whether every other participant has replied in this round.
+pub fn all_heard(heard: u64, mask: u64) -> bool
+    ensures { λ r. ⌜ r ≡ allHeard heard mask ⌝ }
+{
+    participants(heard) == replies_wanted(mask)
+}

@@ -1,0 +1,2 @@
+-- The head order as a value of the code.
+pub mod Order

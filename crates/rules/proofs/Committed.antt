@@ -1,0 +1,26 @@
+-- A committed transaction: its commit was asked for, it is not dead, and where it has a part it voted yes.
+use Prim.Native.Nat.{ℕ, _≤_, _<_}
+use mathlib.Core.Path.{_≡_}
+use mathlib.Core.Bool.{true, false}
+use native.Mathlib.Omega.{arith}
+use Rattle.rules.specs.House.{coordinatorOf}
+use Rattle.rules.proofs.Protocol.{Protocol}
+use Rattle.rules.proofs.Invariants.{In, Parts, Account}
+use Rattle.rules.proofs.Frames.{unset}
+
+module _ {sites : ℕ} {p : Protocol} (k : Parts sites p) (a : Account p) (u : ℕ) (n : 0 < p .num u) where
+  pub committed-asked : p .asked u ≡ true
+  committed-asked = a .certed-asked u (a .num-certed u n)
+
+  pub committed-alive : p .dead u ≡ false
+  committed-alive = unset _ (λ d. let z = a .dead u d .0 in omega arith)
+
+  pub committed-in : (s : ℕ) → p .has s u ≡ true → In (p .mask u) s
+  committed-in s h = (k .site s u h .0, a .has-asked u s committed-asked h)
+
+  pub committed-yes : (s : ℕ) → p .has s u ≡ true → (p .yes s u ≡ true) × (p .mark s u < p .num u)
+  committed-yes s h = a .voted u s n (committed-in s h)
+
+-- coordinators are sites
+pub low-coordinator : {sites : ℕ} {p : Protocol} → sites ≤ 8 → Parts sites p → (s t : ℕ) → p .has s t ≡ true → coordinatorOf t ≤ 8
+low-coordinator h k s t x = let z = k .site _ t (k .coordinator s t x) in omega arith

@@ -1,0 +1,250 @@
+-- Read and write, as moves.
+use Prim.Native.Nat.{ℕ, _+_, _-_, _≤_, _<_}
+use mathlib.Core.Path.{_≡_, refl, sym, ap, _∙_}
+use mathlib.Core.Bool.{Bool, true, false, not}
+use mathlib.Core.Logic.{_⊎_, inl, inr, ⊎-elim}
+use mathlib.Core.List.{List, [], _∷_}
+use native.Mathlib.Omega.{arith}
+use borrow.Author.Tests.{ltb-false, le-leb, ne-eqb}
+use lib.Dec.{ltb, leb, eqb}
+use lib.ListN.{length, getD, set, length-set}
+use lib.Seq.{getD-set-same, getD-set-other}
+use Rattle.laws.specs.Choice.{pick, pick-self, every, by-test}
+use Rattle.laws.specs.Scan.{any-below-none}
+use Rattle.kinds.specs.Sizes as sizes
+use Rattle.kinds.specs.Stage as stage
+use Rattle.kinds.specs.declared.Keys.{Keys}
+use Rattle.kinds.specs.declared.Sub.{Sub}
+use Rattle.kinds.specs.declared.Entry.{Entry}
+use Rattle.kinds.specs.declared.Site.{Site}
+use Rattle.kinds.specs.declared.Snapshot.{Snapshot}
+use Rattle.kinds.specs.State.{Value, subAt, pastEntry, withKeys, withSub}
+use Rattle.rules.specs.Keys.{wroteKey, readKey, keyPlace, withRead, withWrite}
+use Rattle.rules.specs.KeysLaws.{by-order, wrote-among, among-wrote}
+use Rattle.rules.specs.Live.{partAt, stageAt, placeOf, otherHolds, keyHeld}
+use Rattle.rules.specs.History.{recall, remembered, forgotten, isForgotten, within, isNewer}
+use Rattle.rules.specs.Valid.{siteOk}
+use Rattle.rules.specs.Effect.{Effect, turnAt, settle, changed}
+use Rattle.rules.specs.Course.{quietly}
+use Rattle.rules.specs.Access.{accessCode, readCode, readVersion, readAt, readOf, writeCodeAt, writeCode, written, writeAt, writeOf}
+use Rattle.rules.specs.CallLaws.{AccessClear, access-clear, read-clear, write-clear}
+use Rattle.rules.specs.World.{World, step, siteStep, messagesIn, splitWords}
+use Rattle.rules.specs.World as world
+use Rattle.rules.proofs.Tables.{upd₂, a-nil}
+use Rattle.rules.proofs.Protocol.{Protocol, inst, access, stop, more}
+use Rattle.rules.proofs.Invariants.{Invariant, at}
+use Rattle.rules.proofs.Frames.{set-not}
+use Rattle.rules.proofs.Refines.{IsFree, Sized, LiveIs, HistoryIs, Refines}
+use Rattle.rules.proofs.RefineLive.{by-same, place-held, place-spot}
+use Rattle.rules.proofs.RefineSite.{site-sub}
+use Rattle.rules.proofs.RefineStep.{Follows, by-code, row-same, row-other, grows-none, inside, stays, site-step}
+
+-- What is written more by a read, and by a write.
+read-wrote : (b : Keys) (k j : ℕ) → wroteKey (withRead b k) j ≡ wroteKey b j
+unfolding withRead wroteKey
+read-wrote b k j = by-test (readKey b k) (λ e. rw e) (λ e. rw e)
+
+read-sized : (b : Keys) (k : ℕ) → Sized b → Sized (withRead b k)
+unfolding withRead
+read-sized b k z =
+    by-test (readKey b k) (λ e. rw e z)
+    (λ e. rw e (record { reads-size = length-set (b .reads) (b .read) k ∙ z .reads-size; writes-size = z .writes-size; values-size = z .values-size }))
+
+write-sized : (b : Keys) (k : ℕ) (v : Value) → Sized b → Sized (withWrite b k v)
+unfolding withWrite
+write-sized b k v z =
+    by-test (wroteKey b k)
+    (λ e. rw e (record { reads-size = z .reads-size; writes-size = z .writes-size; values-size = length-set (b .values) _ v ∙ z .values-size }))
+    (λ e. rw e
+    (record {
+      reads-size = z .reads-size;
+      writes-size = length-set (b .writes) (b .wrote) k ∙ z .writes-size;
+      values-size = length-set (b .values) (b .wrote) v ∙ z .values-size;
+    }))
+
+same-writes : (b : Keys) (values : List Value) (j : ℕ)
+    → wroteKey (record { read = b .read; wrote = b .wrote; reads = b .reads; writes = b .writes; values = values }) j ≡ wroteKey b j
+unfolding wroteKey
+same-writes b values j = refl
+
+again-wrote : (b : Keys) (k : ℕ) (v : Value) → wroteKey b k ≡ true → (j : ℕ) → wroteKey (withWrite b k v) j ≡ wroteKey b j
+unfolding withWrite
+again-wrote b k v e j = rw e (same-writes b (set (b .values) (keyPlace (b .writes) (b .wrote) k) v) j)
+
+module _ (b : Keys) (k : ℕ) (v : Value) (z : Sized b) (room : b .wrote < sizes.writes) (e : wroteKey b k ≡ false) where
+  first-kept : (j : ℕ) → wroteKey b j ≡ true → wroteKey (withWrite b k v) j ≡ true
+  unfolding withWrite
+  first-kept j t =
+      let (i, l, q) = wrote-among b j t in
+      rw e (among-wrote _ j (i, omega arith, getD-set-other (b .writes) (b .wrote) i k 0 (λ y. omega arith) ∙ q))
+
+  first-new : (j : ℕ) → wroteKey (withWrite b k v) j ≡ true → (wroteKey b j ≡ true) ⊎ (j ≡ k)
+  unfolding withWrite
+  first-new j t =
+      let (i, l, q) = wrote-among _ j (rw e at t) in
+      by-order i (b .wrote)
+      (λ y. inl (among-wrote b j (i, y, sym (getD-set-other (b .writes) (b .wrote) i k 0 (λ z. omega arith)) ∙ q)))
+      (λ y. let o : i ≡ b .wrote = omega arith in
+      inr (sym q ∙ ap (λ (n : ℕ). getD (set (b .writes) (b .wrote) k) n 0) o ∙ getD-set-same (b .writes) (b .wrote) k 0 (omega (arith, z .writes-size))))
+
+-- Nobody else holds a key: no part at another place,
+key-free : (live : List Sub) (row : ℕ → Sub) (t k : ℕ) → LiveIs live row → placeOf live t < sizes.live → keyHeld live (placeOf live t) k ≡ false
+    → (u : ℕ) → (u ≡ t → ⊥) → (IsFree (row u) → ⊥) → wroteKey (row u .keys) k ≡ false
+unfolding keyHeld otherHolds
+key-free live row t k l h e u n f =
+    let (i, m, q, x) = l .found u f in
+    let (y, g, z) = place-held l t h in
+    let o : (i ≡ placeOf live t → ⊥) = λ c. n (sym x ∙ ap (λ (j : ℕ). partAt live j .tx) c ∙ ap (λ (b : Sub). b .tx) y ∙ z) in
+    let a = any-below-none (λ j. every (not (eqb j (placeOf live t)) ∷ not (eqb (partAt live j .course .stage) stage.free) ∷ wroteKey (partAt live j .keys) k ∷ [])) sizes.live i e m in
+    let d = rw (q, ne-eqb i (placeOf live t) o, ne-eqb (row u .course .stage) stage.free f) at a in
+    sym (pick-self (wroteKey (row u .keys) k)) ∙ d
+
+-- and no install after the snapshot
+key-latest : (history : List Entry) (es : List Entry) (p : Snapshot) (k : ℕ) → HistoryIs history es → isForgotten (length es) p ≡ false
+    → isNewer history (length es) p k ≡ false → (i : ℕ) → p .installs ≤ i → i < length es → wroteKey (getD es i pastEntry .keys) k ≡ false
+unfolding isNewer isForgotten within remembered forgotten
+key-latest history es p k x f e i l h =
+    let g = ltb-false (p .installs) (length es - sizes.history) f in
+    let j = i - forgotten (length es) in
+    let o : forgotten (length es) + j ≡ i = omega arith in
+    let m : j < remembered (length es) = omega arith in
+    let a = any-below-none (λ j. pick (leb (within (length es) p) j) (wroteKey (recall history (length es) j .keys) k) false) (remembered (length es)) j e m in
+    let d = rw (le-leb (within (length es) p) j (omega arith), x .recalls j m, o) at a in
+    d
+
+-- The part with other keys.
+module _ {sites : ℕ} {w : World} {p : Protocol} (r : Refines sites w p) (s t : ℕ) (l : 1 ≤ s) (h : s ≤ sites) where
+  accesses : placeOf (w .site s .live) t < sizes.live → p .live s t .course .stage ≡ stage.active → (b : Keys) → Sized b
+      → ((k : ℕ) → wroteKey (p .live s t .keys) k ≡ true → wroteKey b k ≡ true)
+      → ((k : ℕ) → wroteKey b k ≡ true → wroteKey (p .live s t .keys) k ≡ false
+      → ((u : ℕ) → (u ≡ t → ⊥) → (IsFree (p .live s u) → ⊥) → wroteKey (p .live s u .keys) k ≡ false)
+      × ((i : ℕ) → p .live s t .snapshot .installs ≤ i → i < length (inst p s) → wroteKey (at p s i .keys) k ≡ false))
+      → (e : Effect) → e .site ≡ withSub (w .site s) (placeOf (w .site s .live) t) (withKeys (p .live s t) b) → e .words ≡ []
+      → Follows sites p (siteStep w s e (w .base s) (w .lists s) .world)
+  unfolding messagesIn splitWords
+  accesses held active b z kept new e es ws =
+      let x = w .site s in
+      let place = placeOf (x .live) t in
+      let y = r .site s l h in
+      let (q, f, o) = place-held (y .live) t held in
+      let c = withKeys (p .live s t) b in
+      (_, more stop (access s t b active kept new),
+      site-step r s l h
+      (record {
+        clock = λ j n. refl;
+        serial = λ j n. refl;
+        live = λ j n. row-other (p .live) s t c j n;
+        post = λ j n m. refl;
+        taken = λ n j m. refl;
+        log = λ j n. refl;
+        gathered = λ n m. refl;
+      })
+      e (w .base s) (w .lists s)
+      (rw es (site-sub y place t c (place-spot (y .live) t held) (λ n. (o, z)) (λ n m. absurd (omega (arith, active, n))) (row-same (p .live) s t c)))
+      (grows-none (p .post)) (λ j. refl) (rw ws a-nil))
+
+module _ {sites : ℕ} {w : World} {p : Protocol} (r : Refines sites w p) (s t k : ℕ) where
+  abbrev here : Site
+  here = w .site s
+
+  abbrev spot : ℕ
+  spot = placeOf (here .live) t
+
+  -- past the causes that both have
+  pub record Reaches : Type 0 where
+    pub low : 1 ≤ s
+    pub high : s ≤ sites
+    pub held : spot < sizes.live
+    pub part : subAt here spot ≡ p .live s t
+    pub active : p .live s t .course .stage ≡ stage.active
+    pub sized : Sized (p .live s t .keys)
+    pub installs : here .counters .installs ≡ length (inst p s)
+    pub history : HistoryIs (here .history) (inst p s)
+    pub live : LiveIs (here .live) (p .live s)
+
+  reaches : (room : ℕ) → accessCode (siteOk here) room (here .house) (here .counters .own) k spot (stageAt (here .live) spot) ≡ 0 → Reaches
+  reaches room e =
+      let c = access-clear (siteOk here) room (here .house) (here .counters .own) k spot (stageAt (here .live) spot) e in
+      let (l, h) = inside r s (c .valid) in
+      let y = r .site s l h in
+      let (q, f, o) = place-held (y .live) t (c .held) in
+      record {
+        low = l;
+        high = h;
+        held = c .held;
+        part = q;
+        active = sym (ap (λ (b : Sub). b .course .stage) q) ∙ c .active;
+        sized = y .live .sized t f;
+        installs = y .counters .installs-are;
+        history = y .history;
+        live = y .live;
+      }
+
+  -- Read: of an own write nothing changes; else the key enters the set.
+  reads : Reaches → Follows sites p (siteStep w s (readVersion here (w .base s) spot k) (w .base s) (w .lists s) .world)
+  unfolding readVersion settle turnAt
+  reads a =
+      let b = withRead (p .live s t .keys) k in
+      let same = read-wrote (p .live s t .keys) k in
+      accesses r s t (a .low) (a .high) (a .held) (a .active) b (read-sized (p .live s t .keys) k (a .sized)) (λ j e. same j ∙ e)
+      (λ j e f. absurd (set-not _ e (same j ∙ f)))
+      (readVersion here (w .base s) spot k) (rw (a .part)) refl
+
+  abbrev Goal : Effect → Type 0
+  Goal e = Follows sites p (siteStep w s e (w .base s) (w .lists s) .world)
+
+  pub read-moves : Follows sites p (step w (world.read s t k) .world)
+  unfolding step readOf readAt
+  read-moves =
+      let b = subAt here spot in
+      by-code Goal (accessCode (siteOk here) (length (w .base s)) (here .house) (here .counters .own) k spot (stageAt (here .live) spot)) here []
+      (readAt here (w .base s) spot k)
+      (λ e. by-test (wroteKey (b .keys) k)
+      (λ f. rw f (stays r s _ refl refl))
+      (λ f. rw f
+      (by-code Goal (readCode (isForgotten (here .counters .installs) (b .snapshot)) (readKey (b .keys) k) (b .keys .read)) here []
+      (readVersion here (w .base s) spot k) (λ c. reads (reaches (length (w .base s)) e)) (stays r s _ refl refl))))
+      (stays r s _ refl refl)
+
+  -- Write: over an own write, or where nobody else holds the key and none was installed after the snapshot.
+  writes : (v : Value) → (a : Reaches) → ((j : ℕ) → wroteKey (p .live s t .keys) j ≡ true → wroteKey (withWrite (p .live s t .keys) k v) j ≡ true)
+      → ((j : ℕ) → wroteKey (withWrite (p .live s t .keys) k v) j ≡ true → wroteKey (p .live s t .keys) j ≡ false
+      → ((u : ℕ) → (u ≡ t → ⊥) → (IsFree (p .live s u) → ⊥) → wroteKey (p .live s u .keys) j ≡ false)
+      × ((i : ℕ) → p .live s t .snapshot .installs ≤ i → i < length (inst p s) → wroteKey (at p s i .keys) j ≡ false))
+      → Goal (written here spot k v)
+  unfolding written settle turnAt quietly
+  writes v a kept new =
+      accesses r s t (a .low) (a .high) (a .held) (a .active) (withWrite (p .live s t .keys) k v) (write-sized (p .live s t .keys) k v (a .sized)) kept new
+      (written here spot k v) (rw (a .part)) refl
+
+  rewrites : (v : Value) → Reaches → wroteKey (subAt here spot .keys) k ≡ true → Goal (written here spot k v)
+  rewrites v a f =
+      let f′ : wroteKey (p .live s t .keys) k ≡ true = sym (ap (λ (b : Sub). wroteKey (b .keys) k) (a .part)) ∙ f in
+      let same = again-wrote (p .live s t .keys) k v f′ in
+      writes v a (λ j e. same j ∙ e) (λ j e g. absurd (set-not _ e (same j ∙ g)))
+
+  first : (v : Value) → Reaches → wroteKey (subAt here spot .keys) k ≡ false → writeCodeAt here spot k ≡ 0 → Goal (written here spot k v)
+  unfolding writeCodeAt
+  first v a f c =
+      let b = subAt here spot in
+      let own = p .live s t .keys in
+      let d = write-clear (isForgotten (here .counters .installs) (b .snapshot)) (keyHeld (here .live) spot k) (isNewer (here .history) (here .counters .installs) (b .snapshot) k) (b .keys .wrote) c in
+      let f′ : wroteKey own k ≡ false = sym (ap (λ (b : Sub). wroteKey (b .keys) k) (a .part)) ∙ f in
+      let room : own .wrote < sizes.writes = omega (arith, ap (λ (b : Sub). b .keys .wrote) (a .part), d .room) in
+      let kept : isForgotten (length (inst p s)) (p .live s t .snapshot) ≡ false = rw (← a .part, ← a .installs) (d .kept) in
+      let latest : isNewer (here .history) (length (inst p s)) (p .live s t .snapshot) k ≡ false = rw (← a .part, ← a .installs) (d .latest) in
+      let free = key-free (here .live) (p .live s) t k (a .live) (a .held) (d .free) in
+      let old = key-latest (here .history) (inst p s) (p .live s t .snapshot) k (a .history) kept latest in
+      writes v a (first-kept own k v (a .sized) room f′)
+      (λ j e g. ⊎-elim (λ (z : wroteKey own j ≡ true). absurd (set-not _ z g)) (λ (z : j ≡ k). rw z (free, old)) (first-new own k v (a .sized) room f′ j e))
+
+  pub write-moves : (v : Value) → Follows sites p (step w (world.write s t k v) .world)
+  unfolding step writeOf writeAt
+  write-moves v =
+      by-code Goal (accessCode (siteOk here) sizes.keys (here .house) (here .counters .own) k spot (stageAt (here .live) spot)) here []
+      (writeAt here spot k v)
+      (λ e. let a = reaches sizes.keys e in
+      by-test (wroteKey (subAt here spot .keys) k)
+      (λ f. rw f (rewrites v a f))
+      (λ f. rw f (by-code Goal (writeCodeAt here spot k) here [] (written here spot k v) (first v a f) (stays r s _ refl refl))))
+      (stays r s _ refl refl)

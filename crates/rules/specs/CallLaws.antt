@@ -1,0 +1,239 @@
+-- What no refusal says, call by call.
+use Prim.Native.Nat.{ℕ, zero, suc, _+_, _-_, _≤_, _<_}
+use mathlib.Core.Path.{_≡_, refl}
+use mathlib.Core.Bool.{Bool, true, false, not}
+use mathlib.Core.List.{List, [], _∷_}
+use native.Mathlib.Omega.{arith}
+use borrow.Author.Tests.{ltb-false, leb-false, eqb-true, not-false}
+use lib.Dec.{ltb, leb, eqb}
+use Rattle.laws.specs.Choice.{every}
+use Rattle.laws.specs.Cause.{clear-at}
+use Rattle.kinds.specs.Sizes as sizes
+use Rattle.kinds.specs.Stage as stage
+use Rattle.kinds.specs.declared.House.{House}
+use Rattle.rules.specs.House.{isKey, siteOf}
+use Rattle.rules.specs.Access.{accessCauses, accessCode, readCauses, readCode, writeCauses, writeCode}
+use Rattle.rules.specs.Enlist.{enlistCauses, enlistCode, joinerCauses, joinerCode}
+use Rattle.rules.specs.Commit.{requestCauses, requestCode, commitCauses, commitCode, abandonCauses, abandonCode}
+use Rattle.rules.specs.Deliver.{arrivalCauses, arrivalCode, nextCauses, nextCode, replyCauses, replyCode}
+use Rattle.rules.specs.Install.{installCauses, installCode, reportCauses, reportCode}
+
+-- the second of two tests fails where the first holds
+pub not-both : (a b : Bool) → every (a ∷ b ∷ []) ≡ false → a ≡ true → b ≡ false
+not-both true true e h = e
+not-both true false e h = refl
+not-both false b e h = absurd (let y : _≡_ {A = ℕ} 0 1 = cc in omega arith)
+
+pub record AccessClear (ok : Bool) (room : ℕ) (o : House) (own : ℕ) (k : ℕ) (place : ℕ) (st : ℕ) : Type 0 where
+  pub whole : room ≡ sizes.keys
+  pub valid : ok ≡ true
+  pub known : isKey o k ≡ true
+  pub here : siteOf o k ≡ own
+  pub held : place < sizes.live
+  pub active : st ≡ stage.active
+
+pub access-clear : (ok : Bool) (room : ℕ) (o : House) (own : ℕ) (k : ℕ) (place : ℕ) (st : ℕ) → accessCode ok room o own k place st ≡ 0 → AccessClear ok room o own k place st
+unfolding accessCode
+access-clear ok room o own k place st e =
+    let l = accessCauses ok room o own k place st in
+    record {
+      whole = eqb-true room sizes.keys (not-false (eqb room sizes.keys) (clear-at l 0 refl e));
+      valid = not-false ok (clear-at l 1 refl e);
+      known = not-false (isKey o k) (clear-at l 2 refl e);
+      here = eqb-true (siteOf o k) own (not-false (eqb (siteOf o k) own) (clear-at l 3 refl e));
+      held = leb-false sizes.live place (clear-at l 4 refl e);
+      active = eqb-true st stage.active (not-false (eqb st stage.active) (clear-at l 5 refl e));
+    }
+
+pub record ReadClear (lost : Bool) (has : Bool) (read : ℕ) : Type 0 where
+  pub kept : lost ≡ false
+  pub room : has ≡ false → read < sizes.reads
+
+pub read-clear : (lost : Bool) (has : Bool) (read : ℕ) → readCode lost has read ≡ 0 → ReadClear lost has read
+unfolding readCode
+read-clear lost has read e =
+    let l = readCauses lost has read in
+    record {
+      kept = (clear-at l 0 refl e);
+      room = λ h. leb-false sizes.reads read (not-both (not has) (leb sizes.reads read) (clear-at l 1 refl e) (rw h));
+    }
+
+pub record WriteClear (lost : Bool) (held : Bool) (newer : Bool) (wrote : ℕ) : Type 0 where
+  pub kept : lost ≡ false
+  pub free : held ≡ false
+  pub latest : newer ≡ false
+  pub room : wrote < sizes.writes
+
+pub write-clear : (lost : Bool) (held : Bool) (newer : Bool) (wrote : ℕ) → writeCode lost held newer wrote ≡ 0 → WriteClear lost held newer wrote
+unfolding writeCode
+write-clear lost held newer wrote e =
+    let l = writeCauses lost held newer wrote in
+    record {
+      kept = (clear-at l 0 refl e);
+      free = (clear-at l 1 refl e);
+      latest = (clear-at l 2 refl e);
+      room = leb-false sizes.writes wrote (clear-at l 3 refl e);
+    }
+
+pub record EnlistClear (ok : Bool) (room : ℕ) (known : Bool) (place : ℕ) (mine : Bool) : Type 0 where
+  pub long : sizes.outgoing ≤ room
+  pub valid : ok ≡ true
+  pub site : known ≡ true
+  pub held : place < sizes.live
+  pub coordinator : mine ≡ true
+
+pub enlist-clear : (ok : Bool) (room : ℕ) (known : Bool) (place : ℕ) (mine : Bool) → enlistCode ok room known place mine ≡ 0 → EnlistClear ok room known place mine
+unfolding enlistCode
+enlist-clear ok room known place mine e =
+    let l = enlistCauses ok room known place mine in
+    record {
+      long = ltb-false room sizes.outgoing (clear-at l 0 refl e);
+      valid = not-false ok (clear-at l 1 refl e);
+      site = not-false known (clear-at l 2 refl e);
+      held = leb-false sizes.live place (clear-at l 3 refl e);
+      coordinator = not-false mine (clear-at l 4 refl e);
+    }
+
+pub record JoinerClear (st : ℕ) (own : Bool) (there : Bool) (spent : Bool) : Type 0 where
+  pub active : st ≡ stage.active
+  pub other : own ≡ false
+  pub new : there ≡ false
+  pub low : spent ≡ false
+
+pub joiner-clear : (st : ℕ) (own : Bool) (there : Bool) (spent : Bool) → joinerCode st own there spent ≡ 0 → JoinerClear st own there spent
+unfolding joinerCode
+joiner-clear st own there spent e =
+    let l = joinerCauses st own there spent in
+    record {
+      active = eqb-true st stage.active (not-false (eqb st stage.active) (clear-at l 0 refl e));
+      other = (clear-at l 1 refl e);
+      new = (clear-at l 2 refl e);
+      low = (clear-at l 3 refl e);
+    }
+
+pub record RequestClear (ok : Bool) (room : ℕ) (given : Bool) (place : ℕ) (mine : Bool) : Type 0 where
+  pub long : sizes.outgoing ≤ room
+  pub lists : given ≡ true
+  pub valid : ok ≡ true
+  pub held : place < sizes.live
+  pub coordinator : mine ≡ true
+
+pub request-clear : (ok : Bool) (room : ℕ) (given : Bool) (place : ℕ) (mine : Bool) → requestCode ok room given place mine ≡ 0 → RequestClear ok room given place mine
+unfolding requestCode
+request-clear ok room given place mine e =
+    let l = requestCauses ok room given place mine in
+    record {
+      long = ltb-false room sizes.outgoing (clear-at l 0 refl e);
+      lists = not-false given (clear-at l 1 refl e);
+      valid = not-false ok (clear-at l 2 refl e);
+      held = leb-false sizes.live place (clear-at l 3 refl e);
+      coordinator = not-false mine (clear-at l 4 refl e);
+    }
+
+pub record CommitClear (st : ℕ) (heard : Bool) (low : Bool) : Type 0 where
+  pub active : st ≡ stage.active
+  pub replied : heard ≡ true
+  pub unspent : low ≡ true
+
+pub commit-clear : (st : ℕ) (heard : Bool) (low : Bool) → commitCode st heard low ≡ 0 → CommitClear st heard low
+unfolding commitCode
+commit-clear st heard low e =
+    let l = commitCauses st heard low in
+    record {
+      active = eqb-true st stage.active (not-false (eqb st stage.active) (clear-at l 0 refl e));
+      replied = not-false heard (clear-at l 1 refl e);
+      unspent = not-false low (clear-at l 2 refl e);
+    }
+
+pub record AbandonClear (st : ℕ) (low : Bool) : Type 0 where
+  pub undecided : eqb st stage.decided ≡ false
+  pub unspent : low ≡ true
+
+pub abandon-clear : (st : ℕ) (low : Bool) → abandonCode st low ≡ 0 → AbandonClear st low
+unfolding abandonCode
+abandon-clear st low e =
+    let l = abandonCauses st low in
+    record {
+      undecided = (clear-at l 0 refl e);
+      unspent = not-false low (clear-at l 1 refl e);
+    }
+
+pub record ArrivalClear (ok : Bool) (room : ℕ) (given : Bool) (fine : Bool) : Type 0 where
+  pub long : sizes.outgoing ≤ room
+  pub lists : given ≡ true
+  pub valid : ok ≡ true
+  pub formed : fine ≡ true
+
+pub arrival-clear : (ok : Bool) (room : ℕ) (given : Bool) (fine : Bool) → arrivalCode ok room given fine ≡ 0 → ArrivalClear ok room given fine
+unfolding arrivalCode
+arrival-clear ok room given fine e =
+    let l = arrivalCauses ok room given fine in
+    record {
+      long = ltb-false room sizes.outgoing (clear-at l 0 refl e);
+      lists = not-false given (clear-at l 1 refl e);
+      valid = not-false ok (clear-at l 2 refl e);
+      formed = not-false fine (clear-at l 3 refl e);
+    }
+
+pub record NextClear (to : ℕ) (own : ℕ) (channel : ℕ) (taken : ℕ) : Type 0 where
+  pub here : to ≡ own
+  pub in-order : channel ≡ taken + 1
+
+pub next-clear : (to : ℕ) (own : ℕ) (channel : ℕ) (taken : ℕ) → nextCode to own channel taken ≡ 0 → NextClear to own channel taken
+unfolding nextCode
+next-clear to own channel taken e =
+    let l = nextCauses to own channel taken in
+    record {
+      here = eqb-true to own (not-false (eqb to own) (clear-at l 0 refl e));
+      in-order = eqb-true channel (taken + 1) (not-false (eqb channel (taken + 1)) (clear-at l 1 refl e));
+    }
+
+pub record ReplyClear (inTurn : Bool) (spent : Bool) : Type 0 where
+  pub turn : inTurn ≡ true
+  pub low : spent ≡ false
+
+pub reply-clear : (inTurn : Bool) (spent : Bool) → replyCode inTurn spent ≡ 0 → ReplyClear inTurn spent
+unfolding replyCode
+reply-clear inTurn spent e =
+    let l = replyCauses inTurn spent in
+    record {
+      turn = not-false inTurn (clear-at l 0 refl e);
+      low = (clear-at l 1 refl e);
+    }
+
+pub record InstallClear (ok : Bool) (room : ℕ) (given : ℕ) (due : Bool) (installs : ℕ) : Type 0 where
+  pub long : sizes.part ≤ room
+  pub whole : given ≡ sizes.keys
+  pub valid : ok ≡ true
+  pub unspent : installs < sizes.last
+  pub least : due ≡ true
+
+pub install-clear : (ok : Bool) (room : ℕ) (given : ℕ) (due : Bool) (installs : ℕ) → installCode ok room given due installs ≡ 0 → InstallClear ok room given due installs
+unfolding installCode
+install-clear ok room given due installs e =
+    let l = installCauses ok room given due installs in
+    record {
+      long = ltb-false room sizes.part (clear-at l 0 refl e);
+      whole = eqb-true given sizes.keys (not-false (eqb given sizes.keys) (clear-at l 1 refl e));
+      valid = not-false ok (clear-at l 2 refl e);
+      unspent = leb-false sizes.last installs (not-both due (leb sizes.last installs) (clear-at l 3 refl e) (not-false due (clear-at l 4 refl e)));
+      least = not-false due (clear-at l 4 refl e);
+    }
+
+pub record ReportClear (ok : Bool) (room : ℕ) : Type 0 where
+  pub long : sizes.part ≤ room
+  pub valid : ok ≡ true
+
+pub report-clear : (ok : Bool) (room : ℕ) → reportCode ok room ≡ 0 → ReportClear ok room
+unfolding reportCode
+report-clear ok room e =
+    let l = reportCauses ok room in
+    record {
+      long = ltb-false room sizes.part (clear-at l 0 refl e);
+      valid = not-false ok (clear-at l 1 refl e);
+    }
+
+-- the number after taken, by the one before channel
+pub pred-is : (channel taken : ℕ) → (channel ≡ 0 → ⊥) → channel - 1 ≡ taken → channel ≡ taken + 1
+pred-is zero taken n e = absurd (n refl)
+pred-is (suc c) taken n e = omega arith

@@ -1,0 +1,26 @@
+// Causes of refusal that commit and abandon share.
+use kinds::reason::{MALFORMED, NOT_COORDINATOR, SHORT, UNKNOWN};
+use kinds::sizes::{LIVE, OUTGOING};
+ghost use mathlib.Core.Path.{_≡_};
+ghost use Rattle.rules.specs.Commit.{requestCode};
+
+pub fn request_code(ok: bool, room: usize, given: bool, place: usize, mine: bool) -> u64
+    ensures { λ r. ⌜ r ≡ requestCode ok room given place mine ⌝ }
+{
+    if room < OUTGOING {
+        return SHORT;
+    }
+    if !given {
+        return MALFORMED;
+    }
+    if !ok {
+        return MALFORMED;
+    }
+    if LIVE <= place {
+        return UNKNOWN;
+    }
+    if !mine {
+        return NOT_COORDINATOR;
+    }
+    0
+}
