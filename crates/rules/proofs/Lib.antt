@@ -35,3 +35,10 @@ pub mod RefineMail
 pub mod RefineTurn
 pub mod RefineEnlist
 pub mod RefineLog
+pub mod RefineOther
+pub mod Stream
+pub mod StreamInv
+pub mod StreamTake
+pub mod StreamEmit
+pub mod StreamReached
+pub mod StreamClaims

@@ -1,0 +1,3 @@
+-- 01, "Fixed points": those marked P.
+pub mod States
+pub mod Points

@@ -1,0 +1,72 @@
+-- One list of what the rules give and what 01 says, and one statement: they are the same.
+use Prim.Native.Nat.{ℕ, _-_}
+use mathlib.Core.Path.{_≡_}
+use mathlib.Core.Bool.{Bool, true, false}
+use mathlib.Core.List.{List, [], _∷_, _++_, map}
+use lib.Bits.{bitOr}
+use lib.ListN.{replicate, length}
+use Rattle.laws.specs.Choice.{pick}
+use Rattle.laws.specs.Pair.{precedes}
+use Rattle.kinds.specs.Sizes as sizes
+use Rattle.kinds.specs.Stage as stage
+use Rattle.kinds.specs.Reason as reason
+use Rattle.kinds.specs.declared.House.{House}
+use Rattle.kinds.specs.declared.Answer.{Answer}
+use Rattle.rules.specs.House.{siteOf, maskOf, wholeHouse}
+use Rattle.rules.specs.Keys.{dependent}
+use Rattle.rules.specs.Live.{stageAt}
+use Rattle.rules.specs.Queue.{leastQueued, isDue, stateNumber}
+use Rattle.rules.specs.Effect.{Said, ok, abort, no, saidOf}
+use Rattle.rules.specs.Begin.{beginOf}
+use Rattle.rules.specs.Access.{accessCode, readOf, writeOf}
+use Rattle.rules.specs.Install.{freshSite, installCode}
+use Rattle.rules.specs.Merger.{emitOf}
+use Rattle.points.specs.States.{queued, queueOf, wrote, read, versions, merging, headWords}
+
+-- the numbers of an answer: 0 and what follows `ok`, 1 and the reason of an abort, 2 and the cause of a refusal
+unfoldable pub numbersOf : Said → List ℕ
+numbersOf (ok l) = 0 ∷ l
+numbersOf (abort r) = 1 ∷ r ∷ []
+numbersOf (no n) = 2 ∷ n ∷ []
+
+abbrev said : Answer → List ℕ
+said a = numbersOf (saidOf a)
+
+abbrev yes : Bool → List ℕ
+yes b = pick b 1 0 ∷ []
+
+pub record Point : Type 0 where
+  pub got : List ℕ
+  pub want : List ℕ
+
+abbrev point : List ℕ → List ℕ → Point
+point a b = record { got = a; want = b }
+
+
+unfoldable pub points : List Point
+points =
+    point (siteOf wholeHouse 255 ∷ siteOf wholeHouse 256 ∷ siteOf wholeHouse 2047 ∷ []) (1 ∷ 2 ∷ 8 ∷ [])
+    ∷ point (accessCode true sizes.keys wholeHouse 8 2048 0 stage.active ∷ []) (2 ∷ [])
+    ∷ point (said (beginOf (freshSite 2 1) .answer)) (0 ∷ 4294967297 ∷ [])
+    ∷ point (said (beginOf (freshSite 2 2) .answer)) (0 ∷ 8589934593 ∷ [])
+    ∷ point (yes (precedes 16777216 2 16777217 1)) (1 ∷ [])
+    ∷ point (yes (precedes 7 1 7 2)) (1 ∷ [])
+    ∷ point (bitOr (maskOf 1) (maskOf 3) ∷ []) (5 ∷ [])
+    ∷ point (leastQueued (queueOf (queued 1 stage.decided 4) (queued 2 stage.queued 4)) sizes.live ∷ []) (0 ∷ [])
+    ∷ point (yes (isDue (queueOf (queued 1 stage.decided 4) (queued 2 stage.queued 4)) 0)) (1 ∷ [])
+    ∷ point
+    (installCode true sizes.part sizes.keys
+    (isDue (queueOf (queued 1 stage.queued 4) (queued 2 stage.decided 4)) (leastQueued (queueOf (queued 1 stage.queued 4) (queued 2 stage.decided 4)) sizes.live))
+    0 ∷ [])
+    (17 ∷ [])
+    ∷ point (stateNumber (replicate sizes.live (queued 1 stage.free 0)) 9 sizes.live ∷ []) (9 ∷ [])
+    ∷ point (stateNumber (queueOf (queued 1 stage.queued 6) (queued 2 stage.decided 6)) 9 sizes.live ∷ []) (5 ∷ [])
+    ∷ point (said (readOf versions (replicate sizes.keys 0) 4294967301 5 .answer)) (0 ∷ 70 ∷ [])
+    ∷ point (said (writeOf versions 4294967301 5 90 .answer)) (2 ∷ 10 ∷ [])
+    ∷ point (said (emitOf (merging 4) sizes.merged (headWords ++ replicate (sizes.queues - length headWords) 0) .answer)) (2 ∷ 17 ∷ [])
+    ∷ point (said (emitOf (merging 5) sizes.merged (headWords ++ replicate (sizes.queues - length headWords) 0) .answer)) (0 ∷ 5 ∷ 1 ∷ 4294967297 ∷ [])
+    ∷ point (yes (dependent (read 5) (read 5)) ++ yes (dependent (wrote 5 1) (read 5))) (0 ∷ 1 ∷ [])
+    ∷ []
+
+unfoldable pub PointsHold : Type 0
+PointsHold = map (λ (p : Point). p .got) points ≡ map (λ (p : Point). p .want) points

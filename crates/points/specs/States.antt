@@ -1,0 +1,72 @@
+-- The states that the fixed points speak of.
+use Prim.Native.Nat.{ℕ}
+use mathlib.Core.List.{List, [], _∷_}
+use lib.ListN.{replicate, set}
+use Rattle.kinds.specs.Sizes as sizes
+use Rattle.kinds.specs.Stage as stage
+use Rattle.kinds.specs.Kind as kind
+use Rattle.kinds.specs.declared.Keys.{Keys}
+use Rattle.kinds.specs.declared.Sub.{Sub}
+use Rattle.kinds.specs.declared.Entry.{Entry}
+use Rattle.kinds.specs.declared.Site.{Site}
+use Rattle.kinds.specs.declared.Merger.{Merger}
+use Rattle.kinds.specs.State.{noSub, noKeys, noEntry}
+use Rattle.rules.specs.House.{txOf}
+use Rattle.rules.specs.Record.{recordWords}
+use Rattle.rules.specs.Merger.{pastSource}
+
+-- a queue entry of coordinator c, open at a mark or decided with a number
+unfoldable pub queued : ℕ → ℕ → ℕ → Sub
+queued c st number =
+    record {
+      tx = txOf c 1;
+      snapshot = record { installs = 0 };
+      course = record { stage = st; mask = 3; number = number; heard = 0; reason = 0; listed = 0 };
+      keys = noKeys;
+    }
+
+-- a live table with two entries
+unfoldable pub queueOf : Sub → Sub → List Sub
+queueOf a b = set (set (replicate sizes.live noSub) 0 a) 1 b
+
+-- one key written
+unfoldable pub wrote : ℕ → ℕ → Keys
+wrote k v = record { read = 0; wrote = 1; reads = replicate sizes.reads 0; writes = set (replicate sizes.writes 0) 0 k; values = set (replicate sizes.writes 0) 0 v }
+
+unfoldable pub read : ℕ → Keys
+read k = record { read = 1; wrote = 0; reads = set (replicate sizes.reads 0) 0 k; writes = replicate sizes.writes 0; values = replicate sizes.writes 0 }
+
+unfoldable pub installed : ℕ → Keys → Entry
+installed n b = record { tx = txOf 1 n; mask = 1; number = n; keys = b }
+
+-- four installs, of which the second and the fourth wrote key 5, and a part with snapshot 3
+unfoldable pub versions : Site
+versions =
+    record {
+      house = record { sites = 1 };
+      counters = record { own = 1; clock = 4; serial = 5; installs = 4 };
+      channels = record { sent = replicate sizes.sites 0; taken = replicate sizes.sites 0 };
+      live =
+          set (replicate sizes.live noSub) 0
+          (record {
+            tx = txOf 1 5;
+            snapshot = record { installs = 3 };
+            course = record { stage = stage.active; mask = 1; number = 0; heard = 0; reason = 0; listed = 0 };
+            keys = noKeys;
+          });
+      history =
+          set (set (set (set (replicate sizes.history noEntry) 0 (installed 1 noKeys)) 1 (installed 2 (wrote 5 70))) 2 (installed 3 noKeys)) 3 (installed 4 (wrote 5 80));
+    }
+
+-- a merger of two sites: site 1's head is (5, 1) of mask 1, site 2's queue is empty and its state is n
+unfoldable pub merging : ℕ → Merger
+merging n =
+    record {
+      house = record { sites = 2 };
+      sources =
+          set (set (replicate sizes.sites pastSource) 0 (record { state = 0; number = 5; coordinator = 1; queued = 1 })) 1
+          (record { state = n; number = 0; coordinator = 0; queued = 0 });
+    }
+
+unfoldable pub headWords : List ℕ
+headWords = recordWords (record { kind = kind.part; site = 1; number = 5; coordinator = 1; tx = txOf 1 1; mask = 1; count = 0 }) []
