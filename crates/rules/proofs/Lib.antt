@@ -42,3 +42,9 @@ pub mod StreamTake
 pub mod StreamEmit
 pub mod StreamReached
 pub mod StreamClaims
+pub mod RefineCertify
+pub mod RefineActs
+pub mod RefineCourse
+pub mod RefineLists
+pub mod RefineRequest
+pub mod RefineCommit

@@ -22,6 +22,7 @@ use Rattle.kinds.specs.State.{pastEntry}
 use Rattle.rules.specs.House.{coordinatorOf}
 use Rattle.rules.specs.Message.{messageWords, entryCount}
 use Rattle.rules.specs.Record.{recordWords, recordShape}
+use Rattle.rules.specs.EntryLaws.{Marks}
 use Rattle.rules.specs.Keys.{sortedCount, sortedWords}
 use Rattle.rules.specs.Live.{partAt, stageAt}
 use Rattle.rules.specs.History.{recall, remembered, forgotten}
@@ -159,6 +160,7 @@ pub record HistoryIs (history : List Entry) (installs : List Entry) : Type 0 whe
 pub record ListIs (lists : List ℕ) (i : ℕ) (b : Sub) (es : List ℕ) : Type 0 where
   pub size : length es ≡ sizes.entry * b .course .listed
   pub words : take (sizes.entry * b .course .listed) (drop (sizes.gathered * i) lists) ≡ es
+  pub marks : Marks es
 
 -- of each prepared part that the site coordinates
 pub record ListsAre (own : ℕ) (live : List Sub) (lists : List ℕ) (gathered : ℕ → List ℕ) : Type 0 where

@@ -43,7 +43,7 @@ none-marks : Marks []
 none-marks k = omega arith
 
 -- another prepared part has an entry, the others none
-prepared-is : {P : Type 0} (place : ℕ) (own : Keys) (i : ℕ) (b : Sub)
+pub prepared-is : {P : Type 0} (place : ℕ) (own : Keys) (i : ℕ) (b : Sub)
     → ((i ≡ place → ⊥) → isPrepared b ≡ true → preparedWords place own i b ≡ concurrentWords own (b .tx) (b .course .mask) (b .keys) → P)
     → (preparedWords place own i b ≡ [] → P) → P
 unfolding preparedWords
@@ -54,7 +54,7 @@ prepared-is place own i b f g =
     (λ u. f (eqb-false i place t) u (rw (t, u)))
     (λ u. g (rw (t, u))))
 
-prepared-each : (place : ℕ) (own : Keys) (i : ℕ) (b : Sub) → (length (preparedWords place own i b) ≡ 0) ⊎ (length (preparedWords place own i b) ≡ sizes.entry)
+pub prepared-each : (place : ℕ) (own : Keys) (i : ℕ) (b : Sub) → (length (preparedWords place own i b) ≡ 0) ⊎ (length (preparedWords place own i b) ≡ sizes.entry)
 prepared-each place own i b = prepared-is place own i b (λ n p e. inr (ap length e)) (λ e. inl (ap length e))
 
 prepared-marks : (place : ℕ) (own : Keys) (i : ℕ) (b : Sub) → Marks (preparedWords place own i b)

@@ -72,6 +72,34 @@ module _ (f : ℕ → List ℕ) (each : Entries f) where
             ap (λ (l : List ℕ). getD l (sizes.entry * k + r) 0) g ∙ List·getD-append ws (f n) 0 (sizes.entry * k + r) (omega arith) ∙ w r s,
       ))
 
+  -- and each place k is that of some step
+  pub gathered-from : (n k : ℕ) → sizes.entry * k + sizes.entry ≤ length (gathered f n)
+      → (i : ℕ) × (i < n) × (length (f i) ≡ sizes.entry) × ((r : ℕ) → r < sizes.entry → getD (gathered f n) (sizes.entry * k + r) 0 ≡ getD (f i) r 0)
+  gathered-from zero k h = absurd (omega (arith, ap length (gathered-none f)))
+  gathered-from (suc n) k h =
+      let ws = gathered f n in
+      let g = gathered-more f n in
+      let q = ap length g ∙ length-append ws (f n) in
+      let (m, w, l) = gathered-whole n in
+      by-order (sizes.entry * k) (length ws)
+      (λ z.
+      let (i, s, e, at) = gathered-from n k (omega arith) in (
+        i,
+        omega arith,
+        e,
+        λ r p.
+            ap (λ (x : List ℕ). getD x (sizes.entry * k + r) 0) g ∙ List·getD-append ws (f n) 0 (sizes.entry * k + r) (omega arith) ∙ at r p,
+      ))
+      (λ z.
+      let full : length (f n) ≡ sizes.entry = ⊎-elim (λ (e : length (f n) ≡ 0). absurd (omega arith)) (λ (e : length (f n) ≡ sizes.entry). e) (each n) in (
+        n,
+        omega arith,
+        full,
+        λ r p.
+            let x : sizes.entry * k + r ≡ length ws + r = omega arith in
+            ap (λ (l : List ℕ). getD l (sizes.entry * k + r) 0) g ∙ ap (λ (i : ℕ). getD (ws ++ f n) i 0) x ∙ getD-append-add ws (f n) r 0,
+      ))
+
 -- where every step has an entry, that of step i is the i-th
 pub gathered-nth : (f : ℕ → List ℕ) → ((i : ℕ) → length (f i) ≡ sizes.entry) → (n i r : ℕ) → i < n → r < sizes.entry
     → (length (gathered f n) ≡ sizes.entry * n) × (getD (gathered f n) (sizes.entry * i + r) 0 ≡ getD (f i) r 0)
@@ -136,11 +164,11 @@ pub record Listing (es : List ℕ) (t m : ℕ) (dependent : Bool) : Type 0 where
 abbrev pub Marks : List ℕ → Type 0
 Marks es = (k : ℕ) → entryMark es k ≤ 1
 
-digit-in : (m r : ℕ) → inMask m r ≡ true → digit m (r - 1) ≡ 1
+pub digit-in : (m r : ℕ) → inMask m r ≡ true → digit m (r - 1) ≡ 1
 unfolding inMask
 digit-in m r t = eqb-true (digit m (r - 1)) 1 t
 
-in-digit : (m r : ℕ) → 1 ≤ digit m (r - 1) → inMask m r ≡ true
+pub in-digit : (m r : ℕ) → 1 ≤ digit m (r - 1) → inMask m r ≡ true
 unfolding inMask
 in-digit m r h = eq-eqb (digit m (r - 1)) 1 (omega (arith, digit-le m (r - 1)))
 

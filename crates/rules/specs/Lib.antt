@@ -44,3 +44,5 @@ pub mod MergerLaws
 pub mod MergerJoin
 pub mod MergerKept
 pub mod DeliverLaws
+pub mod ListLaws
+pub mod InstallLaws

@@ -7,7 +7,6 @@ use mathlib.Core.Path.{_∙_, refl}
 use native.Mathlib.Omega.{arith}
 use Rattle.certify.specs.Leaves.{Gathered, gather, part-few, prepared-below, recall-few}
 use Rattle.kinds.specs.State.{subAt}
-use Rattle.rules.proofs.Invariants.{at}
 use Rattle.rules.specs.Certify.{concurrent}
 use Rattle.rules.specs.HistoryLaws.{within-remembered}
 use Rattle.kinds.specs.Sizes as sizes
@@ -27,28 +26,40 @@ slice-aggregate-prepared-list : tie.Need-slice-aggregate-prepared-list
 slice-aggregate-prepared-list c = search needs
 
 prepared-list-requires : tie.Need-prepared-list-requires
-prepared-list-requires c κs = (c .before .before .before .before .before .before .before .before .pre .1 .0, (omega arith, part-few (c .before .before .before .before .before .before .before .before .args .s) (c .before .before .before .before .before .before .before .before .pre .0)))
+prepared-list-requires c κs =
+    let a = c .before .before .before .before .before .before .before .before .args in
+    let pre = c .before .before .before .before .before .before .before .before .pre in
+    (pre .1 .0, (omega arith, part-few (a .s) (pre .0)))
 
 mul-at : tie.Need-mul-at
 mul-at c = omega (arith, prepared-below _ _ _ (c .before .before .before .before .before .before .before .before .before .before .pre .1 .0) (c .before .prepared-list .ensures .0))
 
 mul-all : tie.Need-mul-all
-mul-all c = omega (arith, prepared-below _ _ _ (c .before .before .before .before .before .before .before .before .before .before .pre .1 .0) (c .before .prepared-list .ensures .0))
+mul-all c =
+    let pre = c .before .before .before .before .before .before .before .before .before .before .pre in
+    omega (arith, prepared-below _ _ _ (pre .1 .0) (c .before .prepared-list .ensures .0))
 
 sub-installed-list : tie.Need-sub-installed-list
-sub-installed-list c = omega (arith, prepared-below _ _ _ (c .before .before .before .before .before .before .before .before .before .before .pre .1 .0) (c .before .prepared-list .ensures .0))
+sub-installed-list c =
+    let pre = c .before .before .before .before .before .before .before .before .before .before .pre in
+    omega (arith, prepared-below _ _ _ (pre .1 .0) (c .before .prepared-list .ensures .0))
 
 part-all-start : tie.Need-part-all-start
-part-all-start c = omega (arith, prepared-below _ _ _ (c .before .before .before .before .before .before .before .before .before .before .pre .1 .0) (c .before .prepared-list .ensures .0))
+part-all-start c =
+    let pre = c .before .before .before .before .before .before .before .before .before .before .pre in
+    omega (arith, prepared-below _ _ _ (pre .1 .0) (c .before .prepared-list .ensures .0))
 
 part-all-end : tie.Need-part-all-end
 part-all-end c = search needs
 
 installed-list-requires : tie.Need-installed-list-requires
-installed-list-requires c κs = let a = c .before .before .before .before .before .before .before .before .before .before .before .args in
-    let o = prepared-below _ _ _ (c .before .before .before .before .before .before .before .before .before .before .before .pre .1 .0) (c .before .before .prepared-list .ensures .0) in
+installed-list-requires c κs =
+    let a = c .before .before .before .before .before .before .before .before .before .before .before .args in
+    let pre = c .before .before .before .before .before .before .before .before .before .before .before .pre in
+    let within = c .before .before .before .before .within in
+    let o = prepared-below _ _ _ (pre .1 .0) (c .before .before .prepared-list .ensures .0) in
     let w = within-remembered (a .s .counters .installs) (subAt (a .s) (a .place) .snapshot) in
-    (omega (arith, c .before .before .before .before .within .ensures), (simp (length-take, length-drop) (omega (arith, c .before .before .prepared-list .kept .0)), (part-few (a .s) (c .before .before .before .before .before .before .before .before .before .before .before .pre .0) (a .place) (c .before .before .before .before .before .before .before .before .before .before .before .pre .1 .0), recall-few (a .s) (c .before .before .before .before .before .before .before .before .before .before .before .pre .0))))
+    (omega (arith, within .ensures), (simp (length-take, length-drop) (omega (arith, c .before .before .prepared-list .kept .0)), (part-few (a .s) (pre .0) (a .place) (pre .1 .0), recall-few (a .s) (pre .0))))
 
 -- the array then holds the candidates
 gathered : (c : tie.After-all4)
@@ -56,9 +67,12 @@ gathered : (c : tie.After-all4)
     Gathered (a .s) (a .place) n (c .before .installed-list .result) (take (sizes.entry * n) xs ++ (c .before .installed-list .last .0 ++ drop (144 - sizes.entry * n) (drop (sizes.entry * n) xs))))
 gathered c =
     let a = c .before .before .before .before .before .before .before .before .before .before .before .before .before .args in
-    let w = c .before .before .before .before .before .before .within .ensures in
-    gather (a .s) (a .place) (c .before .before .before .before .prepared-list .result) (c .before .installed-list .result) (replicate 144 0) (c .before .before .before .before .prepared-list .last .0) (c .before .installed-list .last .0) 144 refl refl (c .before .before .before .before .before .before .before .before .before .before .before .before .before .pre .1 .0)
-    (c .before .before .before .before .prepared-list .ensures .0) (c .before .before .before .before .prepared-list .ensures .1) (c .before .installed-list .ensures .0 ∙ rw w) (rw w at (c .before .installed-list .ensures .1))
+    let pre = c .before .before .before .before .before .before .before .before .before .before .before .before .before .pre in
+    let within = c .before .before .before .before .before .before .within in
+    let prepared-list = c .before .before .before .before .prepared-list in
+    let w = within .ensures in
+    gather (a .s) (a .place) (prepared-list .result) (c .before .installed-list .result) (replicate 144 0) (prepared-list .last .0) (c .before .installed-list .last .0) 144 refl refl (pre .1 .0)
+    (prepared-list .ensures .0) (prepared-list .ensures .1) (c .before .installed-list .ensures .0 ∙ rw w) (rw w at (c .before .installed-list .ensures .1))
 
 add-end : tie.Need-add-end
 add-end c = omega (arith, gathered c .few)

@@ -7,7 +7,6 @@ use mathlib.Core.Path.{_∙_, _≡_, ap, refl, sym}
 use native.Mathlib.Omega.{arith}
 use Rattle.certify.specs.Leaves.{FewKeys}
 use Rattle.laws.specs.Overlay.{behind, length-overlay, length-rest, overlay, overlay-none}
-use Rattle.rules.proofs.Invariants.{at}
 use Rattle.rules.specs.Book.{installs}
 use Rattle.rules.specs.Certify.{installedList, installedWords}
 use Rattle.rules.specs.CertifyLaws.{installed-more, installed-none, length-installed}
@@ -33,10 +32,16 @@ loop-holds : tie.Need-loop-holds Inv-loop μ-loop
 loop-holds c = (omega arith, (refl, rw installed-none (overlay-none _)))
 
 add-recall-slot : tie.Need-add-recall-slot Inv-loop μ-loop
-add-recall-slot c = omega (arith, c .before .before .remembered .ensures, remembered-few (c .before .before .before .before .args .installs), c .before .before .before .before .pre .0)
+add-recall-slot c =
+    let a = c .before .before .before .before .args in
+    let pre = c .before .before .before .before .pre in
+    omega (arith, c .before .before .remembered .ensures, remembered-few (a .installs), pre .0)
 
 recall-slot-requires : tie.Need-recall-slot-requires Inv-loop μ-loop
-recall-slot-requires c κs = omega (arith, c .before .before .remembered .ensures, remembered-few (c .before .before .before .before .args .installs), c .before .before .before .before .pre .0)
+recall-slot-requires c κs =
+    let a = c .before .before .before .before .args in
+    let pre = c .before .before .before .before .pre in
+    omega (arith, c .before .before .remembered .ensures, remembered-few (a .installs), pre .0)
 
 mul-e : tie.Need-mul-e Inv-loop μ-loop
 mul-e c = omega (arith, c .recall-slot .ensures)
@@ -48,21 +53,38 @@ mul-at : tie.Need-mul-at Inv-loop μ-loop
 mul-at c = omega (arith, c .before .before .before .before .before .remembered .ensures, remembered-few (c .before .before .before .before .before .before .before .args .installs))
 
 mul-write-concurrent : tie.Need-mul-write-concurrent Inv-loop μ-loop
-mul-write-concurrent c = omega (arith, c .before .before .before .before .before .remembered .ensures, remembered-few (c .before .before .before .before .before .before .before .args .installs))
+mul-write-concurrent c =
+    let a = c .before .before .before .before .before .before .before .args in
+    let remembered = c .before .before .before .before .before .remembered in
+    omega (arith, remembered .ensures, remembered-few (a .installs))
 
 sub-write-concurrent : tie.Need-sub-write-concurrent Inv-loop μ-loop
-sub-write-concurrent c = omega (arith, c .before .before .before .before .before .remembered .ensures, remembered-few (c .before .before .before .before .before .before .before .args .installs))
+sub-write-concurrent c =
+    let a = c .before .before .before .before .before .before .before .args in
+    let remembered = c .before .before .before .before .before .remembered in
+    omega (arith, remembered .ensures, remembered-few (a .installs))
 
 part-write-concurrent-start : tie.Need-part-write-concurrent-start Inv-loop μ-loop
-part-write-concurrent-start c = omega (arith, c .before .before .before .before .before .remembered .ensures, remembered-few (c .before .before .before .before .before .before .before .args .installs))
+part-write-concurrent-start c =
+    let a = c .before .before .before .before .before .before .before .args in
+    let remembered = c .before .before .before .before .before .remembered in
+    omega (arith, remembered .ensures, remembered-few (a .installs))
 
 part-write-concurrent-end : tie.Need-part-write-concurrent-end Inv-loop μ-loop
-part-write-concurrent-end c = omega (arith, c .before .before .before .before .before .remembered .ensures, remembered-few (c .before .before .before .before .before .before .before .args .installs))
+part-write-concurrent-end c =
+    let a = c .before .before .before .before .before .before .before .args in
+    let remembered = c .before .before .before .before .before .remembered in
+    omega (arith, remembered .ensures, remembered-few (a .installs))
 
 write-concurrent-requires : tie.Need-write-concurrent-requires Inv-loop μ-loop
-write-concurrent-requires c κs = let l = c .before .before .before .before .before .loop in
-    let few : (i : ℕ) → FewKeys (recall (c .before .before .before .before .before .before .before .before .args .t2) (c .before .before .before .before .before .before .before .before .args .installs) i .keys) = c .before .before .before .before .before .before .before .before .pre .1 .1 .1 in
-    (omega (arith, length-rest (l .out) (sizes.entry * l .i), c .before .before .before .before .before .before .remembered .ensures, remembered-few (c .before .before .before .before .before .before .before .before .args .installs)), (c .before .before .before .before .before .before .before .before .pre .1 .1 .0, rw (c .before .before .before .recall-slot .ensures) (few (c .before .before .before .before .before .before .before .before .args .seen + l .i))))
+write-concurrent-requires c κs =
+    let a = c .before .before .before .before .before .before .before .before .args in
+    let pre = c .before .before .before .before .before .before .before .before .pre in
+    let remembered = c .before .before .before .before .before .before .remembered in
+    let l = c .before .before .before .before .before .loop in
+    let recall-slot = c .before .before .before .recall-slot in
+    let few : (i : ℕ) → FewKeys (recall (a .t2) (a .installs) i .keys) = pre .1 .1 .1 in
+    (omega (arith, length-rest (l .out) (sizes.entry * l .i), remembered .ensures, remembered-few (a .installs)), (pre .1 .1 .0, rw (recall-slot .ensures) (few (a .seen + l .i))))
 
 add-i : tie.Need-add-i Inv-loop μ-loop
 add-i c = search needs
@@ -72,16 +94,19 @@ loop-less c = search needs
 
 loop-again : tie.Need-loop-again Inv-loop μ-loop
 unfolding installedWords
-loop-again c = let a = c .before .before .before .before .before .before .before .before .before .before .before .args in
+loop-again c =
+    let a = c .before .before .before .before .before .before .before .before .before .before .before .args in
+    let remembered = c .before .before .before .before .before .before .before .before .before .remembered in
     let l = c .before .before .before .before .before .before .before .before .loop in
+    let recall-slot = c .before .before .before .before .before .before .recall-slot in
     let ws = installedList (a .t2) (a .installs) (a .own) (a .seen) (l .i) in
     let w = installedWords (a .own) (recall (a .t2) (a .installs) (a .seen + l .i)) in
     let m = installed-more (a .t2) (a .installs) (a .own) (a .seen) (l .i) in
     let k = length-installed (a .t2) (a .installs) (a .own) (a .seen) (l .i) in
     let r = remembered-few (a .installs) in
-    let e = rw (c .before .before .before .before .before .before .recall-slot .ensures) at (c .before .before .write-concurrent .ensures) in
-    let h = behind (a .out .now) ws w (l .out) (c .before .before .write-concurrent .last .0) (sizes.entry * l .i) (sym k) (omega (arith, c .before .before .before .before .before .before .before .before .before .remembered .ensures)) (l .inv .1 .1) e in
-    (omega arith, (ap length h ∙ length-overlay (a .out .now) (ws ++ w) (omega (arith, length-append ws w, c .before .before .before .before .before .before .before .before .before .remembered .ensures)), rw m h))
+    let e = rw (recall-slot .ensures) at (c .before .before .write-concurrent .ensures) in
+    let h = behind (a .out .now) ws w (l .out) (c .before .before .write-concurrent .last .0) (sizes.entry * l .i) (sym k) (omega (arith, remembered .ensures)) (l .inv .1 .1) e in
+    (omega arith, (ap length h ∙ length-overlay (a .out .now) (ws ++ w) (omega (arith, length-append ws w, remembered .ensures)), rw m h))
 
 same-length : tie.Need-same-length Inv-loop μ-loop
 same-length c = search needs

@@ -54,9 +54,12 @@ part-write-prepared-end : tie.Need-part-write-prepared-end Inv-loop μ-loop
 part-write-prepared-end c = search needs
 
 write-prepared-requires : tie.Need-write-prepared-requires Inv-loop μ-loop
-write-prepared-requires c κs = let l = c .before .before .before .loop in
-    let f : (i : ℕ) → i < sizes.live → FewKeys (partAt (c .before .before .before .before .before .before .before .args .t2) i .keys) = c .before .before .before .before .before .before .before .pre .1 .1 in
-    (omega (arith, length-rest (l .out) (sizes.entry * l .n)), (f (c .before .before .before .before .before .before .before .args .place) (c .before .before .before .before .before .before .before .pre .0), f (l .i) (c .before .before .loop-test .taken)))
+write-prepared-requires c κs =
+    let a = c .before .before .before .before .before .before .before .args in
+    let pre = c .before .before .before .before .before .before .before .pre in
+    let l = c .before .before .before .loop in
+    let f : (i : ℕ) → i < sizes.live → FewKeys (partAt (a .t2) i .keys) = pre .1 .1 in
+    (omega (arith, length-rest (l .out) (sizes.entry * l .n)), (f (a .place) (pre .0), f (l .i) (c .before .before .loop-test .taken)))
 
 add-n : tie.Need-add-n Inv-loop μ-loop
 add-n c = search needs
@@ -68,7 +71,8 @@ loop-less : tie.Need-loop-less Inv-loop μ-loop
 loop-less c = search needs
 
 loop-again : tie.Need-loop-again Inv-loop μ-loop
-loop-again c = let a = c .before .before .before .before .before .before .before .before .before .before .args in
+loop-again c =
+    let a = c .before .before .before .before .before .before .before .before .before .before .args in
     let l = c .before .before .before .before .before .before .loop in
     let own = partAt (a .t2) (a .place) .keys in
     let ws = preparedList (a .t2) (a .place) (l .i) in

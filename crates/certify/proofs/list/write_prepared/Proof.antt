@@ -29,8 +29,13 @@ same-length c = search needs
 
 returns-3 : tie.Need-returns-3
 unfolding preparedWords
-returns-3 c = let e = ne-eqb (c .before .before .before .before .before .before .before .before .before .args .i) (c .before .before .before .before .before .before .before .before .before .args .place) (c .before .before .before .before .before .before .before .if1 .left) in
-    let f = sym (c .before .before .before .before .before .before .is-prepared .ensures) ∙ not-false (c .before .before .before .before .before .before .is-prepared .result) (c .before .before .before .before .before .if2 .left) in
+returns-3 c =
+    let a = c .before .before .before .before .before .before .before .before .before .args in
+    let if1 = c .before .before .before .before .before .before .before .if1 in
+    let is-prepared = c .before .before .before .before .before .before .is-prepared in
+    let if2 = c .before .before .before .before .before .if2 in
+    let e = ne-eqb (a .i) (a .place) (if1 .left) in
+    let f = sym (is-prepared .ensures) ∙ not-false (is-prepared .result) (if2 .left) in
     (omega arith, (rw (e, f), rw (e, f) (c .before .before .write-concurrent .ensures)))
 
 pub write-prepared-spec : {M : Type 1} → statement M

@@ -23,12 +23,14 @@ same-length c = search needs
 
 returns : tie.Need-returns
 unfolding isHeld placeOf recallPlace
-returns c = let a = c .before .before .before .before .before .before .before .before .before .args in
+returns c =
+    let a = c .before .before .before .before .before .before .before .before .before .args in
+    let held-txs = c .before .before .before .before .before .before .held-txs in
     let held : ℕ → ℕ → Bool = λ tx i. isPartOf (partAt (a .live) i) tx in
     let kept : ℕ → ℕ → Bool = λ tx k. eqb (recall (a .history) (a .installs) k .tx) tx in (
       c .before .before .remembered-txs .ensures .0,
       λ tx. c .before .before .remembered-txs .ensures .1 tx
-          ∙ rw (c .before .before .before .before .before .before .held-txs .ensures .1 tx, first-any, first-any) (or-two (anyBelow (held tx) sizes.live) (anyBelow (kept tx) (remembered (a .installs)))),
+          ∙ rw (held-txs .ensures .1 tx, first-any, first-any) (or-two (anyBelow (held tx) sizes.live) (anyBelow (kept tx) (remembered (a .installs)))),
     )
 
 pub recorded-txs-spec : {M : Type 1} → statement M

@@ -40,13 +40,25 @@ element-copy-out-txs : tie.Need-element-copy-out-txs Inv-loop μ-loop
 element-copy-out-txs c = omega (arith, c .recall-slot .ensures)
 
 add-txs : tie.Need-add-txs Inv-loop μ-loop
-add-txs c = omega (arith, c .before .before .before .remembered .ensures, remembered-few (c .before .before .before .before .before .args .installs), c .before .before .before .before .before .pre)
+add-txs c =
+    let a = c .before .before .before .before .before .args in
+    let pre = c .before .before .before .before .before .pre in
+    let remembered = c .before .before .before .remembered in
+    omega (arith, remembered .ensures, remembered-few (a .installs), pre)
 
 mul-txs-2 : tie.Need-mul-txs-2 Inv-loop μ-loop
-mul-txs-2 c = omega (arith, c .before .before .before .remembered .ensures, remembered-few (c .before .before .before .before .before .args .installs), c .before .before .before .before .before .pre)
+mul-txs-2 c =
+    let a = c .before .before .before .before .before .args in
+    let pre = c .before .before .before .before .before .pre in
+    let remembered = c .before .before .before .remembered in
+    omega (arith, remembered .ensures, remembered-few (a .installs), pre)
 
 slice-write-txs : tie.Need-slice-write-txs Inv-loop μ-loop
-slice-write-txs c = omega (arith, c .before .before .before .remembered .ensures, remembered-few (c .before .before .before .before .before .args .installs), c .before .before .before .before .before .pre)
+slice-write-txs c =
+    let a = c .before .before .before .before .before .args in
+    let pre = c .before .before .before .before .before .pre in
+    let remembered = c .before .before .before .remembered in
+    omega (arith, remembered .ensures, remembered-few (a .installs), pre)
 
 add-i : tie.Need-add-i Inv-loop μ-loop
 add-i c = search needs
@@ -55,9 +67,12 @@ loop-less : tie.Need-loop-less Inv-loop μ-loop
 loop-less c = search needs
 
 loop-again : tie.Need-loop-again Inv-loop μ-loop
-loop-again c = let a = c .before .before .before .before .before .args in
+loop-again c =
+    let a = c .before .before .before .before .before .args in
+    let pre = c .before .before .before .before .before .pre in
+    let remembered = c .before .before .before .remembered in
     let l = c .before .before .loop in
-    let low : a .n + l .i < length (l .txs) = omega (arith, c .before .before .before .remembered .ensures, remembered-few (a .installs), c .before .before .before .before .before .pre) in
+    let low : a .n + l .i < length (l .txs) = omega (arith, remembered .ensures, remembered-few (a .installs), pre) in
     let p : a .n + (l .i + 1) ≡ a .n + l .i + 1 = omega arith in (
       omega arith,
       (
@@ -76,9 +91,12 @@ same-length : tie.Need-same-length Inv-loop μ-loop
 same-length c = c .before .loop .inv .1 .0
 
 returns : tie.Need-returns Inv-loop μ-loop
-returns c = let l = c .before .loop in
+returns c =
+    let a = c .before .before .before .before .args in
+    let pre = c .before .before .before .before .pre in
+    let l = c .before .loop in
     let q : l .i ≡ c .before .before .remembered .result = omega arith in
-    (omega (arith, c .before .before .remembered .ensures, remembered-few (c .before .before .before .before .args .installs), c .before .before .before .before .pre), λ tx. rw (← c .before .before .remembered .ensures, ← q) (l .inv .1 .1 tx))
+    (omega (arith, c .before .before .remembered .ensures, remembered-few (a .installs), pre), λ tx. rw (← c .before .before .remembered .ensures, ← q) (l .inv .1 .1 tx))
 
 pub remembered-txs-spec : {M : Type 1} → statement M
 remembered-txs-spec =

@@ -26,7 +26,9 @@ loop-holds : tie.Need-loop-holds Inv-loop μ-loop
 loop-holds c = (search needs, none-none _)
 
 recall-slot-requires : tie.Need-recall-slot-requires Inv-loop μ-loop
-recall-slot-requires c κs = omega (arith, c .before .before .within .ensures, within-few (c .before .before .before .before .args .installs) (c .before .before .before .before .args .p))
+recall-slot-requires c κs =
+    let a = c .before .before .before .before .args in
+    omega (arith, c .before .before .within .ensures, within-few (a .installs) (a .p))
 
 mul-e : tie.Need-mul-e Inv-loop μ-loop
 mul-e c = omega (arith, c .recall-slot .ensures)
@@ -35,11 +37,20 @@ array-copy-out-e : tie.Need-array-copy-out-e Inv-loop μ-loop
 array-copy-out-e c = omega (arith, c .recall-slot .ensures)
 
 conflicts-with-requires : tie.Need-conflicts-with-requires Inv-loop μ-loop
-conflicts-with-requires c κs = let few : (i : ℕ) → FewKeys (recall (c .before .before .before .before .before .before .args .t3) (c .before .before .before .before .before .before .args .installs) i .keys) = c .before .before .before .before .before .before .pre .1 .1 .1 in
-    (c .before .before .before .before .before .before .pre .0, (c .before .before .before .before .before .before .pre .1 .0, (c .before .before .before .before .before .before .pre .1 .1 .0, rw (c .before .recall-slot .ensures) (few (c .before .before .before .loop .k)))))
+conflicts-with-requires c κs =
+    let a = c .before .before .before .before .before .before .args in
+    let pre = c .before .before .before .before .before .before .pre in
+    let l = c .before .before .before .loop in
+    let few : (i : ℕ) → FewKeys (recall (a .t3) (a .installs) i .keys) = pre .1 .1 .1 in
+    (pre .0, (pre .1 .0, (pre .1 .1 .0, rw (c .before .recall-slot .ensures) (few (l .k)))))
 
 returns : tie.Need-returns Inv-loop μ-loop
-returns c = rw (← c .before .before .before .before .before .before .within .ensures) (any-below _ _ (c .before .before .before .before .before .loop .k) (c .before .before .before .before .loop-test .taken) (rw (← c .before .before .before .recall-slot .ensures) (sym (c .before .conflicts-with .ensures) ∙ c .if1 .taken)))
+returns c =
+    let within = c .before .before .before .before .before .before .within in
+    let l = c .before .before .before .before .before .loop in
+    let loop-test = c .before .before .before .before .loop-test in
+    let recall-slot = c .before .before .before .recall-slot in
+    rw (← within .ensures) (any-below _ _ (l .k) (loop-test .taken) (rw (← recall-slot .ensures) (sym (c .before .conflicts-with .ensures) ∙ c .if1 .taken)))
 
 add-k : tie.Need-add-k Inv-loop μ-loop
 add-k c = search needs
@@ -48,7 +59,10 @@ loop-less : tie.Need-loop-less Inv-loop μ-loop
 loop-less c = search needs
 
 loop-again : tie.Need-loop-again Inv-loop μ-loop
-loop-again c = (omega arith, below-more _ _ (c .before .before .before .before .before .loop .inv .1) (rw (← c .before .before .before .recall-slot .ensures) (sym (c .before .conflicts-with .ensures) ∙ c .if1 .left)))
+loop-again c =
+    let l = c .before .before .before .before .before .loop in
+    let recall-slot = c .before .before .before .recall-slot in
+    (omega arith, below-more _ _ (l .inv .1) (rw (← recall-slot .ensures) (sym (c .before .conflicts-with .ensures) ∙ c .if1 .left)))
 
 returns-2 : tie.Need-returns-2 Inv-loop μ-loop
 returns-2 c = rw (← c .before .before .within .ensures) (any-end _ _ _ (c .loop-test .left) (c .before .loop .inv .1))

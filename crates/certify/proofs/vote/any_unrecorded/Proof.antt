@@ -48,7 +48,10 @@ is-unrecorded-requires : tie.Need-is-unrecorded-requires Inv-loop μ-loop
 is-unrecorded-requires c κs = search needs
 
 returns : tie.Need-returns Inv-loop μ-loop
-returns c = any-below _ _ (c .before .before .before .before .before .loop .i) (c .before .before .before .before .loop-test .taken) (sym (c .before .is-unrecorded .ensures) ∙ c .if1 .taken)
+returns c =
+    let l = c .before .before .before .before .before .loop in
+    let loop-test = c .before .before .before .before .loop-test in
+    any-below _ _ (l .i) (loop-test .taken) (sym (c .before .is-unrecorded .ensures) ∙ c .if1 .taken)
 
 add-i : tie.Need-add-i Inv-loop μ-loop
 add-i c = search needs

@@ -50,7 +50,11 @@ is-conflict-requires c κs = search needs
 
 returns : tie.Need-returns Inv-loop μ-loop
 unfolding conflictsAt
-returns c = any-below _ _ (c .before .before .before .before .before .before .loop .i) (c .before .before .before .before .before .loop-test .taken) (rw (eq-eqb _ _ (c .before .before .before .if1 .taken), ← c .before .is-conflict .ensures, c .if2 .taken))
+returns c =
+    let l = c .before .before .before .before .before .before .loop in
+    let loop-test = c .before .before .before .before .before .loop-test in
+    let if1 = c .before .before .before .if1 in
+    any-below _ _ (l .i) (loop-test .taken) (rw (eq-eqb _ _ (if1 .taken), ← c .before .is-conflict .ensures, c .if2 .taken))
 
 add-i : tie.Need-add-i Inv-loop μ-loop
 add-i c = search needs
