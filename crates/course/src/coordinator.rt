@@ -1,10 +1,23 @@
 // The coordinator's steps.
-use crate::send::{send_all, send_to};
-use crate::turn::{no_sub, quietly, with_course, with_decision, with_heard, with_mark, with_participant};
-use kinds::kind::{ABORT, CERT, COMMIT, JOIN, PREPARE};
+use crate::send::send_all;
+use crate::send::send_to;
+use crate::turn::no_sub;
+use crate::turn::quietly;
+use crate::turn::with_course;
+use crate::turn::with_decision;
+use crate::turn::with_heard;
+use crate::turn::with_mark;
+use crate::turn::with_participant;
+use kinds::Answer;
+use kinds::Taken;
+use kinds::Turn;
+use kinds::kind::ABORT;
+use kinds::kind::CERT;
+use kinds::kind::COMMIT;
+use kinds::kind::JOIN;
+use kinds::kind::PREPARE;
 use kinds::reason::SPENT;
 use kinds::sizes::LAST;
-use kinds::{Answer, Taken, Turn};
 ghost use mathlib.Core.Path.{_≡_};
 ghost use mathlib.Core.Bool.{true};
 ghost use Prim.Native.Nat.{_+_, _≤_, _<_};

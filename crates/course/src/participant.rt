@@ -1,10 +1,15 @@
 // A participant's steps.
 use crate::send::send_to;
-use crate::turn::{with_course, with_mark, with_stage};
-use kinds::kind::{CONC, VOTE};
+use crate::turn::with_course;
+use crate::turn::with_mark;
+use crate::turn::with_stage;
+use kinds::Taken;
+use kinds::Turn;
+use kinds::kind::CONC;
+use kinds::kind::VOTE;
 use kinds::reason::UNCERTAIN;
-use kinds::stage::{PREPARED, REJECTED};
-use kinds::{Taken, Turn};
+use kinds::stage::PREPARED;
+use kinds::stage::REJECTED;
 ghost use mathlib.Core.Path.{_≡_};
 ghost use lib.ListN.{length};
 ghost use Rattle.laws.specs.Overlay.{overlay};

@@ -1,6 +1,11 @@
 // A step's messages, and the counts after them.
-use kinds::sizes::{ENTRY, SITES};
-use kinds::{Answer, Channels, MessageHead, Taken, Turn};
+use kinds::Answer;
+use kinds::Channels;
+use kinds::MessageHead;
+use kinds::Taken;
+use kinds::Turn;
+use kinds::sizes::ENTRY;
+use kinds::sizes::SITES;
 ghost use mathlib.Core.Path.{_≡_};
 ghost use Prim.Native.Nat.{_+_, _-_, _*_, _≤_, _<_};
 ghost use lib.ListN.{length, getD};

@@ -1,7 +1,21 @@
 // A turn with one of its parts changed.
-use kinds::sizes::{LAST, READS, SITES, WRITES};
-use kinds::stage::{ACTIVE, DECIDED, PREPARED, QUEUED};
-use kinds::{Answer, Channels, Course, FRESH, Keys, Snapshot, Sub, Taken, Turn};
+use kinds::Answer;
+use kinds::Channels;
+use kinds::Course;
+use kinds::FRESH;
+use kinds::Keys;
+use kinds::Snapshot;
+use kinds::Sub;
+use kinds::Taken;
+use kinds::Turn;
+use kinds::sizes::LAST;
+use kinds::sizes::READS;
+use kinds::sizes::SITES;
+use kinds::sizes::WRITES;
+use kinds::stage::ACTIVE;
+use kinds::stage::DECIDED;
+use kinds::stage::PREPARED;
+use kinds::stage::QUEUED;
 ghost use mathlib.Core.Path.{_≡_};
 ghost use mathlib.Core.Bool.{not};
 ghost use Prim.Native.Nat.{_+_, _-_, _≤_, _<_, max};

@@ -1,5 +1,10 @@
 // Causes of refusal of a message.
-use kinds::reason::{ELSEWHERE, MALFORMED, NOT_NEXT, SHORT, SPENT, STAGE};
+use kinds::reason::ELSEWHERE;
+use kinds::reason::MALFORMED;
+use kinds::reason::NOT_NEXT;
+use kinds::reason::SHORT;
+use kinds::reason::SPENT;
+use kinds::reason::STAGE;
 use kinds::sizes::OUTGOING;
 ghost use mathlib.Core.Path.{_≡_};
 ghost use Rattle.rules.specs.Deliver.{arrivalCode, nextCode, replyCode};

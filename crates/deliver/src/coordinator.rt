@@ -1,9 +1,16 @@
 // Messages to the coordinator: JOINED, CONC, VOTE.
 use crate::codes::reply_code;
-use crate::settle::{arrived, refused, settled};
+use crate::settle::arrived;
+use crate::settle::refused;
+use crate::settle::settled;
+use kinds::Course;
+use kinds::MessageHead;
+use kinds::Out;
+use kinds::Site;
 use kinds::sizes::SITES;
-use kinds::stage::{ACTIVE, PREPARED, QUEUED};
-use kinds::{Course, MessageHead, Out, Site};
+use kinds::stage::ACTIVE;
+use kinds::stage::PREPARED;
+use kinds::stage::QUEUED;
 ghost use mathlib.Core.Path.{_≡_};
 ghost use mathlib.Core.Bool.{not};
 ghost use mathlib.Core.List.{[], _∷_};
@@ -15,7 +22,7 @@ ghost use Rattle.laws.specs.Choice.{every};
 ghost use Rattle.rules.specs.Send.{countsLow};
 ghost use Rattle.rules.specs.Effect.{outOf};
 ghost use Rattle.rules.specs.Course.{voteDecides};
-ghost use Rattle.rules.specs.Deliver.{Arriving, joinedInTurn, takeJoined, voteInTurn, takeVote};
+ghost use Rattle.rules.specs.Deliver.{Arriving, joinedInTurn, takeJoined, concInTurn, voteInTurn, takeVote};
 
 fn joined_in_turn(c: Course, from: u64) -> bool
     requires { ⌜ (1 ≤ from) × (from ≤ sizes.sites) ⌝ }
@@ -76,7 +83,7 @@ fn vote_decides(c: Course, from: u64, vote: u64) -> bool
 }
 
 // Whether a message to each other participant is due and cannot be counted.
-fn all_spent(due: bool, sent: [u64; SITES], mask: u64, own: u64) -> bool
+pub fn all_spent(due: bool, sent: [u64; SITES], mask: u64, own: u64) -> bool
     ensures { λ r. ⌜ r ≡ every (due ∷ not (countsLow sent mask own) ∷ []) ⌝ }
 {
     if !due {
@@ -104,4 +111,16 @@ pub fn take_vote(s: Site, h: MessageHead, place: usize, out: &mut [u64]) -> Out
     }
     let a = course::coordinator::vote_step(t, h.from, h.argument, out);
     settled(s, place, a)
+}
+
+pub fn conc_in_turn(c: Course, from: u64) -> bool
+    requires { ⌜ (1 ≤ from) × (from ≤ sizes.sites) ⌝ }
+    ensures { λ r. ⌜ r ≡ concInTurn c from ⌝ }
+{
+    let wanted = course::turn::is_outstanding(c, from);
+    let stage = c.stage;
+    if stage != PREPARED {
+        return false;
+    }
+    wanted
 }

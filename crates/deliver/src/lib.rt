@@ -1,5 +1,6 @@
 // The call of a site that takes a message.
 mod codes;
-mod settle;
 mod coordinator;
+mod gather;
 mod participant;
+mod settle;

@@ -1,5 +1,10 @@
 // A part taken out of its site, and put back.
-use kinds::{Answer, MessageHead, Out, Site, Taken, Turn};
+use kinds::Answer;
+use kinds::MessageHead;
+use kinds::Out;
+use kinds::Site;
+use kinds::Taken;
+use kinds::Turn;
 ghost use mathlib.Core.Path.{_≡_};
 ghost use mathlib.Core.List.{[]};
 ghost use Prim.Native.Nat.{_<_};

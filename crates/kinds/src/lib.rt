@@ -116,14 +116,35 @@ pub struct RecordHead {
 pub enum Answer {
     Refused(u64),
     Done,
-    Begun { tx: u64 },
-    Found { value: Value },
-    Committed { number: u64 },
-    Aborted { reason: u64 },
-    Installed { number: u64, coordinator: u64 },
-    Reported { state: u64 },
-    Emitted { number: u64, coordinator: u64, tx: u64 },
-    Standing { value: Value, number: u64, coordinator: u64 },
+    Begun {
+        tx: u64,
+    },
+    Found {
+        value: Value,
+    },
+    Committed {
+        number: u64,
+    },
+    Aborted {
+        reason: u64,
+    },
+    Installed {
+        number: u64,
+        coordinator: u64,
+    },
+    Reported {
+        state: u64,
+    },
+    Emitted {
+        number: u64,
+        coordinator: u64,
+        tx: u64,
+    },
+    Standing {
+        value: Value,
+        number: u64,
+        coordinator: u64,
+    },
 }
 
 // What a step of a part's course reads and changes: the part, and its site's counters and channels.

@@ -52,7 +52,9 @@ pub const MERGED: usize = RECORD_HEADER + WRITE * MERGED_WRITES;
 
 // Words of a site's queue at the merger, and of all.
 pub const SITE_QUEUE: usize = QUEUE * PART;
+
 pub const QUEUES: usize = SITES * SITE_QUEUE;
 // Words of a copy: last number, last coordinator, then the values.
 pub const COPY_HEADER: usize = 2;
+
 pub const COPY: usize = COPY_HEADER + KEYS;

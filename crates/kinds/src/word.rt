@@ -44,4 +44,5 @@ pub const WRITE_KEY: usize = 0;
 pub const WRITE_VALUE: usize = 1;
 
 pub const LAST_NUMBER: usize = 0;
+
 pub const LAST_COORDINATOR: usize = 1;

@@ -75,3 +75,8 @@ put-part d ys w a y =
 pub put-below : (a : ℕ) (d w : List ℕ) (i : ℕ) → a ≤ length d → i < a → getD (putAt a d w) i 0 ≡ getD d i 0
 unfolding putAt
 put-below a d w i h l = let n = length-take-le a d h in List·getD-append (take a d) _ 0 i (omega arith) ∙ getD-take a d i 0 l
+
+-- the whole keeps its length
+pub length-put : (a : ℕ) (d w : List ℕ) → a + length w ≤ length d → length (putAt a d w) ≡ length d
+unfolding putAt
+length-put a d w h = simp (length-append, length-take, length-drop) (omega arith)

@@ -1,6 +1,8 @@
 // Sites, keys, transaction numbers, masks and pairs, as 01 numbers them.
 use kinds::House;
-use kinds::sizes::{SERIALS, SITES, SITE_KEYS};
+use kinds::sizes::SERIALS;
+use kinds::sizes::SITE_KEYS;
+use kinds::sizes::SITES;
 ghost use mathlib.Core.Path.{_≡_};
 ghost use Prim.Native.Nat.{_≤_, _<_};
 ghost use Rattle.laws.specs.Pair.{precedes as precedesOf};

@@ -42,7 +42,6 @@ pub record Point : Type 0 where
 abbrev point : List ℕ → List ℕ → Point
 point a b = record { got = a; want = b }
 
-
 unfoldable pub points : List Point
 points =
     point (siteOf wholeHouse 255 ∷ siteOf wholeHouse 256 ∷ siteOf wholeHouse 2047 ∷ []) (1 ∷ 2 ∷ 8 ∷ [])

@@ -324,7 +324,24 @@ pub data Moves (sites : ℕ) : Protocol → Protocol → Type 0 where
 unfoldable pub freshProtocol : Protocol
 freshProtocol =
     record {
-      clock = λ s. 0; serial = λ s. 0; live = λ s t. noSub; gathered = λ t. []; post = λ a b. []; taken = λ a b. 0; log = λ s. [];
-      has = λ s t. false; snap = λ s t. 0; keys = λ s t. noKeys; asked = λ t. false; mask = λ t. 0; made = λ s t. false; list = λ s t. [];
-      certed = λ t. false; cert = λ t. []; yes = λ s t. false; mark = λ s t. 0; num = λ t. 0; dead = λ t. false;
+      clock = λ s. 0;
+      serial = λ s. 0;
+      live = λ s t. noSub;
+      gathered = λ t. [];
+      post = λ a b. [];
+      taken = λ a b. 0;
+      log = λ s. [];
+      has = λ s t. false;
+      snap = λ s t. 0;
+      keys = λ s t. noKeys;
+      asked = λ t. false;
+      mask = λ t. 0;
+      made = λ s t. false;
+      list = λ s t. [];
+      certed = λ t. false;
+      cert = λ t. [];
+      yes = λ s t. false;
+      mark = λ s t. 0;
+      num = λ t. 0;
+      dead = λ t. false;
     }

@@ -127,21 +127,23 @@ module _ {sites : ℕ} {w : World} {p : Protocol} (r : Refines sites w p) (s t :
       let place = placeOf (x .live) t in
       let y = r .site s l h in
       let (q, f, o) = place-held (y .live) t held in
-      let c = withKeys (p .live s t) b in
-      (_, more stop (access s t b active kept new),
-      site-step r s l h
-      (record {
-        clock = λ j n. refl;
-        serial = λ j n. refl;
-        live = λ j n. row-other (p .live) s t c j n;
-        post = λ j n m. refl;
-        taken = λ n j m. refl;
-        log = λ j n. refl;
-        gathered = λ n m. refl;
-      })
-      e (w .base s) (w .lists s)
-      (rw es (site-sub y place t c (place-spot (y .live) t held) (λ n. (o, z)) (λ n m. absurd (omega (arith, active, n))) (row-same (p .live) s t c)))
-      (grows-none (p .post)) (λ j. refl) (rw ws a-nil))
+      let c = withKeys (p .live s t) b in (
+        _,
+        more stop (access s t b active kept new),
+        site-step r s l h
+            (record {
+              clock = λ j n. refl;
+              serial = λ j n. refl;
+              live = λ j n. row-other (p .live) s t c j n;
+              post = λ j n m. refl;
+              taken = λ n j m. refl;
+              log = λ j n. refl;
+              gathered = λ n m. refl;
+            })
+            e (w .base s) (w .lists s)
+            (rw es (site-sub y place t c (place-spot (y .live) t held) (λ n. (o, z)) (λ n m. absurd (omega (arith, active, n))) (row-same (p .live) s t c)))
+            (grows-none (p .post)) (λ j. refl) (rw ws a-nil),
+      )
 
 module _ {sites : ℕ} {w : World} {p : Protocol} (r : Refines sites w p) (s t k : ℕ) where
   abbrev here : Site

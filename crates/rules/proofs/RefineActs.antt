@@ -40,7 +40,7 @@ acts-follow {q = q} {base = base} {lists = lists} r s l h e a =
     (q, a .moves, site-step r s l h (a .elsewhere) e base lists (a .site) (a .grows) (a .log) (made-in (a .made)))
 
 -- One step after another: the first sends nothing.
-moves-append : {sites : ℕ} {p q r : Protocol} → Moves sites p q → Moves sites q r → Moves sites p r
+pub moves-append : {sites : ℕ} {p q r : Protocol} → Moves sites p q → Moves sites q r → Moves sites p r
 moves-append m stop = m
 moves-append m (more n k) = more (moves-append m n) k
 
@@ -60,9 +60,9 @@ acts-then {p = p} a b =
             gathered = λ t n. b .elsewhere .gathered t n ∙ a .elsewhere .gathered t n;
           };
       grows = λ i j.
-      let (l, e) = a .grows i j in
-      let (m, f) = b .grows i j in
-      (l ++ m, f ∙ ap (λ z. z ++ m) e ∙ append-assoc (p .post i j) l m);
+          let (l, e) = a .grows i j in
+          let (m, f) = b .grows i j in
+          (l ++ m, f ∙ ap (λ z. z ++ m) e ∙ append-assoc (p .post i j) l m);
       log = λ j. b .log j ∙ a .log j;
       site = b .site;
       made = b .made;

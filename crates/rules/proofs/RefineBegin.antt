@@ -13,7 +13,7 @@ use Rattle.rules.specs.Valid.{siteOk}
 use Rattle.rules.specs.Effect.{changed, settle}
 use Rattle.rules.specs.Course.{newSub}
 use Rattle.rules.specs.Begin.{nextTx, beginCode, begun, beginOf, begin-clear}
-use Rattle.rules.specs.World.{World, upd, step, siteStep, messagesIn, splitWords} 
+use Rattle.rules.specs.World.{World, upd, step, siteStep, messagesIn, splitWords}
 use Rattle.rules.specs.World as world
 use Rattle.rules.proofs.Tables.{upd₂, upd-same, upd-other, a-nil}
 use Rattle.rules.proofs.Protocol.{Protocol, inst, beganAt, set-serial, begin, stop, more}
@@ -41,22 +41,24 @@ module _ {sites : ℕ} {w : World} {p : Protocol} (r : Refines sites w p) (i : I
       let b = newSub t (maskOf s) (length (inst p s)) in
       let q = beganAt (set-serial (upd (p .serial) s (p .serial s + 1)) p) s t (maskOf s) in
       let spot = free-spot (y .live) t (c .free) f in
-      let n : newSub (txOf (x .counters .own) (x .counters .serial + 1)) (maskOf (x .counters .own)) (x .counters .installs) ≡ b = rw (k .own-is, k .serial-is, k .installs-are) in
-      (q, more stop (begin s t l h u refl),
-      site-step r s l h
-      (record {
-        clock = λ j z. refl;
-        serial = λ j z. upd-other (p .serial) s (p .serial s + 1) j z;
-        live = λ j z. row-other (p .live) s t b j z;
-        post = λ j z m. refl;
-        taken = λ z j m. refl;
-        log = λ j z. refl;
-        gathered = λ z m. refl;
-      })
-      (changed x place (begun x) []) (w .base s) (w .lists s)
-      (site-sub (site-serial y (x .counters .serial + 1) (upd-same (p .serial) s (p .serial s + 1) ∙ ap (λ (z : ℕ). z + 1) (sym (k .serial-is)))) place t _
-      spot (rw n (λ z. new-sub t (maskOf s) (length (inst p s)))) (rw n (λ z m. absurd (omega (arith, new-stage t (maskOf s) (length (inst p s)))))) (rw n (row-same (p .live) s t b)))
-      (grows-none (p .post)) (λ j. refl) a-nil)
+      let n : newSub (txOf (x .counters .own) (x .counters .serial + 1)) (maskOf (x .counters .own)) (x .counters .installs) ≡ b = rw (k .own-is, k .serial-is, k .installs-are) in (
+        q,
+        more stop (begin s t l h u refl),
+        site-step r s l h
+            (record {
+              clock = λ j z. refl;
+              serial = λ j z. upd-other (p .serial) s (p .serial s + 1) j z;
+              live = λ j z. row-other (p .live) s t b j z;
+              post = λ j z m. refl;
+              taken = λ z j m. refl;
+              log = λ j z. refl;
+              gathered = λ z m. refl;
+            })
+            (changed x place (begun x) []) (w .base s) (w .lists s)
+            (site-sub (site-serial y (x .counters .serial + 1) (upd-same (p .serial) s (p .serial s + 1) ∙ ap (λ (z : ℕ). z + 1) (sym (k .serial-is)))) place t _
+            spot (rw n (λ z. new-sub t (maskOf s) (length (inst p s)))) (rw n (λ z m. absurd (omega (arith, new-stage t (maskOf s) (length (inst p s)))))) (rw n (row-same (p .live) s t b)))
+            (grows-none (p .post)) (λ j. refl) a-nil,
+      )
 
   pub begin-moves : Follows sites p (step w (world.begin s) .world)
   unfolding step beginOf

@@ -144,16 +144,16 @@ module _ {sites s t place : ℕ} {x : Site} {base words : List ℕ} {p : Protoco
       record {
         whole = concurrent-whole x place;
         prepared = λ u n e.
-        let held : (IsFree (p .live s u) → ⊥) = λ z. omega (arith, leb-true stage.prepared (p .live s u .course .stage) e) in
-        let (k, l, q, tx) = y .live .found u held in
-        let o : (k ≡ place → ⊥) = λ z. n (sym tx ∙ ap (λ (j : ℕ). subAt x j .tx) z ∙ ap (λ (b : Sub). b .tx) (a .part) ∙ a .tx) in
-        let g = lists-prepared x place k l o (ap isPrepared q ∙ e) (omega (arith, tx, positive u (i .has s u held))) in
-        rw (a .part, q, i .tx s u held) at (listed g);
+            let held : (IsFree (p .live s u) → ⊥) = λ z. omega (arith, leb-true stage.prepared (p .live s u .course .stage) e) in
+            let (k, l, q, tx) = y .live .found u held in
+            let o : (k ≡ place → ⊥) = λ z. n (sym tx ∙ ap (λ (j : ℕ). subAt x j .tx) z ∙ ap (λ (b : Sub). b .tx) (a .part) ∙ a .tx) in
+            let g = lists-prepared x place k l o (ap isPrepared q ∙ e) (omega (arith, tx, positive u (i .has s u held))) in
+            rw (a .part, q, i .tx s u held) at (listed g);
         installed = λ k l h.
-        let g : forgotten installs ≤ subAt x place .snapshot .installs = ltb-false _ _ f in
-        let z = kept-recalled k (omega (arith, snapshot-is)) h in
-        let d : 0 < recall (x .history) installs (z .index) .tx = rw (z .is) (positive (at p s k .tx) (i .entry-has s k h)) in
-        rw (z .is, a .part) at (listed (lists-installed x place (z .index) (z .after (omega (arith, snapshot-is))) (z .low) d));
+            let g : forgotten installs ≤ subAt x place .snapshot .installs = ltb-false _ _ f in
+            let z = kept-recalled k (omega (arith, snapshot-is)) h in
+            let d : 0 < recall (x .history) installs (z .index) .tx = rw (z .is) (positive (at p s k .tx) (i .entry-has s k h)) in
+            rw (z .is, a .part) at (listed (lists-installed x place (z .index) (z .after (omega (arith, snapshot-is))) (z .low) d));
       }
 
   -- A yes: an entry seen here is remembered, since it names this site and has a record here, which can be no other.

@@ -99,25 +99,26 @@ module _ {sites s t place : ℕ} {x : Site} {base lists : List ℕ} {p : Protoco
       → (q : Protocol) × Acts sites s p q (settle x place (abortStep turn r .turn)) base lists (abortStep turn r .words)
   unfolding abortStep settle turnAt sendAll
   abort-acts r n =
-      let m = mAbort t in
-      (_,
-      record {
-        moves = more stop (abort s t e (a .held) n);
-        elsewhere =
-            record {
-              clock = λ j z. refl;
-              serial = λ j z. refl;
-              live = λ j z. row-other (p .live) s t noSub j z;
-              post = λ j k z. others-elsewhere (p .post) s mask m j k z;
-              taken = λ k j z. refl;
-              log = λ j z. refl;
-              gathered = λ k z. refl;
-            };
-        grows = grows-all (p .post) s mask m;
-        log = λ j. refl;
-        site = send-all-site (p .post) turn (Aborted r) s mask m few (y .counters .own-is) mask-is (y .channels) refl (site-gone y refl a);
-        made = send-all-made (p .post) turn (Aborted r) s mask m few (y .counters .own-is) mask-is (y .channels) (no-entries .0) inHouse tx-is;
-      })
+      let m = mAbort t in (
+        _,
+        record {
+          moves = more stop (abort s t e (a .held) n);
+          elsewhere =
+              record {
+                clock = λ j z. refl;
+                serial = λ j z. refl;
+                live = λ j z. row-other (p .live) s t noSub j z;
+                post = λ j k z. others-elsewhere (p .post) s mask m j k z;
+                taken = λ k j z. refl;
+                log = λ j z. refl;
+                gathered = λ k z. refl;
+              };
+          grows = grows-all (p .post) s mask m;
+          log = λ j. refl;
+          site = send-all-site (p .post) turn (Aborted r) s mask m few (y .counters .own-is) mask-is (y .channels) refl (site-gone y refl a);
+          made = send-all-made (p .post) turn (Aborted r) s mask m few (y .counters .own-is) mask-is (y .channels) (no-entries .0) inHouse tx-is;
+        },
+      )
 
   -- The decision: the clock plus 1 is the commit number.
   commit-acts : AtStage p s t stage.queued → allHeard (courseAt p s t .heard) mask ≡ true → (n : ℕ) → n ≡ p .clock s + 1
@@ -131,28 +132,29 @@ module _ {sites s t place : ℕ} {x : Site} {base lists : List ℕ} {p : Protoco
       let u : Turn = record { counters = withClock (x .counters) (p .clock s + 1); channels = x .channels; sub = withCourse (subAt x place) d } in
       let k : d ≡ c = rw (course-is a) in
       let part : d .mask ≡ mask = decision-mask (subAt x place .course) (p .clock s + 1) ∙ mask-is in
-      rw z
-      (_,
-      record {
-        moves = more stop (decide s t e g all);
-        elsewhere =
-            record {
-              clock = λ j o. upd-other (p .clock) s (p .clock s + 1) j o;
-              serial = λ j o. refl;
-              live = λ j o. row-other (p .live) s t b j o;
-              post = λ j k o. others-elsewhere (p .post) s mask m j k o;
-              taken = λ k j o. refl;
-              log = λ j o. refl;
-              gathered = λ k o. refl;
-            };
-        grows = grows-all (p .post) s mask m;
-        log = λ j. refl;
-        site =
-            send-all-site (p .post) u (Committed (p .clock s + 1)) s mask m few (y .counters .own-is) part (y .channels) refl
-            (site-clock (site-course y refl a c d k (λ o f. absurd (omega (arith, decision-stage (courseAt p s t) (p .clock s + 1)))))
-            (p .clock s + 1) (upd-same (p .clock) s (p .clock s + 1)));
-        made = send-all-made (p .post) u (Committed (p .clock s + 1)) s mask m few (y .counters .own-is) part (y .channels) (no-entries .0) inHouse tx-is;
-      })
+      rw z (
+        _,
+        record {
+          moves = more stop (decide s t e g all);
+          elsewhere =
+              record {
+                clock = λ j o. upd-other (p .clock) s (p .clock s + 1) j o;
+                serial = λ j o. refl;
+                live = λ j o. row-other (p .live) s t b j o;
+                post = λ j k o. others-elsewhere (p .post) s mask m j k o;
+                taken = λ k j o. refl;
+                log = λ j o. refl;
+                gathered = λ k o. refl;
+              };
+          grows = grows-all (p .post) s mask m;
+          log = λ j. refl;
+          site =
+              send-all-site (p .post) u (Committed (p .clock s + 1)) s mask m few (y .counters .own-is) part (y .channels) refl
+              (site-clock (site-course y refl a c d k (λ o f. absurd (omega (arith, decision-stage (courseAt p s t) (p .clock s + 1)))))
+              (p .clock s + 1) (upd-same (p .clock) s (p .clock s + 1)));
+          made = send-all-made (p .post) u (Committed (p .clock s + 1)) s mask m few (y .counters .own-is) part (y .channels) (no-entries .0) inHouse tx-is;
+        },
+      )
 
   -- at the last clock an abort
   pub decide-acts : AtStage p s t stage.queued → allHeard (courseAt p s t .heard) mask ≡ true
@@ -184,27 +186,28 @@ module _ {sites s t place : ℕ} {x : Site} {base lists : List ℕ} {p : Protoco
   cert-acts g all es whole w v =
       let m = mCert t es in
       let c = withMark (courseAt p s t) (p .clock s) in
-      let part = mark-mask (subAt x place .course) (x .counters .clock) ∙ mask-is in
-      (castAt p s t es,
-      record {
-        moves = more stop (cast s t es e g all w v);
-        elsewhere =
-            record {
-              clock = λ j o. refl;
-              serial = λ j o. refl;
-              live = λ j o. row-other (p .live) s t (withCourse (p .live s t) c) j o;
-              post = λ j k o. others-elsewhere (p .post) s mask m j k o;
-              taken = λ k j o. refl;
-              log = λ j o. refl;
-              gathered = λ k o. refl;
-            };
-        grows = grows-all (p .post) s mask m;
-        log = λ j. refl;
-        site =
-            send-all-site (p .post) marked Done s mask m few (y .counters .own-is) part (y .channels) refl
-            (site-course y refl a c (withMark (subAt x place .course) (x .counters .clock)) marks (λ o f. absurd (omega (arith, mark-stage (courseAt p s t) (p .clock s)))));
-        made = send-all-made (p .post) marked Done s mask m few (y .counters .own-is) part (y .channels) whole inHouse tx-is;
-      })
+      let part = mark-mask (subAt x place .course) (x .counters .clock) ∙ mask-is in (
+        castAt p s t es,
+        record {
+          moves = more stop (cast s t es e g all w v);
+          elsewhere =
+              record {
+                clock = λ j o. refl;
+                serial = λ j o. refl;
+                live = λ j o. row-other (p .live) s t (withCourse (p .live s t) c) j o;
+                post = λ j k o. others-elsewhere (p .post) s mask m j k o;
+                taken = λ k j o. refl;
+                log = λ j o. refl;
+                gathered = λ k o. refl;
+              };
+          grows = grows-all (p .post) s mask m;
+          log = λ j. refl;
+          site =
+              send-all-site (p .post) marked Done s mask m few (y .counters .own-is) part (y .channels) refl
+              (site-course y refl a c (withMark (subAt x place .course) (x .counters .clock)) marks (λ o f. absurd (omega (arith, mark-stage (courseAt p s t) (p .clock s)))));
+          made = send-all-made (p .post) marked Done s mask m few (y .counters .own-is) part (y .channels) whole inHouse tx-is;
+        },
+      )
 
   -- Alone, all votes are there.
   lone-acts : AtStage p s t stage.prepared → allHeard (courseAt p s t .heard) mask ≡ true → (es : List ℕ) → Within (p .gathered t) es → Certified p s t es

@@ -73,25 +73,26 @@ module _ {sites : ℕ} {w : World} {p : Protocol} (r : Refines sites w p) (s : �
       let number = y .channels .sent-is n (o .low) m in
       let apart : (n ≡ s → ⊥) = λ z. eqb-false n (here .counters .own) (d .other) (z ∙ sym own) in
       let u = withCourseOf (turnAt here spot) (withParticipant course n) in
-      let words = send-words u (mJoin t) s n own (ap (λ (z : Sub). z .tx) (a .part) ∙ a .tx) in
-      (_,
-      more stop (enlist s t n (eqb-true _ _ (c .coordinator) ∙ own) active (o .low) m apart (sym (ap (λ (z : Course). inMask (z .mask) n) k) ∙ d .new)),
-      site-step r s l h
-      (record {
-        clock = λ j z. refl;
-        serial = λ j z. refl;
-        live = λ j z. row-other (p .live) s t b j z;
-        post = λ j g z. ap (λ (f : ℕ → List _). f g) (row-other (p .post) s n _ j z);
-        taken = λ g j z. refl;
-        log = λ j z. refl;
-        gathered = λ g z. refl;
-      })
-      (changed here spot (enlistStep (turnAt here spot) n) []) (w .base s) (w .lists s)
-      (site-channels
-      (site-course y refl a q (withParticipant course n) (rw k) (λ z g. absurd (omega (arith, participant-stage (courseAt p s t) n, active, z))))
-      (sentTo (here .channels) n) _ _ (channels-one (p .post) s n (mJoin t) (r .few) (o .low) m (y .channels)))
-      (grows-one (p .post) s n (mJoin t)) (λ j. refl)
-      (made-in (rw words (made-one (p .post) s n (getD (here .channels .sent) (n - 1) 0) (mJoin t) (no-entries .0) number))))
+      let words = send-words u (mJoin t) s n own (ap (λ (z : Sub). z .tx) (a .part) ∙ a .tx) in (
+        _,
+        more stop (enlist s t n (eqb-true _ _ (c .coordinator) ∙ own) active (o .low) m apart (sym (ap (λ (z : Course). inMask (z .mask) n) k) ∙ d .new)),
+        site-step r s l h
+            (record {
+              clock = λ j z. refl;
+              serial = λ j z. refl;
+              live = λ j z. row-other (p .live) s t b j z;
+              post = λ j g z. ap (λ (f : ℕ → List _). f g) (row-other (p .post) s n _ j z);
+              taken = λ g j z. refl;
+              log = λ j z. refl;
+              gathered = λ g z. refl;
+            })
+            (changed here spot (enlistStep (turnAt here spot) n) []) (w .base s) (w .lists s)
+            (site-channels
+            (site-course y refl a q (withParticipant course n) (rw k) (λ z g. absurd (omega (arith, participant-stage (courseAt p s t) n, active, z))))
+            (sentTo (here .channels) n) _ _ (channels-one (p .post) s n (mJoin t) (r .few) (o .low) m (y .channels)))
+            (grows-one (p .post) s n (mJoin t)) (λ j. refl)
+            (made-in (rw words (made-one (p .post) s n (getD (here .channels .sent) (n - 1) 0) (mJoin t) (no-entries .0) number))),
+      )
 
   pub enlist-moves : Follows sites p (step w (world.enlist s out t n) .world)
   unfolding step enlistOf enlistAt

@@ -59,22 +59,22 @@ lists-put {own} {live} {lists} {gathered} i t b at ws es a size s x from to few 
     record {
       size = length-put at lists ws (omega (arith, s .low, a .size)) ∙ a .size;
       each = λ j h f g. by-same j i
-      (λ e. let q : partAt (set live i b) j ≡ b = rw e (getD-set-same live i b pastSub (omega (arith, s .low))) in
-      rw (q, ap (upd gathered t es) x ∙ upd-same gathered t es, e) new)
-      (λ n. let q : partAt (set live i b) j ≡ partAt live j = getD-set-other live i j b pastSub n in
-      let f′ : partAt live j .course .stage ≡ stage.prepared = sym (ap (λ (c : Sub). c .course .stage) q) ∙ f in
-      let old = a .each j h f′ (sym (ap (λ (c : Sub). coordinatorOf (c .tx)) q) ∙ g) in
-      let o : (partAt live j .tx ≡ t → ⊥) = λ z. n (s .alone j h (λ y. omega arith) z) in
-      let k = partAt live j .course .listed in
-      rw (q, upd-other gathered t es (partAt live j .tx) o)
-      (record {
-        size = old .size;
-        words = by-order j i
-        (λ l. put-before at lists ws (sizes.gathered * j) (sizes.entry * k) (omega (arith, s .low, a .size)) (omega (arith, few j h)) ∙ old .words)
-        (λ l. let m : sizes.gathered * i + sizes.gathered ≤ sizes.gathered * j = apart j i l n in
-        rw (put-behind at lists ws (sizes.gathered * j) (omega (arith, s .low, a .size)) (omega arith)) (old .words));
-        marks = old .marks;
-      }));
+          (λ e. let q : partAt (set live i b) j ≡ b = rw e (getD-set-same live i b pastSub (omega (arith, s .low))) in
+          rw (q, ap (upd gathered t es) x ∙ upd-same gathered t es, e) new)
+          (λ n. let q : partAt (set live i b) j ≡ partAt live j = getD-set-other live i j b pastSub n in
+          let f′ : partAt live j .course .stage ≡ stage.prepared = sym (ap (λ (c : Sub). c .course .stage) q) ∙ f in
+          let old = a .each j h f′ (sym (ap (λ (c : Sub). coordinatorOf (c .tx)) q) ∙ g) in
+          let o : (partAt live j .tx ≡ t → ⊥) = λ z. n (s .alone j h (λ y. omega arith) z) in
+          let k = partAt live j .course .listed in
+          rw (q, upd-other gathered t es (partAt live j .tx) o)
+          (record {
+            size = old .size;
+            words = by-order j i
+                (λ l. put-before at lists ws (sizes.gathered * j) (sizes.entry * k) (omega (arith, s .low, a .size)) (omega (arith, few j h)) ∙ old .words)
+                (λ l. let m : sizes.gathered * i + sizes.gathered ≤ sizes.gathered * j = apart j i l n in
+                rw (put-behind at lists ws (sizes.gathered * j) (omega (arith, s .low, a .size)) (omega arith)) (old .words));
+            marks = old .marks;
+          }));
     }
   where
     apart : (j i : ℕ) → i ≤ j → (j ≡ i → ⊥) → sizes.gathered * i + sizes.gathered ≤ sizes.gathered * j

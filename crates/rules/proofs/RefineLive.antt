@@ -102,21 +102,21 @@ module _ {live : List Sub} {row : ℕ → Sub} (l : LiveIs live row) where
         record {
           size = length-set live i b ∙ l .size;
           holds = λ j h f. by-same j i
-          (λ e. let z : (IsFree b → ⊥) = rw (e, here) at f in rw (e, here) (sym (ap (upd row t b) (x z .0) ∙ upd-same row t b)))
-          (λ n. let g = rw (there j n) at f in
-          rw (there j n) (l .holds j h g ∙ sym (upd-other row t b (partAt live j .tx) (λ q. n (s .alone j h g q)))));
+              (λ e. let z : (IsFree b → ⊥) = rw (e, here) at f in rw (e, here) (sym (ap (upd row t b) (x z .0) ∙ upd-same row t b)))
+              (λ n. let g = rw (there j n) at f in
+              rw (there j n) (l .holds j h g ∙ sym (upd-other row t b (partAt live j .tx) (λ q. n (s .alone j h g q)))));
           apart = λ j k h m f g q. by-same j i
-          (λ e. by-same k i (λ y. e ∙ sym y)
-          (λ n. let g′ = rw (there k n) at g in
-          let f′ : (IsFree b → ⊥) = rw (e, here) at f in
-          let q′ : b .tx ≡ partAt live k .tx = rw (e, here, there k n) at q in
-          absurd (n (s .alone k m g′ (sym q′ ∙ x f′ .0)))))
-          (λ n. let f′ = rw (there j n) at f in
-          by-same k i
-          (λ y. let g′ : (IsFree b → ⊥) = rw (y, here) at g in
-          let q′ : partAt live j .tx ≡ b .tx = rw (y, here, there j n) at q in
-          absurd (n (s .alone j h f′ (q′ ∙ x g′ .0))))
-          (λ o. l .apart j k h m f′ (rw (there k o) at g) (rw (there j n, there k o) at q)));
+              (λ e. by-same k i (λ y. e ∙ sym y)
+              (λ n. let g′ = rw (there k n) at g in
+              let f′ : (IsFree b → ⊥) = rw (e, here) at f in
+              let q′ : b .tx ≡ partAt live k .tx = rw (e, here, there k n) at q in
+              absurd (n (s .alone k m g′ (sym q′ ∙ x f′ .0)))))
+              (λ n. let f′ = rw (there j n) at f in
+              by-same k i
+              (λ y. let g′ : (IsFree b → ⊥) = rw (y, here) at g in
+              let q′ : partAt live j .tx ≡ b .tx = rw (y, here, there j n) at q in
+              absurd (n (s .alone j h f′ (q′ ∙ x g′ .0))))
+              (λ o. l .apart j k h m f′ (rw (there k o) at g) (rw (there j n, there k o) at q)));
           found =
               upd-cases (λ u c. (IsFree c → ⊥) → (j : ℕ) × (j < sizes.live) × (partAt (set live i b) j ≡ c) × (partAt (set live i b) j .tx ≡ u)) row t b
               (λ f. (i, s .low, here, rw here (x f .0)))
@@ -134,8 +134,8 @@ module _ {live : List Sub} {row : ℕ → Sub} (l : LiveIs live row) where
         record {
           size = a .size;
           each = λ j h f g. by-same j i
-          (λ e. let q : partAt (set live i b) j ≡ b = rw e here in
-          absurd (n (sym (ap (λ (c : Sub). c .course .stage) q) ∙ f) (sym (ap (λ (c : Sub). coordinatorOf (c .tx)) q) ∙ g)))
-          (λ o. let q = there j o in
-          rw q (a .each j h (sym (ap (λ (c : Sub). c .course .stage) q) ∙ f) (sym (ap (λ (c : Sub). coordinatorOf (c .tx)) q) ∙ g)));
+              (λ e. let q : partAt (set live i b) j ≡ b = rw e here in
+              absurd (n (sym (ap (λ (c : Sub). c .course .stage) q) ∙ f) (sym (ap (λ (c : Sub). coordinatorOf (c .tx)) q) ∙ g)))
+              (λ o. let q = there j o in
+              rw q (a .each j h (sym (ap (λ (c : Sub). c .course .stage) q) ∙ f) (sym (ap (λ (c : Sub). coordinatorOf (c .tx)) q) ∙ g)));
         }

@@ -58,9 +58,9 @@ state-at live p s clock l e =
     record {
       clock = omega (arith, state-clock live clock sizes.live);
       marks = λ u g. let (i, h, q, x) = l .found u (λ f. omega arith) in
-      omega (arith, state-open live clock sizes.live i h (ap (λ (b : Sub). b .course .stage) q ∙ g), ap (λ (b : Sub). b .course .number) q);
+          omega (arith, state-open live clock sizes.live i h (ap (λ (b : Sub). b .course .stage) q ∙ g), ap (λ (b : Sub). b .course .number) q);
       numbers = λ u g. let (i, h, q, x) = l .found u (λ f. omega arith) in
-      omega (arith, state-decided live clock sizes.live i h (ap (λ (b : Sub). b .course .stage) q ∙ g), ap (λ (b : Sub). b .course .number) q);
+          omega (arith, state-decided live clock sizes.live i h (ap (λ (b : Sub). b .course .stage) q ∙ g), ap (λ (b : Sub). b .course .number) q);
     }
 
 module _ {sites : ℕ} {w : World} {p : Protocol} (r : Refines sites w p) (s : ℕ) (out : List ℕ) where
@@ -80,30 +80,32 @@ module _ {sites : ℕ} {w : World} {p : Protocol} (r : Refines sites w p) (s : �
       let y = r .site s l h in
       let k = p .log s ++ (rState state ∷ []) in
       let g : upd (p .log) s k s ≡ k = upd-same (p .log) s k in
-      let z : partsOf (upd (p .log) s k s) ≡ partsOf (p .log s) = rw g (parts-state (p .log s) state) in
-      (_, more stop (report s state (state-at (here .live) p s (here .counters .clock) (y .live) (y .counters .clock-is))),
-      log-step r s l h
-      (record {
-        clock = λ j n. refl;
-        serial = λ j n. refl;
-        live = λ j n. refl;
-        post = λ j n m. refl;
-        taken = λ n j m. refl;
-        log = λ j n. upd-other (p .log) s k j n;
-        gathered = λ n m. refl;
-      })
-      reported (w .base s)
-      (record {
-        house = y .house;
-        counters = rw z (y .counters);
-        channels = y .channels;
-        live = y .live;
-        history = rw z (y .history);
-        lists = y .lists;
-        base-size = y .base-size;
-      })
-      (λ a b. refl)
-      (rw g (log-more s (w .log s) (p .log s) (rState state) (stateWords (here .counters .own) state) (r .log s) (state-record (here .counters .own) s state (y .counters .own-is)))))
+      let z : partsOf (upd (p .log) s k s) ≡ partsOf (p .log s) = rw g (parts-state (p .log s) state) in (
+        _,
+        more stop (report s state (state-at (here .live) p s (here .counters .clock) (y .live) (y .counters .clock-is))),
+        log-step r s l h
+            (record {
+              clock = λ j n. refl;
+              serial = λ j n. refl;
+              live = λ j n. refl;
+              post = λ j n m. refl;
+              taken = λ n j m. refl;
+              log = λ j n. upd-other (p .log) s k j n;
+              gathered = λ n m. refl;
+            })
+            reported (w .base s)
+            (record {
+              house = y .house;
+              counters = rw z (y .counters);
+              channels = y .channels;
+              live = y .live;
+              history = rw z (y .history);
+              lists = y .lists;
+              base-size = y .base-size;
+            })
+            (λ a b. refl)
+            (rw g (log-more s (w .log s) (p .log s) (rState state) (stateWords (here .counters .own) state) (r .log s) (state-record (here .counters .own) s state (y .counters .own-is)))),
+      )
 
   pub report-moves : Follows sites p (step w (world.report s out) .world)
   unfolding step reportOf
@@ -136,22 +138,22 @@ history-more history es e x =
     record {
       size = length-set history (slotOf (length es)) e ∙ x .size;
       recalls = λ i h.
-      let n = length es in
-      let m : length (es ++ (e ∷ [])) ≡ n + 1 = length-append es (e ∷ []) in
-      let h′ : i < remembered (n + 1) = rw m at h in
-      let k = forgotten (n + 1) + i in
-      rw m
-      (by-order k n
-      (λ l.
-      let o = older n i l in
-      getD-set-other history (slotOf n) (slotOf k) e pastEntry (slots-apart n k l (o .near))
-      ∙ sym (ap (λ (z : ℕ). getD history (slotOf z) pastEntry) (o .is))
-      ∙ x .recalls (o .index) (o .low)
-      ∙ ap (λ (z : ℕ). getD es z pastEntry) (o .is)
-      ∙ sym (List·getD-append es (e ∷ []) pastEntry k l))
-      (λ l.
-      let q = newest n i h′ l in
-      rw q (getD-set-same history (slotOf n) e pastEntry (omega (arith, x .size)) ∙ sym (getD-append-seam es e [] pastEntry))));
+          let n = length es in
+          let m : length (es ++ (e ∷ [])) ≡ n + 1 = length-append es (e ∷ []) in
+          let h′ : i < remembered (n + 1) = rw m at h in
+          let k = forgotten (n + 1) + i in
+          rw m
+          (by-order k n
+          (λ l.
+          let o = older n i l in
+          getD-set-other history (slotOf n) (slotOf k) e pastEntry (slots-apart n k l (o .near))
+          ∙ sym (ap (λ (z : ℕ). getD history (slotOf z) pastEntry) (o .is))
+          ∙ x .recalls (o .index) (o .low)
+          ∙ ap (λ (z : ℕ). getD es z pastEntry) (o .is)
+          ∙ sym (List·getD-append es (e ∷ []) pastEntry k l))
+          (λ l.
+          let q = newest n i h′ l in
+          rw q (getD-set-same history (slotOf n) e pastEntry (omega (arith, x .size)) ∙ sym (getD-append-seam es e [] pastEntry))));
     }
 
 -- what is forgotten keeps the base values' number
@@ -201,38 +203,40 @@ module _ {sites : ℕ} {w : World} {p : Protocol} (r : Refines sites w p) (s : �
       let k = p .log s ++ (rPart (entryOf b) ∷ []) in
       let g : upd (p .log) s k s ≡ k = upd-same (p .log) s k in
       let z : partsOf (upd (p .log) s k s) ≡ partsOf (p .log s) ++ (entryOf b ∷ []) = rw g (parts-append (p .log s) (rPart (entryOf b) ∷ [])) in
-      let gone = site-gone y refl a in
-      (_, more stop (install s t (sym (ap (λ (x : Sub). x .course .stage) (a .part)) ∙ decided) (least-at (site .live) p s t (y .live) (a .part))),
-      log-step r s l h
-      (record {
-        clock = λ j n. refl;
-        serial = λ j n. refl;
-        live = λ j n. row-other (p .live) s t noSub j n;
-        post = λ j n m. refl;
-        taken = λ n j m. refl;
-        log = λ j n. upd-other (p .log) s k j n;
-        gathered = λ n m. refl;
-      })
-      (installedAt site (w .base s) due) (baseAfter site (w .base s))
-      (record {
-        house = y .house;
-        counters =
-            record {
-              own-is = y .counters .own-is;
-              clock-is = y .counters .clock-is;
-              serial-is = y .counters .serial-is;
-              installs-are = rw z (omega (arith, y .counters .installs-are, length-append (partsOf (p .log s)) (entryOf b ∷ [])));
-            };
-        channels = y .channels;
-        live = gone .live;
-        history = rw (z, y .counters .installs-are, ap entryOf (a .part)) (history-more (site .history) (partsOf (p .log s)) (entryOf b) (y .history));
-        lists = gone .lists;
-        base-size = base-length site (w .base s) ∙ y .base-size;
-      })
-      (λ m n. refl)
-      (rw g
-      (log-more s (w .log s) (p .log s) (rPart (entryOf b)) (partWords (site .counters .own) (subAt site due)) (r .log s)
-      (part-record (site .counters .own) s (subAt site due) b (y .counters .own-is) (a .part)))))
+      let gone = site-gone y refl a in (
+        _,
+        more stop (install s t (sym (ap (λ (x : Sub). x .course .stage) (a .part)) ∙ decided) (least-at (site .live) p s t (y .live) (a .part))),
+        log-step r s l h
+            (record {
+              clock = λ j n. refl;
+              serial = λ j n. refl;
+              live = λ j n. row-other (p .live) s t noSub j n;
+              post = λ j n m. refl;
+              taken = λ n j m. refl;
+              log = λ j n. upd-other (p .log) s k j n;
+              gathered = λ n m. refl;
+            })
+            (installedAt site (w .base s) due) (baseAfter site (w .base s))
+            (record {
+              house = y .house;
+              counters =
+                  record {
+                    own-is = y .counters .own-is;
+                    clock-is = y .counters .clock-is;
+                    serial-is = y .counters .serial-is;
+                    installs-are = rw z (omega (arith, y .counters .installs-are, length-append (partsOf (p .log s)) (entryOf b ∷ [])));
+                  };
+              channels = y .channels;
+              live = gone .live;
+              history = rw (z, y .counters .installs-are, ap entryOf (a .part)) (history-more (site .history) (partsOf (p .log s)) (entryOf b) (y .history));
+              lists = gone .lists;
+              base-size = base-length site (w .base s) ∙ y .base-size;
+            })
+            (λ m n. refl)
+            (rw g
+            (log-more s (w .log s) (p .log s) (rPart (entryOf b)) (partWords (site .counters .own) (subAt site due)) (r .log s)
+            (part-record (site .counters .own) s (subAt site due) b (y .counters .own-is) (a .part)))),
+      )
 
   pub install-moves : Follows sites p (step w (world.install s out) .world)
   unfolding step installOf installedAt

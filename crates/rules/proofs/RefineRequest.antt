@@ -205,7 +205,7 @@ module _ {sites s t place : ℕ} {x : Site} {base lists : List ℕ} {p : Protoco
   turn-held z = omega (arith, request-stage (subAt x place .course) count)
 
 -- a yes says the same of a part with another course
-certified-course : (p q : Protocol) (s t : ℕ) (es : List ℕ) → inst q s ≡ inst p s → q .live s t .keys ≡ p .live s t .keys → q .live s t .snapshot ≡ p .live s t .snapshot
+pub certified-course : (p q : Protocol) (s t : ℕ) (es : List ℕ) → inst q s ≡ inst p s → q .live s t .keys ≡ p .live s t .keys → q .live s t .snapshot ≡ p .live s t .snapshot
     → Certified p s t es → Certified q s t es
 certified-course p q s t es l k n c j m h names b seen tx =
     rw (l, k) (c j m h names (rw l at b) (rw (ap (λ (z : Snapshot). z .installs) n) at seen) (rw l at tx))

@@ -109,9 +109,9 @@ channels-taken {sites} {c} {post} taken a b few l h x =
       taken-size = length-set (c .taken) (a - 1) (getD (c .taken) (a - 1) 0 + 1) ∙ x .taken-size;
       sent-is = x .sent-is;
       taken-is = λ r k n. by-same r a
-      (λ e. rw (e, upd₂-same taken a b (taken a b + 1))
-      (getD-set-same (c .taken) (a - 1) (getD (c .taken) (a - 1) 0 + 1) 0 (omega (arith, x .taken-size)) ∙ omega (arith, x .taken-is a l h)))
-      (λ e. getD-set-other (c .taken) (a - 1) (r - 1) (getD (c .taken) (a - 1) 0 + 1) 0 (λ z. e (omega arith)) ∙ x .taken-is r k n ∙ sym (old r e));
+          (λ e. rw (e, upd₂-same taken a b (taken a b + 1))
+          (getD-set-same (c .taken) (a - 1) (getD (c .taken) (a - 1) 0 + 1) 0 (omega (arith, x .taken-size)) ∙ omega (arith, x .taken-is a l h)))
+          (λ e. getD-set-other (c .taken) (a - 1) (r - 1) (getD (c .taken) (a - 1) 0 + 1) 0 (λ z. e (omega arith)) ∙ x .taken-is r k n ∙ sym (old r e));
     }
   where
     old : (r : ℕ) → (r ≡ a → ⊥) → upd₂ taken a b (taken a b + 1) r b ≡ taken r b

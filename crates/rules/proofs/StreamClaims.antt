@@ -47,7 +47,7 @@ pub record Prefix (p : Protocol) (m : Merger) (n : ℕ) : Type 0 where
   pub all : (t : ℕ) → 0 < p .num t → rankIn p t ≤ lastRank m n → (j : ℕ) × (j < n) × (itemAt m j .tx ≡ t)
 
 module _ {sites : ℕ} {p : Protocol} {m : Merger} (inv : Invariant sites p) (i : Streamed sites p m) where
-  item-rank : (j : ℕ) → j < length (m .out) → rankIn p (itemAt m j .tx) ≡ itemRank (itemAt m j)
+  pub item-rank : (j : ℕ) → j < length (m .out) → rankIn p (itemAt m j .tx) ≡ itemRank (itemAt m j)
   item-rank j l = omega (arith, item-number inv i j l)
 
   pub prefix : (n : ℕ) → n ≤ length (m .out) → Prefix p m n
@@ -102,11 +102,11 @@ LeftUpTo p o e k v =
     ⊎ ((t : ℕ) × (0 < p .num t) × (rankIn p t ≤ e) × WroteIn p o t k × (wroteValue (p .keys (siteOf o k) t) k ≡ v)
     × ((u : ℕ) → 0 < p .num u → rankIn p u ≤ e → WroteIn p o u k → rankIn p u ≤ rankIn p t))
 
-left-more : (o : House) (k : ℕ) (v : Value) (l : List Item) (x : Item) → leftIn o k v (l ++ (x ∷ [])) ≡ leaves o k (leftIn o k v l) x
+pub left-more : (o : House) (k : ℕ) (v : Value) (l : List Item) (x : Item) → leftIn o k v (l ++ (x ∷ [])) ≡ leaves o k (leftIn o k v l) x
 left-more o k v [] x = refl
 left-more o k v (y ∷ l) x = left-more o k (leaves o k v y) l x
 
-positive-site : (o : House) (k : ℕ) → 1 ≤ siteOf o k
+pub positive-site : (o : House) (k : ℕ) → 1 ≤ siteOf o k
 unfolding siteOf
 positive-site o k = omega arith
 

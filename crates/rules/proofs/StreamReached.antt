@@ -56,9 +56,9 @@ pub standing-fresh : (sites : ℕ) → Standing sites freshStream
 unfolding freshStream freshMerger
 standing-fresh sites = record { invariant = invariant-fresh sites; streamed = streamed-fresh sites freshProtocol; replayed = λ c. omega arith }
 
+pub standing-steps : {sites : ℕ} {v w : Stream} → sites ≤ 8 → Steps sites v w → Standing sites v → Standing sites w
+standing-steps h stop i = i
+standing-steps h (more ss s) i = standing-step h s (standing-steps h ss i)
+
 pub standing : {sites : ℕ} {w : Stream} → sites ≤ 8 → Steps sites freshStream w → Standing sites w
-standing {sites} h s = go s (standing-fresh sites)
-  where
-    go : {v w : Stream} → Steps sites v w → Standing sites v → Standing sites w
-    go stop i = i
-    go (more ss s) i = standing-step h s (go ss i)
+standing {sites} h s = standing-steps h s (standing-fresh sites)

@@ -1,8 +1,13 @@
 // Abandon: an abort before the decision.
 use crate::codes::request_code;
-use kinds::reason::{ABANDONED, SPENT, STAGE};
+use kinds::Answer;
+use kinds::Out;
+use kinds::Site;
+use kinds::Turn;
+use kinds::reason::ABANDONED;
+use kinds::reason::SPENT;
+use kinds::reason::STAGE;
 use kinds::stage::DECIDED;
-use kinds::{Answer, Out, Site, Turn};
 ghost use mathlib.Core.Path.{_≡_};
 ghost use lib.ListN.{length};
 ghost use Rattle.laws.specs.Overlay.{overlay};

@@ -1,6 +1,10 @@
 // Causes of refusal that commit and abandon share.
-use kinds::reason::{MALFORMED, NOT_COORDINATOR, SHORT, UNKNOWN};
-use kinds::sizes::{LIVE, OUTGOING};
+use kinds::reason::MALFORMED;
+use kinds::reason::NOT_COORDINATOR;
+use kinds::reason::SHORT;
+use kinds::reason::UNKNOWN;
+use kinds::sizes::LIVE;
+use kinds::sizes::OUTGOING;
 ghost use mathlib.Core.Path.{_≡_};
 ghost use Rattle.rules.specs.Commit.{requestCode};
 

@@ -1,9 +1,21 @@
 // The commit request.
 use crate::codes::request_code;
-use kinds::reason::{FULL, OUTSTANDING, SPENT, STAGE, UNCERTAIN};
-use kinds::sizes::{ENTRY, GATHERED, HISTORY, LISTS, LIVE};
+use kinds::Answer;
+use kinds::Out;
+use kinds::Site;
+use kinds::Taken;
+use kinds::Turn;
+use kinds::reason::FULL;
+use kinds::reason::OUTSTANDING;
+use kinds::reason::SPENT;
+use kinds::reason::STAGE;
+use kinds::reason::UNCERTAIN;
+use kinds::sizes::ENTRY;
+use kinds::sizes::GATHERED;
+use kinds::sizes::HISTORY;
+use kinds::sizes::LISTS;
+use kinds::sizes::LIVE;
 use kinds::stage::ACTIVE;
-use kinds::{Answer, Out, Site, Taken, Turn};
 ghost use mathlib.Core.Path.{_≡_};
 ghost use Prim.Native.Nat.{_+_, _*_, _≤_, _<_};
 ghost use lib.ListN.{length};
@@ -118,7 +130,13 @@ pub fn commit(s: Site, tx: u64, lists: &mut [u64], out: &mut [u64]) -> Out
     let own = s.counters.own;
     let place = live::place_of(live, tx);
     let coordinator = numbers::coordinator_of(tx);
-    let code = request_code(ok, out.len(), lists.len() == LISTS, place, coordinator == own);
+    let code = request_code(
+        ok,
+        out.len(),
+        lists.len() == LISTS,
+        place,
+        coordinator == own,
+    );
     if code != 0 {
         return Out {
             answer: Answer::Refused(code),

@@ -1,8 +1,24 @@
 // Read and write.
-use kinds::reason::{ELSEWHERE, FORGOTTEN, HELD, MALFORMED, NEWER, STAGE, TOO_MANY, UNKNOWN};
-use kinds::sizes::{KEYS, LIVE, READS, WRITES};
-use kinds::stage::{ACTIVE, FREE};
-use kinds::{Answer, House, Out, Site, Sub, Value};
+use kinds::Answer;
+use kinds::House;
+use kinds::Out;
+use kinds::Site;
+use kinds::Sub;
+use kinds::Value;
+use kinds::reason::ELSEWHERE;
+use kinds::reason::FORGOTTEN;
+use kinds::reason::HELD;
+use kinds::reason::MALFORMED;
+use kinds::reason::NEWER;
+use kinds::reason::STAGE;
+use kinds::reason::TOO_MANY;
+use kinds::reason::UNKNOWN;
+use kinds::sizes::KEYS;
+use kinds::sizes::LIVE;
+use kinds::sizes::READS;
+use kinds::sizes::WRITES;
+use kinds::stage::ACTIVE;
+use kinds::stage::FREE;
 ghost use mathlib.Core.Path.{_≡_};
 ghost use lib.ListN.{length};
 ghost use Rattle.kinds.specs.Sizes as sizes;
@@ -10,15 +26,7 @@ ghost use Rattle.rules.specs.Effect.{outOf};
 ghost use Rattle.rules.specs.Live.{stageAt};
 ghost use Rattle.rules.specs.Access.{accessCode, readCode, writeCode, readOf, writeOf};
 
-fn access_code(
-    ok: bool,
-    room: usize,
-    o: House,
-    own: u64,
-    key: u64,
-    place: usize,
-    stage: u64,
-) -> u64
+fn access_code(ok: bool, room: usize, o: House, own: u64, key: u64, place: usize, stage: u64) -> u64
     ensures { λ r. ⌜ r ≡ accessCode ok room o own key place stage ⌝ }
 {
     let known = numbers::is_key(o, key);

@@ -1,7 +1,13 @@
 // Begin: the site becomes coordinator of a new transaction.
-use kinds::reason::{FULL, MALFORMED, SPENT};
-use kinds::sizes::{LAST_SERIAL, LIVE};
-use kinds::{Answer, Counters, Out, Site};
+use kinds::Answer;
+use kinds::Counters;
+use kinds::Out;
+use kinds::Site;
+use kinds::reason::FULL;
+use kinds::reason::MALFORMED;
+use kinds::reason::SPENT;
+use kinds::sizes::LAST_SERIAL;
+use kinds::sizes::LIVE;
 ghost use mathlib.Core.Path.{_≡_};
 ghost use Prim.Native.Nat.{_≤_, _<_};
 ghost use Rattle.kinds.specs.Sizes as sizes;

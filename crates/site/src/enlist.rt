@@ -1,8 +1,17 @@
 // Enlist: a participant more, and JOIN to it.
-use kinds::reason::{MALFORMED, NOT_COORDINATOR, SHORT, SPENT, STAGE, UNKNOWN};
-use kinds::sizes::{LIVE, OUTGOING};
+use kinds::Answer;
+use kinds::Out;
+use kinds::Site;
+use kinds::Turn;
+use kinds::reason::MALFORMED;
+use kinds::reason::NOT_COORDINATOR;
+use kinds::reason::SHORT;
+use kinds::reason::SPENT;
+use kinds::reason::STAGE;
+use kinds::reason::UNKNOWN;
+use kinds::sizes::LIVE;
+use kinds::sizes::OUTGOING;
 use kinds::stage::ACTIVE;
-use kinds::{Answer, Out, Site, Turn};
 ghost use mathlib.Core.Path.{_≡_};
 ghost use lib.ListN.{length};
 ghost use Rattle.laws.specs.Overlay.{overlay};

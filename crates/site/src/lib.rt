@@ -1,5 +1,5 @@
 // The calls of a site that send at most one message: start, begin, enlist, read, write.
-pub mod start;
+pub mod access;
 pub mod begin;
 pub mod enlist;
-pub mod access;
+pub mod start;

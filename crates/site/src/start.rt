@@ -1,7 +1,17 @@
 // Start: a fresh site, and its lent tables filled with 0.
+use kinds::Answer;
+use kinds::Channels;
+use kinds::Counters;
+use kinds::Entry;
+use kinds::House;
+use kinds::Out;
+use kinds::Site;
 use kinds::reason::MALFORMED;
-use kinds::sizes::{HISTORY, KEYS, LISTS, LIVE, SITES};
-use kinds::{Answer, Channels, Counters, Entry, House, Out, Site};
+use kinds::sizes::HISTORY;
+use kinds::sizes::KEYS;
+use kinds::sizes::LISTS;
+use kinds::sizes::LIVE;
+use kinds::sizes::SITES;
 ghost use mathlib.Core.Path.{_≡_};
 ghost use lib.ListN.{length};
 ghost use Rattle.kinds.specs.State.{noEntry};

@@ -53,9 +53,11 @@ vote-step-requires : tie.Need-vote-step-requires
 unfolding raise arrived
 vote-step-requires c κs = let a = c .before .before .before .before .before .before .before .before .before .before .before .before .pre .1 .0 in
     let r = reply-clear _ _ (sym (c .before .before .reply-code .ensures) ∙ c .before .if1 .left) in
-    let e = c .before .before .before .before .before .before .before .before .before .raise .ensures ∙ ap (λ (x : Turn). raise x (c .before .before .before .before .before .before .before .before .before .before .before .before .args .h .clock)) (c .before .before .before .before .before .before .before .before .before .before .arrived .ensures) in
-    ((λ d. let f = counts-low _ _ _ (not-false _ (not-both (c .before .before .before .before .before .before .vote-decides .result) _ (sym (c .before .before .before .all-spent .ensures) ∙ r .low) (c .before .before .before .before .before .before .vote-decides .ensures ∙ d))) in
-    rw e (record { long = c .before .before .before .before .before .before .before .before .before .before .before .before .pre .1 .1 .0; first = c .before .before .before .before .before .before .before .before .before .before .before .before .pre .1 .1 .1 .0; last = c .before .before .before .before .before .before .before .before .before .before .before .before .pre .1 .1 .1 .1; low = rw e at f })), (a .first, a .last))
+    let e = c .before .before .before .before .before .before .before .before .before .raise .ensures ∙ ap (λ (x : Turn). raise x (c .before .before .before .before .before .before .before .before .before .before .before .before .args .h .clock)) (c .before .before .before .before .before .before .before .before .before .before .arrived .ensures) in (
+      (λ d. let f = counts-low _ _ _ (not-false _ (not-both (c .before .before .before .before .before .before .vote-decides .result) _ (sym (c .before .before .before .all-spent .ensures) ∙ r .low) (c .before .before .before .before .before .before .vote-decides .ensures ∙ d))) in
+          rw e (record { long = c .before .before .before .before .before .before .before .before .before .before .before .before .pre .1 .1 .0; first = c .before .before .before .before .before .before .before .before .before .before .before .before .pre .1 .1 .1 .0; last = c .before .before .before .before .before .before .before .before .before .before .before .before .pre .1 .1 .1 .1; low = rw e at f })),
+      (a .first, a .last),
+    )
 
 settled-requires : tie.Need-settled-requires
 settled-requires c κs = search needs

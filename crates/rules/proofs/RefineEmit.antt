@@ -1,0 +1,346 @@
+-- Emit, as a step: the least head is the machine's, and what is written are the words of its item.
+use Prim.Native.Nat.{ℕ, zero, suc, _+_, _-_, _*_, _≤_, _<_}
+use mathlib.Core.Path.{_≡_, refl, sym, ap, _∙_}
+use mathlib.Core.Bool.{true, false}
+use mathlib.Core.Logic.{_⊎_, inl, inr, ⊎-elim}
+use mathlib.Core.List.{List, [], _∷_, _++_, map-append, append-nil}
+use native.Mathlib.Numerals.{add-one}
+use native.Mathlib.Omega.{arith}
+use borrow.Author.Tests.{eqb-true}
+use lib.Dec.{eqb}
+use lib.ListN.{length}
+use lib.Seq.{take-append-le}
+use Rattle.laws.specs.Choice.{every, every-at, by-test}
+use Rattle.laws.specs.Scan.{foldBelow, all-below-at}
+use Rattle.laws.specs.Pair.{precedes, not-precedes-rank}
+use Rattle.kinds.specs.Sizes as sizes
+use Rattle.kinds.specs.declared.House.{House}
+use Rattle.kinds.specs.declared.Entry.{Entry}
+use Rattle.kinds.specs.declared.RecordHead.{RecordHead}
+use Rattle.kinds.specs.declared.Merger.{Merger}
+use Rattle.kinds.specs.declared.Answer.the-variants.{Emitted}
+use Rattle.rules.specs.House.{coordinatorOf, inMask, siteOf}
+use Rattle.rules.specs.Keys.{sortedKey, sortedCount}
+use Rattle.rules.specs.KeysLaws.{word-key}
+use Rattle.rules.specs.Record.{recordWords, recordHead, recordWrites, writeKey, keyAscends, partWriteOk}
+use Rattle.rules.specs.RecordLaws.{writes-back, part-passed-good, merged-passed-words}
+use Rattle.rules.specs.Merger.{Merging, refusedMerger, sourceAt, popSource, queuedPart, headsOf, headIn, hasPart, dueHead, leastSite, dueCode, partWrites, joinedWrites, writesIn, mergedHead, popMerger, popMergerAt, popQueues, emitDue, emitCode, emitOf}
+use Rattle.rules.specs.MergerLaws.{HasPart, has-part, part-had}
+use Rattle.rules.specs.MergerJoin.{Emits, emits, heads-at, head-part}
+use Rattle.rules.specs.MergerKept.{Holds, emit-kept, popped-source}
+use Rattle.rules.specs.MergerWords.{popped-place, kept-place}
+use Rattle.rules.specs.World.{World, step, mergerStep, recordIn}
+use Rattle.rules.specs.World as world
+use Rattle.rules.proofs.Tables.{all-append, all-one}
+use Rattle.rules.proofs.Protocol.{Protocol}
+use Rattle.rules.proofs.Invariants.{In}
+use Rattle.rules.proofs.Frames.{set-not}
+use Rattle.rules.proofs.Committed.{low-coordinator, committed-asked}
+use Rattle.rules.proofs.Refines.{entryWords, partHeadOf, Refines}
+use Rattle.rules.proofs.RefineOther.{emit-moves}
+use Rattle.rules.proofs.Stream as stream
+use Rattle.rules.proofs.Stream.{Item, Stream, rankOf, DueAt, WholeAt, headKeys, behindHead, itemOf, emitted}
+use Rattle.rules.proofs.StreamInv.{head-real}
+use Rattle.rules.proofs.StreamReached.{Standing}
+use Rattle.rules.proofs.RefineMerger.{keyWords, siteWrites, itemWrites, itemWords, SourceIs, MergerIs, Placed, StreamIs, Onward, one-step, part-head}
+
+-- An emit is refused, or emits.
+emit-cases : (g : Merger) (room : ℕ) (queues : List ℕ) → ((n : ℕ) × (emitOf g room queues ≡ refusedMerger n g queues)) ⊎ Emits g queues (emitOf g room queues)
+unfolding emitOf emitDue
+emit-cases g room queues =
+    let heads = headsOf queues (g .house .sites) in
+    let h = dueHead g queues in
+    by-test (eqb (emitCode g queues room) 0)
+    (λ x. by-test (eqb (dueCode g heads (leastSite g queues)) 0)
+    (λ y. let z : emitOf g room queues .answer ≡ Emitted (h .number) (h .coordinator) (h .tx) = rw (x, y) in
+    inr (emits g room queues (h .number) (h .coordinator) (h .tx) z))
+    (λ y. inl (dueCode g heads (leastSite g queues), rw (x, y))))
+    (λ x. inl (emitCode g queues room, rw x))
+
+-- The house and the places after it.
+pop-house : (g : Merger) (mask n : ℕ) → popMerger g mask n .house ≡ g .house
+unfolding popMerger foldBelow popMergerAt
+pop-house g mask zero = refl
+pop-house g mask (suc n) = by-test (inMask mask (n + 1)) (λ t. rw t (pop-house g mask n)) (λ t. rw t (pop-house g mask n))
+
+module _ (g : Merger) (queues : List ℕ) (mask n i : ℕ) (c : Holds g queues) (h : n ≤ sizes.sites) (l : i < n) where
+  source-popped : (e : Entry) (queue : List Entry) (state last : ℕ) → inMask mask (i + 1) ≡ true → length (e ∷ queue) ≤ sizes.queue
+      → SourceIs (sourceAt g i) queues i (e ∷ queue) state last → SourceIs (sourceAt (popMerger g mask n) i) (popQueues queues mask n) i queue state last
+  unfolding queuedPart
+  source-popped e queue state last t b x =
+      let y : sourceAt (popMerger g mask n) i ≡ popSource (sourceAt g i) = rw t at (popped-source g mask n i (omega (arith, c .sized)) l) in
+      rw y
+      (record {
+        queued = omega (arith, x .queued);
+        state-is = x .state-is;
+        last-is = x .last-is;
+        low = x .low;
+        words = λ j k. rw (popped-place queues mask n i (c .clear .size) h l j t (omega arith), add-one j) (x .words (suc j) (omega arith));
+      })
+
+  source-kept : (queue : List Entry) (state last : ℕ) → inMask mask (i + 1) ≡ false → length queue ≤ sizes.queue
+      → SourceIs (sourceAt g i) queues i queue state last → SourceIs (sourceAt (popMerger g mask n) i) (popQueues queues mask n) i queue state last
+  unfolding queuedPart
+  source-kept queue state last t b x =
+      let y : sourceAt (popMerger g mask n) i ≡ sourceAt g i = rw t at (popped-source g mask n i (omega (arith, c .sized)) l) in
+      rw y
+      (record {
+        queued = x .queued;
+        state-is = x .state-is;
+        last-is = x .last-is;
+        low = x .low;
+        words = λ j k. rw (kept-place queues mask n i (c .clear .size) h l j t (omega arith)) (x .words j k);
+      })
+
+record-one : (n : ℕ) (x : Item) → recordIn (itemWords n x) ≡ itemWords n x ∷ []
+unfolding itemWords recordWords
+record-one n x = refl
+
+same-site : (a b : House) (k : ℕ) → siteOf a k ≡ siteOf b k
+unfolding siteOf
+same-site a b k = refl
+
+module _ {sites : ℕ} {w : World} {v : Stream} (x : StreamIs sites w v) (z : Standing sites v) where
+  abbrev p : Protocol
+  p = v .protocol
+
+  abbrev m : stream.Merger
+  m = v .merger
+
+  abbrev g : Merger
+  g = w .merger
+
+  few : sites ≤ sizes.sites
+  few = x .refines .few
+
+  -- the head of a site, as the merger reads it
+  module _ (i : ℕ) (l : i < sites) (e : Entry) (r : List Entry) (q : m .queue (i + 1) ≡ e ∷ r) where
+    some-queued : 0 < sourceAt g i .queued
+    some-queued = omega (arith, x .merger .source i l .queued, ap length q)
+
+    clear-head : queuedPart (w .queues) i 0 ≡ entryWords (i + 1) e
+    clear-head =
+        let c = x .merger .source i l in
+        rw q at (c .words 0 (omega (arith, ap length q)))
+
+    head-is : headIn (headsOf (w .queues) (g .house .sites)) i ≡ partHeadOf (i + 1) e
+    head-is =
+        let c = x .merger .holds .clear in
+        let b : i < g .house .sites = rw (x .merger .house) l in
+        heads-at (w .queues) (g .house .sites) i (c .few) b
+        ∙ head-part (g .house) (w .queues) i (c .parts i 0 b some-queued)
+        ∙ ap recordHead clear-head ∙ part-head (i + 1) e
+
+    head-low : coordinatorOf (e .tx) ≤ 8
+    head-low = low-coordinator few (z .invariant .parts) (i + 1) (e .tx) (head-real (z .invariant) (z .streamed) (i + 1) e r (omega arith) q .has)
+
+  -- An emit.
+  module _ {y : Merging} (d : Emits g (w .queues) y) (G : Entry) (r : List Entry) (q : m .queue (leastSite g (w .queues) + 1) ≡ G ∷ r) where
+    abbrev k : ℕ
+    k = leastSite g (w .queues)
+
+    abbrev heads : List RecordHead
+    heads = headsOf (w .queues) (g .house .sites)
+
+    k-low : k < sites
+    k-low = omega (arith, d .least .below, x .merger .house)
+
+    due-is : dueHead g (w .queues) ≡ partHeadOf (k + 1) G
+    due-is = head-is k k-low G r q
+
+    mask-is : dueHead g (w .queues) .mask ≡ G .mask
+    unfolding partHeadOf
+    mask-is = ap (λ (h : RecordHead). h .mask) due-is
+
+    G-low : coordinatorOf (G .tx) ≤ 8
+    G-low = head-low k k-low G r q
+
+    inside : (i : ℕ) → i < sites → i < g .house .sites
+    inside i l = rw (x .merger .house) l
+
+    due-at : (i : ℕ) → i < sites → DueAt G (m .state (i + 1)) (m .queue (i + 1))
+    unfolding partHeadOf
+    due-at i l = go (m .queue (i + 1)) refl
+      where
+        go : (u : List Entry) → m .queue (i + 1) ≡ u → DueAt G (m .state (i + 1)) u
+        go [] e =
+            let c = x .merger .source i l in
+            let n : dueHead g (w .queues) .number ≡ G .number = ap (λ (h : RecordHead). h .number) due-is in
+            ⊎-elim
+            (λ (a : 0 < sourceAt g i .queued). absurd (omega (arith, c .queued, ap length e)))
+            (λ (a : dueHead g (w .queues) .number ≤ sourceAt g i .state). omega (arith, c .state-is))
+            (d .due .every i (inside i l))
+        go (e ∷ u) f =
+            let a = d .least .least i (inside i l) (some-queued i l e u f) in
+            let b : precedes (e .number) (coordinatorOf (e .tx)) (G .number) (coordinatorOf (G .tx)) ≡ false = rw (head-is i l e u f, due-is) at a in
+            not-precedes-rank (e .number) (coordinatorOf (e .tx)) (G .number) (coordinatorOf (G .tx)) (omega (arith, head-low i l e u f)) (omega (arith, G-low)) b
+
+    whole-at : (i : ℕ) → i < sites → WholeAt G (i + 1) (m .queue (i + 1))
+    unfolding partHeadOf
+    whole-at i l = go (m .queue (i + 1)) refl
+      where
+        there : inMask (G .mask) (i + 1) ≡ hasPart g heads (dueHead g (w .queues)) i
+        there = rw mask-is at (d .whole i (inside i l) .there)
+
+        go : (u : List Entry) → m .queue (i + 1) ≡ u → WholeAt G (i + 1) u
+        go [] e =
+            by-test (hasPart g heads (dueHead g (w .queues)) i)
+            (λ t. absurd (let a = has-part g heads (dueHead g (w .queues)) i t .queued in omega (arith, x .merger .source i l .queued, ap length e)))
+            (λ t. there ∙ t)
+        go (e ∷ u) f =
+            let h = head-is i l e u f in
+            by-test (hasPart g heads (dueHead g (w .queues)) i)
+            (λ t. let a = has-part g heads (dueHead g (w .queues)) i t in
+            let b : e .number ≡ G .number = rw (h, due-is) at (a .number) in
+            let c : coordinatorOf (e .tx) ≡ coordinatorOf (G .tx) = rw (h, due-is) at (a .coordinator) in
+            inl (there ∙ t, (omega arith, rw (h, due-is) at (d .whole i (inside i l) .tx t), rw (h, due-is) at (d .whole i (inside i l) .mask t))))
+            (λ t. inr (there ∙ t, λ n. set-not _ (part-had g heads (dueHead g (w .queues)) i (same i l e u f n)) t))
+          where
+            same : (i : ℕ) (l : i < sites) (e : Entry) (u : List Entry) → m .queue (i + 1) ≡ e ∷ u → rankOf e ≡ rankOf G → HasPart g heads (dueHead g (w .queues)) i
+            same i l e u f n =
+                let a = head-low i l e u f in
+                let b = G-low in
+                rw due-is (record { queued = some-queued i l e u f; number = rw (head-is i l e u f) (omega arith); coordinator = rw (head-is i l e u f) (omega arith) })
+
+    machine-emits : stream.Emits sites m G
+    machine-emits =
+        record {
+          site = k + 1;
+          site-low = omega arith;
+          site-high = omega (arith, k-low);
+          behind = r;
+          head = q;
+          due = λ s a b. let e : s - 1 + 1 ≡ s = omega arith in rw e at (due-at (s - 1) (omega arith));
+          whole = λ s a b. let e : s - 1 + 1 ≡ s = omega arith in rw e at (whole-at (s - 1) (omega arith));
+        }
+
+    -- The queues after it.
+    queue-few : (i : ℕ) → i < sites → length (m .queue (i + 1)) ≤ sizes.queue
+    queue-few i l = omega (arith, x .merger .source i l .queued, x .merger .holds .clear .counts i (inside i l))
+
+    abbrev item : Item
+    item = itemOf G (m .queue)
+
+    -- a site of the mask has a head
+    with-head : (P : List Entry → Type 0) (i : ℕ) → i < sites → inMask (G .mask) (i + 1) ≡ true → ((e : Entry) (u : List Entry) → m .queue (i + 1) ≡ e ∷ u → P (e ∷ u)) → P (m .queue (i + 1))
+    with-head P i l t f = go (m .queue (i + 1)) refl (whole-at i l)
+      where
+        go : (u : List Entry) → m .queue (i + 1) ≡ u → WholeAt G (i + 1) u → P u
+        go [] e a = absurd (set-not _ t a)
+        go (e ∷ u) q a = f e u q
+
+    source-after : (i : ℕ) → i < sites → SourceIs (sourceAt (popMerger g (G .mask) (g .house .sites)) i) (popQueues (w .queues) (G .mask) (g .house .sites)) i
+        (emitted m G .queue (i + 1)) (m .state (i + 1)) (m .last (i + 1))
+    source-after i l =
+        let h = x .merger .holds in
+        by-test (inMask (G .mask) (i + 1))
+        (λ t. rw t (with-head
+        (λ u. length u ≤ sizes.queue → SourceIs (sourceAt g i) (w .queues) i u (m .state (i + 1)) (m .last (i + 1))
+        → SourceIs (sourceAt (popMerger g (G .mask) (g .house .sites)) i) (popQueues (w .queues) (G .mask) (g .house .sites)) i (behindHead u) (m .state (i + 1)) (m .last (i + 1)))
+        i l t
+        (λ e u f b c. source-popped g (w .queues) (G .mask) (g .house .sites) i h (h .clear .few) (inside i l) e u (m .state (i + 1)) (m .last (i + 1)) t b c)
+        (queue-few i l) (x .merger .source i l)))
+        (λ t. rw t (source-kept g (w .queues) (G .mask) (g .house .sites) i h (h .clear .few) (inside i l) (m .queue (i + 1)) (m .state (i + 1)) (m .last (i + 1)) t (queue-few i l) (x .merger .source i l)))
+
+    tables : Holds (y .merger) (y .queues) → MergerIs sites (y .merger) (y .queues) (emitted m G)
+    tables h =
+        let a : y .merger ≡ popMerger g (G .mask) (g .house .sites) = d .merger ∙ ap (λ (n : ℕ). popMerger g n (g .house .sites)) mask-is in
+        let b : y .queues ≡ popQueues (w .queues) (G .mask) (g .house .sites) = d .queues-left ∙ ap (λ (n : ℕ). popQueues (w .queues) n (g .house .sites)) mask-is in
+        record {
+          house = ap (λ (u : Merger). u .house .sites) a ∙ ap (λ (o : House). o .sites) (pop-house g (G .mask) (g .house .sites)) ∙ x .merger .house;
+          holds = h;
+          source = λ i l. rw (a, b) (source-after i l);
+        }
+
+    -- What is written.
+    part-same : (i : ℕ) → i < sites → partWrites (w .queues) (G .mask) i ≡ siteWrites item i
+    unfolding partWrites entryWords
+    part-same i l =
+        by-test (inMask (G .mask) (i + 1))
+        (λ t. rw t (with-head (λ u. recordWrites (queuedPart (w .queues) i 0) ≡ keyWords (headKeys u)) i l t
+        (λ e u f. ap recordWrites (clear-head i l e u f) ∙ writes-back (partHeadOf (i + 1) e) (keyWords (e .keys)))))
+        (λ t. rw t)
+
+    joined : (n : ℕ) → n ≤ sites → joinedWrites (w .queues) (G .mask) n ≡ itemWrites n item
+    unfolding joinedWrites itemWrites foldBelow
+    joined zero h = refl
+    joined (suc n) h =
+        let a = joined n (omega arith) in
+        let b = part-same n h in
+        λ i. a i ++ b i
+
+    words-are : y .words ≡ itemWords sites item
+    unfolding partHeadOf itemWords
+    words-are =
+        let n = g .house .sites in
+        let ws = joinedWrites (w .queues) (dueHead g (w .queues) .mask) n in
+        let e : ws ≡ itemWrites sites item =
+        ap (λ (a : ℕ). joinedWrites (w .queues) a n) mask-is ∙ ap (joinedWrites (w .queues) (G .mask)) (x .merger .house) ∙ joined sites (omega arith) in
+        merged-passed-words (y .words) (d .passes)
+        ∙ (λ i. recordWords (d .head i) (d .writes i))
+        ∙ ap (λ (a : RecordHead). recordWords (mergedHead a (writesIn ws)) ws) due-is
+        ∙ ap (λ (a : List ℕ). recordWords (mergedHead (partHeadOf (k + 1) G) (writesIn a)) a) e
+
+    -- its keys are of their sites
+    keys-there : (i j : ℕ) → i < sites → inMask (G .mask) (i + 1) ≡ true → j < sortedCount (item .keys (i + 1)) → siteOf (record { sites = sites }) (sortedKey (item .keys (i + 1)) j) ≡ i + 1
+    unfolding partWriteOk entryWords partHeadOf
+    keys-there i j l t =
+        rw t
+        (with-head (λ u. j < sortedCount (headKeys u) → siteOf (record { sites = sites }) (sortedKey (headKeys u) j) ≡ i + 1) i l t
+        (λ e u f b.
+        let M = queuedPart (w .queues) i 0 in
+        let c = x .merger .holds .clear .parts i 0 (inside i l) (some-queued i l e u f) in
+        let r : recordHead M ≡ partHeadOf (i + 1) e = ap recordHead (clear-head i l e u f) ∙ part-head (i + 1) e in
+        let s : recordWrites M ≡ keyWords (e .keys) = ap recordWrites (clear-head i l e u f) ∙ writes-back (partHeadOf (i + 1) e) (keyWords (e .keys)) in
+        let a = rw (r, s) at (part-passed-good (g .house) M (c .part) .writes) in
+        let o = all-below-at (partWriteOk (g .house) (i + 1) (keyWords (e .keys))) (sortedCount (e .keys)) j a b in
+        let n = eqb-true _ _ (every-at (keyAscends (keyWords (e .keys)) j ∷ eqb (siteOf (g .house) (writeKey (keyWords (e .keys)) j)) (i + 1) ∷ []) 1 o) in
+        let h : 2 * j + 0 ≡ 2 * j = omega arith in
+        let v : writeKey (keyWords (e .keys)) j ≡ sortedKey (e .keys) j = rw h (word-key (e .keys) (sortedCount (e .keys)) j b) in
+        same-site (record { sites = sites }) (g .house) _ ∙ ap (siteOf (g .house)) (sym v) ∙ n))
+
+    placed-new : Placed sites item
+    placed-new =
+        record {
+          keys = λ s j a t h. let e : s - 1 + 1 ≡ s = omega arith in rw e at (keys-there (s - 1) j (omega (arith, site-few s a t)) (rw e t) (rw e h));
+          few = site-few;
+        }
+      where
+        site-few : (s : ℕ) → 1 ≤ s → inMask (G .mask) s ≡ true → s ≤ sites
+        site-few s a t =
+            let f = head-real (z .invariant) (z .streamed) (k + 1) G r (omega arith) q in
+            let o : In (p .mask (G .tx)) s = (a, rw (f .mask) at t) in
+            z .invariant .parts .site s (G .tx) (z .invariant .account .asked-has (G .tx) s (committed-asked (z .invariant .parts) (z .invariant .account) (G .tx) (f .committed)) o) .1
+
+    emit-to : Refines sites (mergerStep w y (w .merged) .world) p → Holds (y .merger) (y .queues) → Onward sites v (mergerStep w y (w .merged) .world)
+    unfolding mergerStep
+    emit-to f h = (
+      record { protocol = p; merger = emitted m G; replayed = v .replayed },
+      one-step (stream.merges _ (stream.emit G machine-emits)),
+      record {
+        refines = f;
+        merger = tables h;
+        merged = x .merged;
+        placed = all-append (x .placed) (all-one placed-new);
+        emitted = rw (x .emitted, words-are, record-one sites item) (sym (map-append (itemWords sites) (m .out) (item ∷ [])));
+        replayed = x .replayed;
+        copy = λ c. rw (take-append-le (v .replayed c) (m .out) (item ∷ []) (z .replayed c)) (x .copy c);
+      },
+    )
+
+  pub emit-onward : (out : List ℕ) → Onward sites v (step w (world.emit out) .world)
+  unfolding step mergerStep
+  emit-onward out = go (emit-cases g (length out) (w .queues))
+    where
+      go : ((n : ℕ) × (emitOf g (length out) (w .queues) ≡ refusedMerger n g (w .queues))) ⊎ Emits g (w .queues) (emitOf g (length out) (w .queues)) → Onward sites v (step w (world.emit out) .world)
+      go (inl (n, e)) = rw (e, append-nil) (v, stream.stop, x)
+      go (inr d) = some (m .queue (leastSite g (w .queues) + 1)) refl
+        where
+          some : (u : List Entry) → m .queue (leastSite g (w .queues) + 1) ≡ u → Onward sites v (step w (world.emit out) .world)
+          some [] e = absurd (let l : leastSite g (w .queues) < sites = omega (arith, d .least .below, x .merger .house) in
+              omega (arith, d .least .queued, x .merger .source (leastSite g (w .queues)) l .queued, ap length e))
+          some (e ∷ u) q =
+              let r = x .refines in
+              emit-to d e u q
+              (record { few = r .few; site = r .site; outside = r .outside; sent = r .sent; log = r .log; stream = emit-moves r out .2 .stream })
+              (emit-kept g (length out) (w .queues) (x .merger .holds))

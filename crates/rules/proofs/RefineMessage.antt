@@ -1,0 +1,209 @@
+-- A message taken, by its kind, as moves.
+use Prim.Native.Nat.{ℕ, zero, suc, _+_, _-_, _*_, _≤_, _<_}
+use mathlib.Core.Path.{_≡_, refl, sym, ap, _∙_}
+use mathlib.Core.Bool.{Bool, true, false, not}
+use mathlib.Core.List.{List, [], _∷_, _++_}
+use native.Mathlib.Omega.{arith}
+use borrow.Author.Tests.{eqb-true, eqb-false, ltb-true, ltb-false, leb-true, not-true}
+use lib.Dec.{eqb, leb, ltb}
+use lib.ListN.{length, getD, List·getD-eq-default}
+use Rattle.laws.specs.Choice.{pick, every, every-at, by-test}
+use Rattle.laws.specs.Scan.{all-below-at}
+use Rattle.kinds.specs.Sizes as sizes
+use Rattle.kinds.specs.Stage as stage
+use Rattle.kinds.specs.Reason as reason
+use Rattle.kinds.specs.Kind as kind
+use Rattle.kinds.specs.declared.House.{House}
+use Rattle.kinds.specs.declared.Course.{Course}
+use Rattle.kinds.specs.declared.Sub.{Sub}
+use Rattle.kinds.specs.declared.Site.{Site}
+use Rattle.kinds.specs.declared.MessageHead.{MessageHead}
+use Rattle.kinds.specs.State.{noSub, subAt}
+use Rattle.rules.specs.House.{coordinatorOf, isTx, isMask}
+use Rattle.rules.specs.Message.{entryTx, entryMask, entryMark, entryBefore, entryCount, entryOk, GoodMessage, mostEntries}
+use Rattle.rules.specs.MessageLaws.{head-clear}
+use Rattle.rules.specs.EntryLaws.{Marks}
+use Rattle.rules.specs.KeysLaws.{by-order}
+use Rattle.rules.specs.Live.{placeOf, freePlace, allHeard}
+use Rattle.rules.specs.History.{isForgotten}
+use Rattle.rules.specs.Certify.{concurrent, voteOf}
+use Rattle.rules.specs.Valid.{siteOk}
+use Rattle.rules.specs.Effect.{Change, Effect, settle, changed, unless}
+use Rattle.rules.specs.Course.{headOf, sendTo, raise, quietly, withCourseOf, withSubOf, withReply, withDecision, isOutstanding, preparedStep, certifiedStep, voteStep, voteDecides}
+use Rattle.rules.specs.CallLaws.{reply-clear}
+use Rattle.rules.specs.Deliver.{arrived, passed, replyCode, spentTo, spentToAll, stepUnless, joinTurn, spoken, joinAt, takeJoin, joinedInTurn, takeJoined, takePrepare, passPrepare, concInTurn, gatherChange, gatherLists, takeConc, takeCert, voteInTurn, takeVote, takeCommit, takeAbort, keeping, takeHeld, takeOther, takeKind}
+use Rattle.rules.specs.World.{World, siteStep}
+use Rattle.rules.proofs.Protocol.{Protocol, Msg, mJoin, mJoined, mPrepare, mConc, mCert, mVote, mCommit, mAbort, Next, AtStage, courseAt}
+use Rattle.rules.proofs.Invariants.{Invariant}
+use Rattle.rules.proofs.Frames.{said}
+use Rattle.rules.proofs.Refines.{IsFree, kindOf, txIn, clockIn, argumentIn, entriesIn, sliceOf, SiteIs, Refines}
+use Rattle.rules.proofs.RefineLive.{place-none, free-spot}
+use Rattle.rules.proofs.RefineStep.{Follows, by-code, stays}
+use Rattle.rules.proofs.RefineTurn.{AtPlace, at-place, course-is}
+use Rattle.rules.proofs.RefineActs.{Acts, acts-follow}
+use Rattle.rules.proofs.RefineCertify.{covers, certifies}
+use Rattle.rules.proofs.RefineQuiet.{pass-acts, joined-acts, commits-acts, aborts-acts}
+use Rattle.rules.proofs.RefineReply.{namedTurn, joins-acts, full-acts, unknown-acts, prepared-acts, certified-acts}
+use Rattle.rules.proofs.RefineGather.{vote-acts}
+use Rattle.rules.proofs.RefineConc.{conc-acts}
+
+-- the head of a message of the protocol
+abbrev pub headIn : ℕ → ℕ → ℕ → Msg → MessageHead
+headIn a s n m = headOf (kindOf m) a s n (txIn m) (clockIn m) (argumentIn m) (entryCount (entriesIn m))
+
+-- marks of good entries
+good-marks : (o : House) (h : MessageHead) (es : List ℕ) → GoodMessage o h es → Marks es
+unfolding entryOk
+good-marks o h es g k =
+    by-order k (h .count)
+    (λ l. leb-true (entryMark es k) 1
+    (every-at (ltb (entryBefore es k) (entryTx es k) ∷ isTx o (entryTx es k) ∷ isMask o (entryMask es k) ∷ leb (entryMark es k) 1 ∷ []) 3
+    (all-below-at (entryOk o es) (h .count) k (g .entries) l)))
+    (λ l. let z = List·getD-eq-default es 0 {n = sizes.entry * k + 2} (omega (arith, g .size)) in omega arith)
+
+both : (a b : Bool) → every (a ∷ b ∷ []) ≡ true → (a ≡ true) × (b ≡ true)
+both a b e = (every-at (a ∷ b ∷ []) 0 e, every-at (a ∷ b ∷ []) 1 e)
+
+module _ {sites : ℕ} {w : World} {p : Protocol} (r : Refines sites w p) (i : Invariant sites p) (s a n : ℕ) (l : 1 ≤ s) (h : s ≤ sites) (low : 1 ≤ a) (high : a ≤ sites)
+    (valid : siteOk (w .site s) ≡ true) where
+  abbrev x : Site
+  x = w .site s
+
+  abbrev lists : List ℕ
+  lists = w .lists s
+
+  abbrev y : SiteIs sites s x (w .base s) lists (sliceOf p s)
+  y = r .site s l h
+
+  abbrev Goal : Effect → Type 0
+  Goal e = Follows sites p (siteStep w s e (w .base s) (e .lent) .world)
+
+  -- a step at a place, or its refusal
+  taken-step : (code place : ℕ) (c : Change) → (code ≡ 0 → (q : Protocol) × Acts sites s p q (settle x place (c .turn)) (w .base s) lists (c .words))
+      → Goal (keeping lists (stepUnless code x place c))
+  taken-step code place c f =
+      by-code (λ e. Goal (keeping lists e)) code x [] (changed x place c []) (λ e. acts-follow r s l h (keeping lists (changed x place c [])) (f e .1)) (stays r s _ refl refl)
+
+  -- for a transaction not held
+  passes-by : (m : Msg) → Next p a s m → Goal (keeping lists (passed x a))
+  unfolding passed
+  passes-by m next = acts-follow r s l h (keeping lists (passed x a)) (pass-acts p s a (r .few) low high y m next)
+
+  -- held, or not
+  by-held : {P : Type 0} (t : ℕ) → (AtPlace x p s t (placeOf (x .live) t) → ltb (placeOf (x .live) t) sizes.live ≡ true → P)
+      → (IsFree (p .live s t) → ltb (placeOf (x .live) t) sizes.live ≡ false → P) → P
+  by-held t f g =
+      by-test (ltb (placeOf (x .live) t) sizes.live)
+      (λ e. f (at-place x p s t (y .live) (ltb-true _ _ e)) e)
+      (λ e. g (place-none (y .live) t (ltb-false _ _ e)) e)
+
+  -- JOIN
+  takes-join : (t : ℕ) → Next p a s (mJoin t) → Goal (keeping lists (takeJoin x (headIn a s n (mJoin t)) (placeOf (x .live) t)))
+  unfolding takeJoin joinAt joinTurn headOf spoken
+  takes-join t next =
+      let place = placeOf (x .live) t in
+      let free = freePlace (x .live) in
+      let u = namedTurn x a t in
+      by-code (λ e. Goal (keeping lists e)) (replyCode (leb sizes.live place) (spentTo x a)) x [] (joinAt x (headIn a s n (mJoin t)) free)
+      (λ c. let f = place-none (y .live) t (leb-true _ _ (reply-clear (leb sizes.live place) (spentTo x a) c .turn)) in
+      by-test (ltb free sizes.live)
+      (λ e. rw e
+      (acts-follow r s l h (keeping lists (changed x free (sendTo u kind.joined a 0 0 []) []))
+      (joins-acts p s a t (r .few) low high y free (free-spot (y .live) t (ltb-true _ _ e) f) next f .1)))
+      (λ e. rw e
+      (acts-follow r s l h (keeping lists (spoken x (sendTo u kind.joined a 0 reason.full []))) (full-acts p s a t (r .few) low high y reason.full (λ z. omega arith) next .1))))
+      (stays r s _ refl refl)
+
+  -- PREPARE
+  takes-prepare : (t k mask : ℕ) → Next p a s (mPrepare t k mask) → (A : AtPlace x p s t (placeOf (x .live) t))
+      → Goal (keeping lists (takePrepare x (headIn a s n (mPrepare t k mask)) (placeOf (x .live) t)))
+  unfolding takePrepare headOf raise arrived
+  takes-prepare t k mask next A =
+      let place = placeOf (x .live) t in
+      let b = subAt x place in
+      let lost = isForgotten (x .counters .installs) (b .snapshot) in
+      let o = said i next in
+      taken-step (replyCode (eqb (b .course .stage) stage.active) (spentTo x a)) place (preparedStep (raise (arrived x place a) k) a mask lost (concurrent x place))
+      (λ c. prepared-acts p s a t (r .few) low high y place A k mask lost (concurrent x place) next
+      (sym (ap (λ (z : Course). z .stage) (course-is A)) ∙ eqb-true _ _ (reply-clear (eqb (b .course .stage) stage.active) (spentTo x a) c .turn))
+      (λ z. o .4 (sym z ∙ o .0)) (covers y (i .parts) A))
+
+  passes-prepare : (t k mask : ℕ) → Next p a s (mPrepare t k mask) → IsFree (p .live s t) → Goal (keeping lists (passPrepare x (headIn a s n (mPrepare t k mask))))
+  unfolding passPrepare headOf joinTurn spoken
+  passes-prepare t k mask next gone =
+      let u = raise (namedTurn x a t) k in
+      let c = sendTo u kind.vote a (u .counters .clock) reason.unknown [] in
+      by-code (λ e. Goal (keeping lists e)) (replyCode true (spentTo x a)) x [] (spoken x c)
+      (λ z. acts-follow r s l h (keeping lists (spoken x c)) (unknown-acts p s a t (r .few) low high y k mask reason.unknown (λ z. omega arith) next gone .1))
+      (stays r s _ refl refl)
+
+  -- CONC
+  takes-conc : (t : ℕ) (es : List ℕ) → Next p a s (mConc t es) → GoodMessage (x .house) (headIn a s n (mConc t es)) es → (A : AtPlace x p s t (placeOf (x .live) t))
+      → Goal (takeConc x (headIn a s n (mConc t es)) es lists (placeOf (x .live) t))
+  unfolding takeConc concInTurn gatherChange gatherLists headOf arrived mostEntries
+  takes-conc t es next good A =
+      let place = placeOf (x .live) t in
+      let b = subAt x place .course in
+      let c = withReply b a 0 (entryCount es) in
+      let spent = every (allHeard (c .heard) (c .mask) ∷ spentToAll x (b .mask) ∷ []) in
+      let few = head-clear (x .house) (headIn a s n (mConc t es)) (good .head) .few in
+      by-code Goal (replyCode (concInTurn b a) spent) x lists _
+      (λ z. let d = both (eqb (b .stage) stage.prepared) (isOutstanding b a) (reply-clear (concInTurn b a) spent z .turn) in
+      acts-follow r s l h (changed x place (gatherChange x (headIn a s n (mConc t es)) place (gatherLists x place es lists)) (gatherLists x place es lists))
+      (conc-acts p s a (r .few) l h low high i y place A valid es (good .size) few (good-marks (x .house) (headIn a s n (mConc t es)) es good) next
+      (sym (ap (λ (z : Course). z .stage) (course-is A)) ∙ eqb-true _ _ (d .0)) (sym (ap (λ (z : Course). isOutstanding z a) (course-is A)) ∙ d .1) .1))
+      (stays r s _ refl refl)
+
+  pub takes : (m : Msg) → Next p a s m → GoodMessage (x .house) (headIn a s n m) (entriesIn m)
+      → Goal (takeKind (kindOf m) x (headIn a s n m) (entriesIn m) lists (placeOf (x .live) (txIn m)))
+  unfolding takeKind takeHeld takeOther headOf takeJoined joinedInTurn arrived takeCommit takeAbort takeVote takeCert raise quietly
+  takes (mJoin t) next good = takes-join t next
+  takes (mJoined t v) next good =
+      let place = placeOf (x .live) t in
+      by-held t
+      (λ A e. rw e
+      (taken-step (replyCode (joinedInTurn (subAt x place .course) a) false) place (quietly (withCourseOf (arrived x place a) (withReply (subAt x place .course) a v 0)))
+      (λ c. let d = both (eqb (subAt x place .course .stage) stage.active) (isOutstanding (subAt x place .course) a) (reply-clear (joinedInTurn (subAt x place .course) a) false c .turn) in
+      (_, joined-acts p s a (r .few) low high y place A v next (sym (ap (λ (z : Course). z .stage) (course-is A)) ∙ eqb-true _ _ (d .0)) (sym (ap (λ (z : Course). isOutstanding z a) (course-is A)) ∙ d .1)))))
+      (λ f e. rw e (passes-by (mJoined t v) next))
+  takes (mPrepare t k mask) next good = by-held t (λ A e. rw e (takes-prepare t k mask next A)) (λ f e. rw e (passes-prepare t k mask next f))
+  takes (mConc t es) next good = by-held t (λ A e. rw e (takes-conc t es next good A)) (λ f e. rw e (passes-by (mConc t es) next))
+  takes (mCert t es) next good =
+      let place = placeOf (x .live) t in
+      by-held t
+      (λ A e. rw e
+      (taken-step (replyCode (eqb (subAt x place .course .stage) stage.prepared) (spentTo x a)) place (certifiedStep (arrived x place a) a (voteOf x place es (entryCount es)))
+      (λ c. let d = reply-clear (eqb (subAt x place .course .stage) stage.prepared) (spentTo x a) c .turn in
+      certified-acts p s a t (r .few) low high y place A es (voteOf x place es (entryCount es)) next (sym (ap (λ (z : Course). z .stage) (course-is A)) ∙ eqb-true _ _ d)
+      (certifies y (i .parts) A es))))
+      (λ f e. rw e (passes-by (mCert t es) next))
+  takes (mVote t k v) next good =
+      let place = placeOf (x .live) t in
+      let c = subAt x place .course in
+      by-held t
+      (λ A e. rw e
+      (taken-step (replyCode (voteInTurn c a v) (every (voteDecides c a v ∷ spentToAll x (c .mask) ∷ []))) place (voteStep (raise (arrived x place a) k) a v)
+      (λ z. vote-acts p s a (r .few) low high i y place A k v next (reply-clear (voteInTurn c a v) (every (voteDecides c a v ∷ spentToAll x (c .mask) ∷ [])) z .turn))))
+      (λ f e. rw e (passes-by (mVote t k v) next))
+  takes (mCommit t k) next good =
+      let place = placeOf (x .live) t in
+      by-held t
+      (λ A e. rw e
+      (taken-step (replyCode (eqb (subAt x place .course .stage) stage.queued) false) place (quietly (withCourseOf (raise (arrived x place a) k) (withDecision (subAt x place .course) k)))
+      (λ c. (
+        _,
+        commits-acts p s a (r .few) low high y place A k next
+            (sym (ap (λ (z : Course). z .stage) (course-is A)) ∙ eqb-true _ _ (reply-clear (eqb (subAt x place .course .stage) stage.queued) false c .turn)),
+      ))))
+      (λ f e. rw e (passes-by (mCommit t k) next))
+  takes (mAbort t) next good =
+      let place = placeOf (x .live) t in
+      by-held t
+      (λ A e. rw e
+      (taken-step (replyCode (not (eqb (subAt x place .course .stage) stage.decided)) false) place (quietly (withSubOf (arrived x place a) noSub))
+      (λ c. (
+        _,
+        aborts-acts p s a (r .few) low high y place A next
+            (λ z. eqb-false (subAt x place .course .stage) stage.decided (not-true _ (reply-clear (not (eqb (subAt x place .course .stage) stage.decided)) false c .turn)) (ap (λ (z : Course). z .stage) (course-is A) ∙ z)),
+      ))))
+      (λ f e. rw e (passes-by (mAbort t) next))
