@@ -1,12 +1,12 @@
 -- Read and write, as moves.
 use Prim.Native.Nat.{ℕ, _+_, _-_, _≤_, _<_}
 use mathlib.Core.Path.{_≡_, refl, sym, ap, _∙_}
-use mathlib.Core.Bool.{Bool, true, false, not}
+use mathlib.Core.Bool.{true, false, not}
 use mathlib.Core.Logic.{_⊎_, inl, inr, ⊎-elim}
 use mathlib.Core.List.{List, [], _∷_}
 use native.Mathlib.Omega.{arith}
 use borrow.Author.Tests.{ltb-false, le-leb, ne-eqb}
-use lib.Dec.{ltb, leb, eqb}
+use lib.Dec.{leb, eqb}
 use lib.ListN.{length, getD, set, length-set}
 use lib.Seq.{getD-set-same, getD-set-other}
 use Rattle.laws.specs.Choice.{pick, pick-self, every, by-test}
@@ -24,18 +24,18 @@ use Rattle.rules.specs.KeysLaws.{by-order, wrote-among, among-wrote}
 use Rattle.rules.specs.Live.{partAt, stageAt, placeOf, otherHolds, keyHeld}
 use Rattle.rules.specs.History.{recall, remembered, forgotten, isForgotten, within, isNewer}
 use Rattle.rules.specs.Valid.{siteOk}
-use Rattle.rules.specs.Effect.{Effect, turnAt, settle, changed}
+use Rattle.rules.specs.Effect.{Effect, turnAt, settle}
 use Rattle.rules.specs.Course.{quietly}
-use Rattle.rules.specs.Access.{accessCode, readCode, readVersion, readAt, readOf, writeCodeAt, writeCode, written, writeAt, writeOf}
-use Rattle.rules.specs.CallLaws.{AccessClear, access-clear, read-clear, write-clear}
+use Rattle.rules.specs.Access.{accessCode, readCode, readVersion, readAt, readOf, writeCodeAt, written, writeAt, writeOf}
+use Rattle.rules.specs.CallLaws.{access-clear, write-clear}
 use Rattle.rules.specs.World.{World, step, siteStep, messagesIn, splitWords}
 use Rattle.rules.specs.World as world
-use Rattle.rules.proofs.Tables.{upd₂, a-nil}
+use Rattle.rules.proofs.Tables.{a-nil}
 use Rattle.rules.proofs.Protocol.{Protocol, inst, access, stop, more}
-use Rattle.rules.proofs.Invariants.{Invariant, at}
+use Rattle.rules.proofs.Invariants.{at}
 use Rattle.rules.proofs.Frames.{set-not}
 use Rattle.rules.proofs.Refines.{IsFree, Sized, LiveIs, HistoryIs, Refines}
-use Rattle.rules.proofs.RefineLive.{by-same, place-held, place-spot}
+use Rattle.rules.proofs.RefineLive.{place-held, place-spot}
 use Rattle.rules.proofs.RefineSite.{site-sub}
 use Rattle.rules.proofs.RefineStep.{Follows, by-code, row-same, row-other, grows-none, inside, stays, site-step}
 

@@ -1,29 +1,25 @@
 -- What a step of a part's course does at its site, as moves: steps one after the other, and the call that they make up.
-use Prim.Native.Nat.{ℕ, zero, suc, _+_, _-_, _≤_, _<_}
-use mathlib.Core.Path.{_≡_, refl, sym, ap, _∙_}
-use mathlib.Core.Bool.{Bool, true, false}
-use mathlib.Core.List.{List, [], _∷_, _++_, append-assoc}
-use native.Mathlib.Omega.{arith}
+use Prim.Native.Nat.{ℕ, _+_, _-_, _≤_, _<_}
+use mathlib.Core.Path.{_≡_, ap, _∙_}
+use mathlib.Core.List.{List, [], _++_, append-assoc}
 use borrow.Author.Tests.{ne-eqb}
-use lib.ListN.{length, getD, set}
+use lib.ListN.{length}
 use lib.Seq.{getD-set-same, set-set}
 use Rattle.kinds.specs.Sizes as sizes
-use Rattle.kinds.specs.declared.Channels.{Channels}
 use Rattle.kinds.specs.declared.Turn.{Turn}
 use Rattle.kinds.specs.declared.Site.{Site}
 use Rattle.kinds.specs.declared.Answer.{Answer}
-use Rattle.kinds.specs.State.{pastSub, subAt, withChannels}
+use Rattle.kinds.specs.State.{pastSub, withChannels}
 use Rattle.rules.specs.House.{coordinatorOf}
 use Rattle.rules.specs.Effect.{Effect, turnAt, settle}
-use Rattle.rules.specs.Course.{sendAll, sendTo, sentTo}
+use Rattle.rules.specs.Course.{sendAll}
 use Rattle.rules.specs.World.{World, siteStep}
 use Rattle.rules.proofs.Protocol.{Protocol, Msg, others, Whole, Moves, stop, more, courseAt}
 use Rattle.rules.proofs.Invariants.{In, Held, Invariant}
 use Rattle.rules.proofs.Refines.{kindOf, txIn, clockIn, argumentIn, entriesIn, Posted, ChannelsAre, Slice, sliceOf, SiteIs, Refines}
-use Rattle.rules.proofs.RefineSite.{post-in, site-channels, channels-all, channels-one}
+use Rattle.rules.proofs.RefineSite.{post-in, site-channels, channels-all}
 use Rattle.rules.proofs.RefineStep.{Follows, Grows, Elsewhere, site-step}
-use Rattle.rules.proofs.RefineMail.{Made, made-in, made-all, made-one, send-all-words, send-words}
-use Rattle.rules.proofs.Tables.{upd₂}
+use Rattle.rules.proofs.RefineMail.{Made, made-in, made-all, send-all-words}
 
 pub record Acts (sites s : ℕ) (p q : Protocol) (x : Site) (base lists words : List ℕ) : Type 0 where
   pub moves : Moves sites p q

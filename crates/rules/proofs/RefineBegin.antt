@@ -1,13 +1,11 @@
 -- Begin, as a move.
-use Prim.Native.Nat.{ℕ, _+_, _≤_, _<_}
+use Prim.Native.Nat.{ℕ, _+_, _<_}
 use mathlib.Core.Path.{_≡_, refl, sym, ap, _∙_}
-use mathlib.Core.Bool.{true, false}
-use mathlib.Core.List.{List, []}
+use mathlib.Core.List.{[]}
 use native.Mathlib.Omega.{arith}
 use lib.ListN.{length}
 use Rattle.kinds.specs.Sizes as sizes
-use Rattle.kinds.specs.Stage as stage
-use Rattle.rules.specs.House.{txOf, maskOf, coordinatorOf}
+use Rattle.rules.specs.House.{txOf, maskOf}
 use Rattle.rules.specs.Live.{freePlace}
 use Rattle.rules.specs.Valid.{siteOk}
 use Rattle.rules.specs.Effect.{changed, settle}
@@ -15,7 +13,7 @@ use Rattle.rules.specs.Course.{newSub}
 use Rattle.rules.specs.Begin.{nextTx, beginCode, begun, beginOf, begin-clear}
 use Rattle.rules.specs.World.{World, upd, step, siteStep, messagesIn, splitWords}
 use Rattle.rules.specs.World as world
-use Rattle.rules.proofs.Tables.{upd₂, upd-same, upd-other, a-nil}
+use Rattle.rules.proofs.Tables.{upd-same, upd-other, a-nil}
 use Rattle.rules.proofs.Protocol.{Protocol, inst, beganAt, set-serial, begin, stop, more}
 use Rattle.rules.proofs.Invariants.{Invariant}
 use Rattle.rules.proofs.Frames.{new-tx}

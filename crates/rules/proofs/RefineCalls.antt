@@ -4,7 +4,7 @@ use Prim.Native.Nat.{ℕ, _≤_}
 use mathlib.Core.List.{List, [], _∷_}
 use Rattle.kinds.specs.Sizes as sizes
 use Rattle.rules.specs.World.{World, Call, begin, enlist, read, write, commit, abandon, message, install, report, merge, emit, replay, value, step, Handed, Lawful, run, freshWorld}
-use Rattle.rules.proofs.Protocol.{Protocol, Moves, stop, freshProtocol}
+use Rattle.rules.proofs.Protocol.{Protocol, stop, freshProtocol}
 use Rattle.rules.proofs.Invariants.{Invariant}
 use Rattle.rules.proofs.Reached.{invariant-moves, invariant-fresh}
 use Rattle.rules.proofs.Refines.{Refines}

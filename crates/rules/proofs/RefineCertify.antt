@@ -3,12 +3,12 @@ use Prim.Native.Nat.{ℕ, zero, suc, _+_, _-_, _*_, _≤_, _<_}
 use mathlib.Core.Path.{_≡_, refl, sym, ap, _∙_}
 use mathlib.Core.Bool.{Bool, true, false, not}
 use mathlib.Core.Logic.{_⊎_, inl, inr, ⊎-elim}
-use mathlib.Core.List.{List, [], _∷_, _++_}
+use mathlib.Core.List.{List, [], _∷_}
 use native.Mathlib.Omega.{arith}
-use borrow.Author.Tests.{ltb-false, eqb-true, leb-true}
-use lib.Dec.{eqb, leb}
+use borrow.Author.Tests.{ltb-false, leb-true}
+use lib.Dec.{eqb}
 use lib.ListN.{length, getD, List·getD-eq-default}
-use Rattle.laws.specs.Choice.{pick, every, by-test}
+use Rattle.laws.specs.Choice.{every, by-test}
 use Rattle.kinds.specs.Sizes as sizes
 use Rattle.kinds.specs.Stage as stage
 use Rattle.kinds.specs.declared.Keys.{Keys}
@@ -17,8 +17,8 @@ use Rattle.kinds.specs.declared.Entry.{Entry}
 use Rattle.kinds.specs.declared.Snapshot.{Snapshot}
 use Rattle.kinds.specs.declared.Site.{Site}
 use Rattle.kinds.specs.State.{subAt, pastEntry}
-use Rattle.rules.specs.House.{inMask, serialOf}
-use Rattle.rules.specs.Message.{entryTx, entryMask, entryMark, entryCount}
+use Rattle.rules.specs.House.{serialOf}
+use Rattle.rules.specs.Message.{entryTx, entryCount}
 use Rattle.rules.specs.Keys.{dependent}
 use Rattle.rules.specs.KeysLaws.{by-order}
 use Rattle.rules.specs.Live.{isPrepared, isPartOf}
@@ -32,7 +32,7 @@ use Rattle.rules.specs.EntryLaws.{Listing, Marks, joined-mark, joined-wi
 use Rattle.rules.proofs.Protocol.{Protocol, inst, Covers, Certified, Within, Listed}
 use Rattle.rules.proofs.Invariants.{Parts, at}
 use Rattle.rules.proofs.Refines.{IsFree, HistoryIs, sliceOf, SiteIs}
-use Rattle.rules.proofs.RefineLive.{by-same, part-is, held-there}
+use Rattle.rules.proofs.RefineLive.{part-is, held-there}
 use Rattle.rules.proofs.RefineTurn.{AtPlace}
 
 -- Marks are 0 or 1.

@@ -1,54 +1,39 @@
 -- Commit and abandon, as moves.
-use Prim.Native.Nat.{ℕ, zero, suc, _+_, _-_, _*_, _≤_, _<_}
+use Prim.Native.Nat.{ℕ, _-_}
 use mathlib.Core.Path.{_≡_, refl, sym, ap, _∙_}
-use mathlib.Core.Bool.{Bool, true, false, not}
-use mathlib.Core.List.{List, [], _∷_, _++_}
+use mathlib.Core.Bool.{true, false}
+use mathlib.Core.List.{List, []}
 use native.Mathlib.Omega.{arith}
 use borrow.Author.Tests.{eqb-true, eqb-false, not-false}
 use lib.Dec.{eqb}
-use lib.ListN.{length, getD}
-use Rattle.laws.specs.Choice.{pick, by-test}
-use Rattle.laws.specs.Overlay.{putAt}
+use lib.ListN.{length}
+use Rattle.laws.specs.Choice.{by-test}
 use Rattle.kinds.specs.Sizes as sizes
 use Rattle.kinds.specs.Stage as stage
 use Rattle.kinds.specs.Reason as reason
 use Rattle.kinds.specs.declared.Course.{Course}
-use Rattle.kinds.specs.declared.Sub.{Sub}
-use Rattle.kinds.specs.declared.Turn.{Turn}
 use Rattle.kinds.specs.declared.Site.{Site}
-use Rattle.kinds.specs.declared.Answer.the-variants.{Done}
-use Rattle.kinds.specs.State.{subAt, withCourse, withSub}
+use Rattle.kinds.specs.State.{subAt}
 use Rattle.rules.specs.House.{coordinatorOf}
 use Rattle.rules.specs.Message.{entryCount}
 use Rattle.rules.specs.Send.{countsLow}
-use Rattle.rules.specs.Live.{partAt, placeOf, allHeard}
-use Rattle.rules.specs.History.{isForgotten}
+use Rattle.rules.specs.Live.{placeOf, allHeard}
 use Rattle.rules.specs.Join.{joined}
-use Rattle.rules.specs.Certify.{concurrent, voteOf}
-use Rattle.rules.specs.CertifyLaws.{concurrent-whole, concurrent-few}
+use Rattle.rules.specs.Certify.{concurrent}
 use Rattle.rules.specs.Valid.{siteOk}
-use Rattle.rules.specs.ValidLaws.{valid-site}
-use Rattle.rules.specs.Effect.{Effect, turnAt, settle, changed}
-use Rattle.rules.specs.CourseLaws.{no-entries}
-use Rattle.rules.specs.Course.{withCourseOf, sendAll, abortStep, withRequest, prepareStep, castStep}
-use Rattle.rules.specs.Commit.{isMine, requestCode, commitCode, requestChange, isFull, isLost, commitChange, commitLists, commitOf, abandonCode, abandonOf}
+use Rattle.rules.specs.Effect.{Effect, turnAt, changed}
+use Rattle.rules.specs.Course.{abortStep}
+use Rattle.rules.specs.Commit.{isMine, requestCode, commitCode, isFull, isLost, commitChange, commitLists, commitOf, abandonCode, abandonOf}
 use Rattle.rules.specs.CommitLaws.{commit-full, commit-lost, commit-request, request-lone, request-prepare, lists-kept, lists-lost, lists-made}
 use Rattle.rules.specs.CallLaws.{request-clear, commit-clear, abandon-clear}
-use Rattle.rules.specs.World.{World, upd, step, siteStep}
+use Rattle.rules.specs.World.{World, step, siteStep}
 use Rattle.rules.specs.World as world
-use Rattle.rules.proofs.Tables.{upd₂, upd₂-same, upd-same, upd-other}
-use Rattle.rules.proofs.Protocol.{Protocol, mPrepare, courseAt, AtStage, Covers, Certified, postedAll, withCourseAt, set-gathered, set-asked, set-mask, set-made, set-list, request, stop, more}
-use Rattle.rules.proofs.Invariants.{In, Invariant}
-use Rattle.rules.proofs.Reached.{invariant-moves}
-use Rattle.rules.proofs.Refines.{IsFree, sliceOf, Slice, SiteIs, Refines}
-use Rattle.rules.proofs.RefineLive.{live-set}
-use Rattle.rules.proofs.RefineSite.{site-channels}
-use Rattle.rules.proofs.RefineStep.{Follows, by-code, row-same, row-other, inside, stays, unchanged}
-use Rattle.rules.proofs.RefineMail.{none, grows-all}
-use Rattle.rules.proofs.RefineTurn.{AtPlace, at-place, course-is}
-use Rattle.rules.proofs.RefineActs.{Acts, acts-follow, acts-then, settled-turn, settled-again, others-elsewhere, members, send-all-site, send-all-made}
-use Rattle.rules.proofs.RefineCertify.{covers, certifies, concurrent-low, join-within, join-whole}
-use Rattle.rules.proofs.RefineLists.{list-first, lists-put}
+use Rattle.rules.proofs.Protocol.{Protocol, AtStage, more}
+use Rattle.rules.proofs.Invariants.{Invariant}
+use Rattle.rules.proofs.Refines.{Refines}
+use Rattle.rules.proofs.RefineStep.{Follows, by-code, inside, stays}
+use Rattle.rules.proofs.RefineTurn.{at-place, course-is}
+use Rattle.rules.proofs.RefineActs.{acts-follow}
 use Rattle.rules.proofs.RefineCourse.{abort-acts}
 use Rattle.rules.proofs.RefineRequest.{Ready, prepare-acts, lone-commit-acts}
 

@@ -1,11 +1,10 @@
 -- CONC: its entries are gathered behind those that are there, and the last one brings the vote on their join.
-use Prim.Native.Nat.{ℕ, zero, suc, _+_, _-_, _*_, _≤_, _<_}
+use Prim.Native.Nat.{ℕ, _+_, _-_, _*_, _≤_, _<_}
 use mathlib.Core.Path.{_≡_, refl, sym, ap, _∙_}
-use mathlib.Core.Bool.{Bool, true, false}
-use mathlib.Core.List.{List, [], _∷_, _++_}
+use mathlib.Core.Bool.{true, false}
+use mathlib.Core.List.{List, [], _++_}
 use native.Mathlib.Omega.{arith}
-use lib.Dec.{eqb}
-use lib.ListN.{length, getD, take, drop}
+use lib.ListN.{length, take, drop}
 use Rattle.laws.specs.Choice.{pick, by-test}
 use Rattle.laws.specs.Overlay.{putAt}
 use Rattle.kinds.specs.Sizes as sizes
@@ -24,13 +23,13 @@ use Rattle.rules.specs.Join.{joined}
 use Rattle.rules.specs.Certify.{voteOf}
 use Rattle.rules.specs.Valid.{siteOk}
 use Rattle.rules.specs.ValidLaws.{valid-site, participants-lack-two}
-use Rattle.rules.specs.Effect.{Change, turnAt, settle}
+use Rattle.rules.specs.Effect.{settle}
 use Rattle.rules.specs.CourseLaws.{whole-count}
-use Rattle.rules.specs.Course.{quietly, withCourseOf, withReply, isOutstanding, takenFrom, castStep}
+use Rattle.rules.specs.Course.{quietly, withCourseOf, withReply, isOutstanding, castStep}
 use Rattle.rules.specs.Deliver.{arrived}
 use Rattle.rules.specs.World.{upd}
-use Rattle.rules.proofs.Tables.{upd₂, upd₂-same, upd-same, upd-other}
-use Rattle.rules.proofs.Protocol.{Protocol, Msg, mConc, Next, AtStage, courseAt, Within, withCourseAt, set-gathered, took, gathers}
+use Rattle.rules.proofs.Tables.{upd₂-same, upd-same, upd-other}
+use Rattle.rules.proofs.Protocol.{Protocol, mConc, Next, AtStage, courseAt, Within, withCourseAt, set-gathered, took, gathers}
 use Rattle.rules.proofs.Invariants.{Invariant}
 use Rattle.rules.proofs.Masks.{outstanding-unheard}
 use Rattle.rules.proofs.Frames.{said}
@@ -39,14 +38,14 @@ use Rattle.rules.proofs.Refines.{IsFree, ListIs, sliceOf, SiteIs}
 use Rattle.rules.proofs.RefineLive.{live-set}
 use Rattle.rules.proofs.RefineSite.{channels-taken}
 use Rattle.rules.proofs.RefineStep.{row-same, row-other}
-use Rattle.rules.proofs.RefineTurn.{AtPlace, course-is}
+use Rattle.rules.proofs.RefineTurn.{AtPlace, course-is, tx-of}
 use Rattle.rules.proofs.RefineActs.{Acts, acts-then, settled-turn, settled-again}
 use Rattle.rules.proofs.RefineCertify.{certifies, join-within, join-whole}
 use Rattle.rules.proofs.RefineLists.{list-more, lists-put}
 use Rattle.rules.proofs.RefineJoined.{joined-take}
 use Rattle.rules.proofs.RefineCourse.{cast-acts, settled-place}
 use Rattle.rules.proofs.RefineRequest.{listed-few, certified-course}
-use Rattle.rules.proofs.RefineTake.{took-from, quiet-acts}
+use Rattle.rules.proofs.RefineTake.{quiet-acts}
 use Rattle.rules.proofs.RefineQuiet.{reply-stage}
 
 reply-listed : (c : Course) (a n : ℕ) → withReply c a 0 n .listed ≡ c .listed + n
@@ -95,7 +94,7 @@ module _ {sites : ℕ} (p : Protocol) (s a : ℕ) {t : ℕ} {x : Site} {base lis
   list-is : ListIs gatheredLists place part (p .gathered t ++ es)
   list-is =
       let k = course-is A in
-      let tx : subAt x place .tx ≡ t = ap (λ (b : Sub). b .tx) (A .part) ∙ A .tx in
+      let tx : subAt x place .tx ≡ t = tx-of A in
       let old = y .lists .each place (A .spot .low) (ap (λ (c : Course). c .stage) k ∙ prepared) (ap coordinatorOf tx ∙ mine) in
       list-more lists place (subAt x place) part (p .gathered t) es (entryCount es) (y .lists .size) (A .spot .low) (rw tx at old) room whole
       (reply-listed (courseAt p s t) a (entryCount es) ∙ ap (λ (c : Course). c .listed + entryCount es) (sym k)) marks
@@ -120,7 +119,7 @@ module _ {sites : ℕ} (p : Protocol) (s a : ℕ) {t : ℕ} {x : Site} {base lis
 
   turn-tx : turn .sub .tx ≡ t
   unfolding arrived
-  turn-tx = ap (λ (b : Sub). b .tx) (A .part) ∙ A .tx
+  turn-tx = tx-of A
 
   turn-held : IsFree (turn .sub) → ⊥
   turn-held z = omega (arith, reply-stage course a 0 (entryCount es), ap (λ (c : Course). c .stage) (course-is A), prepared)

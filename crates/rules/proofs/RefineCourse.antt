@@ -1,13 +1,13 @@
 -- The coordinator's steps, as moves: abort, the vote on the joined lists with CERT, and the decision with COMMIT.
-use Prim.Native.Nat.{ℕ, zero, suc, _+_, _-_, _^_, _≤_, _<_}
+use Prim.Native.Nat.{ℕ, _+_, _-_, _≤_, _<_}
 use mathlib.Core.Path.{_≡_, refl, sym, ap, _∙_}
-use mathlib.Core.Bool.{Bool, true, false}
-use mathlib.Core.List.{List, [], _∷_, _++_, append-nil}
+use mathlib.Core.Bool.{true}
+use mathlib.Core.List.{List, []}
 use native.Mathlib.Omega.{arith}
 use borrow.Author.Tests.{eqb-true}
 use lib.Dec.{eqb, leb}
-use lib.ListN.{length, getD}
-use Rattle.laws.specs.Choice.{pick, by-test}
+use lib.ListN.{length}
+use Rattle.laws.specs.Choice.{by-test}
 use Rattle.kinds.specs.Sizes as sizes
 use Rattle.kinds.specs.Stage as stage
 use Rattle.kinds.specs.Reason as reason
@@ -17,8 +17,8 @@ use Rattle.kinds.specs.declared.Sub.{Sub}
 use Rattle.kinds.specs.declared.Turn.{Turn}
 use Rattle.kinds.specs.declared.Site.{Site}
 use Rattle.kinds.specs.declared.Answer.the-variants.{Done, Committed, Aborted}
-use Rattle.kinds.specs.State.{noSub, subAt, withCourse, withClock, withSub}
-use Rattle.rules.specs.House.{coordinatorOf, inMask}
+use Rattle.kinds.specs.State.{noSub, subAt, withCourse, withClock}
+use Rattle.rules.specs.House.{coordinatorOf}
 use Rattle.rules.specs.Live.{allHeard}
 use Rattle.rules.specs.Effect.{turnAt, settle}
 use Rattle.rules.specs.CourseLaws.{no-entries}
@@ -28,13 +28,13 @@ use Rattle.rules.proofs.Tables.{upd₂, upd₂-same, upd-same, upd-othe
 use Rattle.rules.proofs.Protocol.{Protocol, Msg, mAbort, mCert, mCommit, others, courseAt, AtStage, Whole, Within, Certified, abort, cast, decide, stop, more, postedAll, withCourseAt, set-certed, set-cert, set-yes, set-mark}
 use Rattle.rules.proofs.Invariants.{In, Held, Invariant}
 use Rattle.rules.proofs.Masks.{none-in, all-heard}
-use Rattle.rules.proofs.Frames.{others-cases, set-not}
+use Rattle.rules.proofs.Frames.{others-cases}
 use Rattle.rules.proofs.Reached.{invariant-moves}
-use Rattle.rules.proofs.Refines.{IsFree, Posted, ChannelsAre, sliceOf, SiteIs}
+use Rattle.rules.proofs.Refines.{IsFree, sliceOf, SiteIs}
 use Rattle.rules.proofs.RefineSite.{site-clock, site-channels}
 use Rattle.rules.proofs.RefineStep.{row-other}
 use Rattle.rules.proofs.RefineMail.{none, grows-all}
-use Rattle.rules.proofs.RefineTurn.{AtPlace, part-place, course-is, site-course, site-gone}
+use Rattle.rules.proofs.RefineTurn.{AtPlace, part-place, course-is, site-course, site-gone, mark-stage, decision-stage, tx-of}
 use Rattle.rules.proofs.RefineActs.{Acts, acts-then, settled-turn, settled-again, others-elsewhere, members, send-all-site, send-all-made}
 
 -- Alone, a coordinator has nobody to send to.
@@ -61,14 +61,6 @@ castAt p s t es =
     s t (withMark (courseAt p s t) (p .clock s)))
     s (courseAt p s t .mask) (mCert t es)
 
-mark-stage : (c : Course) (n : ℕ) → withMark c n .stage ≡ stage.queued
-unfolding withMark
-mark-stage c n = refl
-
-decision-stage : (c : Course) (n : ℕ) → withDecision c n .stage ≡ stage.decided
-unfolding withDecision
-decision-stage c n = refl
-
 decision-mask : (c : Course) (n : ℕ) → withDecision c n .mask ≡ c .mask
 unfolding withDecision
 decision-mask c n = refl
@@ -84,9 +76,6 @@ module _ {sites s t place : ℕ} {x : Site} {base lists : List ℕ} {p : Protoco
 
   abbrev turn : Turn
   turn = turnAt x place
-
-  tx-is : subAt x place .tx ≡ t
-  tx-is = ap (λ (b : Sub). b .tx) (a .part) ∙ a .tx
 
   mask-is : subAt x place .course .mask ≡ mask
   mask-is = ap (λ (c : Course). c .mask) (course-is a)
@@ -116,7 +105,7 @@ module _ {sites s t place : ℕ} {x : Site} {base lists : List ℕ} {p : Protoco
           grows = grows-all (p .post) s mask m;
           log = λ j. refl;
           site = send-all-site (p .post) turn (Aborted r) s mask m few (y .counters .own-is) mask-is (y .channels) refl (site-gone y refl a);
-          made = send-all-made (p .post) turn (Aborted r) s mask m few (y .counters .own-is) mask-is (y .channels) (no-entries .0) inHouse tx-is;
+          made = send-all-made (p .post) turn (Aborted r) s mask m few (y .counters .own-is) mask-is (y .channels) (no-entries .0) inHouse (tx-of a);
         },
       )
 
@@ -152,7 +141,7 @@ module _ {sites s t place : ℕ} {x : Site} {base lists : List ℕ} {p : Protoco
               send-all-site (p .post) u (Committed (p .clock s + 1)) s mask m few (y .counters .own-is) part (y .channels) refl
               (site-clock (site-course y refl a c d k (λ o f. absurd (omega (arith, decision-stage (courseAt p s t) (p .clock s + 1)))))
               (p .clock s + 1) (upd-same (p .clock) s (p .clock s + 1)));
-          made = send-all-made (p .post) u (Committed (p .clock s + 1)) s mask m few (y .counters .own-is) part (y .channels) (no-entries .0) inHouse tx-is;
+          made = send-all-made (p .post) u (Committed (p .clock s + 1)) s mask m few (y .counters .own-is) part (y .channels) (no-entries .0) inHouse (tx-of a);
         },
       )
 
@@ -171,7 +160,7 @@ module _ {sites s t place : ℕ} {x : Site} {base lists : List ℕ} {p : Protoco
 
   marked-tx : marked .sub .tx ≡ t
   unfolding turnAt
-  marked-tx = tx-is
+  marked-tx = tx-of a
 
   marked-held : IsFree (marked .sub) → ⊥
   unfolding turnAt
@@ -205,7 +194,7 @@ module _ {sites s t place : ℕ} {x : Site} {base lists : List ℕ} {p : Protoco
           site =
               send-all-site (p .post) marked Done s mask m few (y .counters .own-is) part (y .channels) refl
               (site-course y refl a c (withMark (subAt x place .course) (x .counters .clock)) marks (λ o f. absurd (omega (arith, mark-stage (courseAt p s t) (p .clock s)))));
-          made = send-all-made (p .post) marked Done s mask m few (y .counters .own-is) part (y .channels) whole inHouse tx-is;
+          made = send-all-made (p .post) marked Done s mask m few (y .counters .own-is) part (y .channels) whole inHouse (tx-of a);
         },
       )
 

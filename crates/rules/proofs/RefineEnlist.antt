@@ -1,21 +1,17 @@
 -- Enlist, as a move.
-use Prim.Native.Nat.{ℕ, _+_, _-_, _≤_, _<_}
+use Prim.Native.Nat.{ℕ, _-_, _≤_}
 use mathlib.Core.Path.{_≡_, refl, sym, ap, _∙_}
-use mathlib.Core.Bool.{Bool, true, false}
 use mathlib.Core.List.{List, []}
 use native.Mathlib.Omega.{arith}
 use borrow.Author.Tests.{eqb-true, eqb-false}
 use lib.Dec.{eqb}
 use lib.ListN.{length, getD}
-use Rattle.kinds.specs.Sizes as sizes
 use Rattle.kinds.specs.Stage as stage
 use Rattle.kinds.specs.declared.Site.{Site}
 use Rattle.kinds.specs.declared.Course.{Course}
-use Rattle.kinds.specs.declared.Sub.{Sub}
 use Rattle.kinds.specs.State.{subAt, withCourse}
 use Rattle.rules.specs.House.{coordinatorOf, inMask, isSite}
 use Rattle.rules.specs.MessageLaws.{site-clear}
-use Rattle.rules.specs.Message.{entryCount}
 use Rattle.rules.specs.Live.{placeOf}
 use Rattle.rules.specs.Valid.{siteOk}
 use Rattle.rules.specs.Effect.{Effect, turnAt, settle, changed}
@@ -25,13 +21,12 @@ use Rattle.rules.specs.CallLaws.{enlist-clear, joiner-clear}
 use Rattle.rules.specs.CourseLaws.{no-entries}
 use Rattle.rules.specs.World.{World, step, siteStep}
 use Rattle.rules.specs.World as world
-use Rattle.rules.proofs.Tables.{upd₂}
 use Rattle.rules.proofs.Protocol.{Protocol, mJoin, courseAt, enlist, stop, more}
-use Rattle.rules.proofs.Refines.{encode, Refines}
+use Rattle.rules.proofs.Refines.{Refines}
 use Rattle.rules.proofs.RefineSite.{site-channels, channels-one}
 use Rattle.rules.proofs.RefineStep.{Follows, by-code, row-other, inside, stays, site-step}
 use Rattle.rules.proofs.RefineMail.{made-one, made-in, send-words, grows-one}
-use Rattle.rules.proofs.RefineTurn.{AtPlace, at-place, course-is, site-course}
+use Rattle.rules.proofs.RefineTurn.{at-place, course-is, site-course, tx-of}
 
 participant-stage : (c : Course) (r : ℕ) → withParticipant c r .stage ≡ c .stage
 unfolding withParticipant
@@ -73,7 +68,7 @@ module _ {sites : ℕ} {w : World} {p : Protocol} (r : Refines sites w p) (s : �
       let number = y .channels .sent-is n (o .low) m in
       let apart : (n ≡ s → ⊥) = λ z. eqb-false n (here .counters .own) (d .other) (z ∙ sym own) in
       let u = withCourseOf (turnAt here spot) (withParticipant course n) in
-      let words = send-words u (mJoin t) s n own (ap (λ (z : Sub). z .tx) (a .part) ∙ a .tx) in (
+      let words = send-words u (mJoin t) s n own (tx-of a) in (
         _,
         more stop (enlist s t n (eqb-true _ _ (c .coordinator) ∙ own) active (o .low) m apart (sym (ap (λ (z : Course). inMask (z .mask) n) k) ∙ d .new)),
         site-step r s l h

@@ -1,23 +1,21 @@
 -- A fresh house is that of the fresh protocol.
-use Prim.Native.Nat.{ℕ, zero, suc, _+_, _-_, _≤_, _<_}
-use mathlib.Core.Path.{_≡_, refl, sym, ap, _∙_}
-use mathlib.Core.Bool.{Bool, true, false, not}
-use mathlib.Core.List.{List, [], _∷_}
+use Prim.Native.Nat.{ℕ, _-_, _≤_, _<_}
+use mathlib.Core.Path.{_≡_, refl, sym, _∙_}
+use mathlib.Core.Bool.{false}
+use mathlib.Core.List.{[], _∷_}
 use native.Mathlib.Omega.{arith}
-use borrow.Author.Tests.{leb-true, le-leb, lt-leb, ltb-true}
+use borrow.Author.Tests.{leb-true, le-leb}
 use lib.Dec.{leb}
-use lib.ListN.{length, getD, replicate, length-replicate, getD-replicate}
-use Rattle.laws.specs.Choice.{pick, every, every-at, by-test}
+use lib.ListN.{replicate, length-replicate, getD-replicate}
+use Rattle.laws.specs.Choice.{every, every-at, by-test}
 use Rattle.kinds.specs.Sizes as sizes
-use Rattle.kinds.specs.Stage as stage
-use Rattle.kinds.specs.declared.Sub.{Sub}
 use Rattle.kinds.specs.State.{noSub, pastSub, noEntry}
 use Rattle.rules.specs.House.{houseOk, isSite}
 use Rattle.rules.specs.Live.{partAt}
 use Rattle.rules.specs.History.{remembered}
 use Rattle.rules.specs.Install.{freshSite, startCode, startOf}
 use Rattle.rules.specs.Valid.{siteOk}
-use Rattle.rules.specs.World.{World, freshWorld}
+use Rattle.rules.specs.World.{freshWorld}
 use Rattle.rules.proofs.Tables.{a-nil}
 use Rattle.rules.proofs.Protocol.{freshProtocol}
 use Rattle.rules.proofs.Refines.{IsFree, sliceOf, SiteIs, Refines}

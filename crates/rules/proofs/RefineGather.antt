@@ -1,15 +1,14 @@
 -- Messages that the coordinator gathers: VOTE, with the decision or the abort that it brings, and CONC, with the vote on the joined lists.
-use Prim.Native.Nat.{ℕ, zero, suc, _+_, _-_, _*_, _≤_, _<_, max}
+use Prim.Native.Nat.{ℕ, _-_, _≤_, _<_}
 use mathlib.Core.Path.{_≡_, refl, sym, ap, _∙_}
 use mathlib.Core.Bool.{Bool, true, false, not}
 use mathlib.Core.Logic.{_⊎_, inl, inr, ⊎-elim}
-use mathlib.Core.List.{List, [], _∷_, _++_}
+use mathlib.Core.List.{List, [], _∷_}
 use native.Mathlib.Omega.{arith}
 use borrow.Author.Tests.{eqb-true, eqb-false, not-true}
 use lib.Dec.{eqb}
-use lib.ListN.{length, getD, take, drop}
-use Rattle.laws.specs.Choice.{pick, every, some, every-at, by-test}
-use Rattle.laws.specs.Overlay.{putAt}
+use lib.ListN.{length}
+use Rattle.laws.specs.Choice.{every, some, every-at, by-test}
 use Rattle.kinds.specs.Sizes as sizes
 use Rattle.kinds.specs.Stage as stage
 use Rattle.kinds.specs.declared.Course.{Course}
@@ -17,20 +16,17 @@ use Rattle.kinds.specs.declared.Sub.{Sub}
 use Rattle.kinds.specs.declared.Turn.{Turn}
 use Rattle.kinds.specs.declared.Site.{Site}
 use Rattle.kinds.specs.State.{subAt, withCourse}
-use Rattle.rules.specs.House.{coordinatorOf}
-use Rattle.rules.specs.Message.{entryCount}
 use Rattle.rules.specs.Live.{allHeard}
-use Rattle.rules.specs.Effect.{turnAt, settle}
+use Rattle.rules.specs.Effect.{settle}
 use Rattle.rules.specs.Course.{raise, quietly, withCourseOf, withReply, isOutstanding, abortStep, decideStep, voteStep}
 use Rattle.rules.specs.Deliver.{arrived, voteInTurn}
-use Rattle.rules.specs.World.{upd}
-use Rattle.rules.proofs.Tables.{upd₂, upd₂-same}
-use Rattle.rules.proofs.Protocol.{Protocol, Msg, mVote, Next, AtStage, courseAt, withCourseAt, took, raised}
+use Rattle.rules.proofs.Tables.{upd₂-same}
+use Rattle.rules.proofs.Protocol.{Protocol, mVote, Next, AtStage, courseAt, withCourseAt, took, raised}
 use Rattle.rules.proofs.Invariants.{Invariant}
 use Rattle.rules.proofs.Frames.{said}
 use Rattle.rules.proofs.Reached.{invariant-moves}
 use Rattle.rules.proofs.Refines.{IsFree, sliceOf, SiteIs}
-use Rattle.rules.proofs.RefineTurn.{AtPlace, course-is}
+use Rattle.rules.proofs.RefineTurn.{AtPlace, course-is, tx-of}
 use Rattle.rules.proofs.RefineActs.{Acts, acts-then, settled-turn, settled-again}
 use Rattle.rules.proofs.RefineCourse.{abort-acts, decide-acts, settled-place}
 use Rattle.rules.proofs.RefineQuiet.{reply-stage, votes-acts, raised-acts}
@@ -67,7 +63,7 @@ module _ {sites : ℕ} (p : Protocol) (s a : ℕ) {t : ℕ} {x : Site} {base lis
 
   raised-tx : (n : ℕ) → raisedTurn n .sub .tx ≡ t
   unfolding raise arrived
-  raised-tx n = ap (λ (b : Sub). b .tx) (A .part) ∙ A .tx
+  raised-tx n = tx-of A
 
   raised-course : (n : ℕ) → raisedTurn n .sub .course ≡ courseAt p s t
   unfolding raise arrived
@@ -90,7 +86,7 @@ module _ {sites : ℕ} (p : Protocol) (s a : ℕ) {t : ℕ} {x : Site} {base lis
 
   heard-tx : (n : ℕ) → heardTurn n .sub .tx ≡ t
   unfolding raise arrived
-  heard-tx n = ap (λ (b : Sub). b .tx) (A .part) ∙ A .tx
+  heard-tx n = tx-of A
 
   last-acts : (n : ℕ) → Next p a s (mVote t n 0) → AtStage p s t stage.queued → isOutstanding (courseAt p s t) a ≡ true
       → (let c = withReply (courseAt p s t) a 0 0 in allHeard (c .heard) (c .mask) ≡ true)

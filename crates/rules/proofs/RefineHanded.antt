@@ -1,9 +1,9 @@
 -- The message call, as moves: words handed in are a posted message, and then the next of its channel, or they are refused.
-use Prim.Native.Nat.{ℕ, zero, suc, _+_, _-_, _*_, _≤_, _<_}
+use Prim.Native.Nat.{ℕ, _+_, _-_, _≤_, _<_}
 use mathlib.Core.Path.{_≡_, refl, sym, ap, _∙_}
-use mathlib.Core.Bool.{Bool, true, false}
-use mathlib.Core.Logic.{_⊎_, inl, inr}
-use mathlib.Core.List.{List, [], _∷_, _++_, map}
+use mathlib.Core.Bool.{true}
+use mathlib.Core.Logic.{inl, inr}
+use mathlib.Core.List.{List, [], _∷_, map}
 use native.Mathlib.Omega.{arith}
 use lib.Dec.{eqb}
 use lib.ListN.{length, getD}
@@ -11,7 +11,7 @@ use Rattle.kinds.specs.Sizes as sizes
 use Rattle.kinds.specs.Kind as kind
 use Rattle.kinds.specs.declared.Site.{Site}
 use Rattle.kinds.specs.declared.MessageHead.{MessageHead}
-use Rattle.rules.specs.Message.{messageHead, messageEntries, messageOk, entryCount}
+use Rattle.rules.specs.Message.{messageHead, messageEntries, messageOk}
 use Rattle.rules.specs.MessageLaws.{head-back, entries-back, passed-good}
 use Rattle.rules.specs.Record.{recordWords}
 use Rattle.rules.specs.RecordLaws.{shape-written, record-no-message}
@@ -30,7 +30,7 @@ use Rattle.rules.proofs.Tables.{All, a-nil, a-cons}
 use Rattle.rules.proofs.Protocol.{Protocol, Msg, mAbort, Rec, rPart, rState, Next}
 use Rattle.rules.proofs.Invariants.{Invariant}
 use Rattle.rules.proofs.Frames.{in-range, set-not}
-use Rattle.rules.proofs.Refines.{kindOf, txIn, clockIn, argumentIn, entriesIn, encode, Posted, recWords, entryWords, partHeadOf, IsRecord, sliceOf, SiteIs, Refines}
+use Rattle.rules.proofs.Refines.{entriesIn, encode, Posted, recWords, entryWords, partHeadOf, IsRecord, sliceOf, SiteIs, Refines}
 use Rattle.rules.proofs.RefineStep.{Follows, by-code, inside, stays}
 use Rattle.rules.proofs.RefineMessage.{headIn, takes}
 

@@ -1,18 +1,15 @@
 -- A join reads only the entries that it is told of.
-use Prim.Native.Nat.{ℕ, zero, suc, _+_, _*_, _≤_, _<_}
+use Prim.Native.Nat.{ℕ, zero, suc, _+_, _*_, _<_}
 use mathlib.Core.Path.{_≡_, refl, sym, ap, _∙_}
-use mathlib.Core.Bool.{Bool, true, false}
-use mathlib.Core.List.{List, [], _∷_, _++_}
+use mathlib.Core.Bool.{Bool}
+use mathlib.Core.List.{List, []}
 use native.Mathlib.Omega.{arith}
 use lib.Dec.{eqb}
 use lib.ListN.{getD, take}
 use lib.Seq.{getD-take}
-use Rattle.laws.specs.Choice.{pick}
 use Rattle.laws.specs.Scan.{firstBelow, foldBelow}
 use Rattle.kinds.specs.Sizes as sizes
-use Rattle.kinds.specs.declared.Listed.{Listed}
-use Rattle.rules.specs.Message.{entryTx, entryMask, entryMark}
-use Rattle.rules.specs.Join.{lesserAbove, leastAbove, withListed, listedOf, joinTx, joinCount, entryWords, joinWords, joined}
+use Rattle.rules.specs.Join.{lesserAbove, leastAbove, listedOf, joinTx, joinCount, joinWords, joined}
 
 fold-agree : {A : Type 0} (f g : ℕ → A → A) (n : ℕ) (a : A) → ((i : ℕ) → i < n → (b : A) → f i b ≡ g i b) → foldBelow f n a ≡ foldBelow g n a
 unfolding foldBelow

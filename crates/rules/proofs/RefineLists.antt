@@ -1,10 +1,9 @@
 -- The gathered lists with words put at one place.
-use Prim.Native.Nat.{ℕ, zero, suc, _+_, _-_, _*_, _≤_, _<_}
-use mathlib.Core.Path.{_≡_, refl, sym, ap, _∙_}
-use mathlib.Core.Bool.{Bool, true, false}
-use mathlib.Core.List.{List, [], _∷_, _++_}
+use Prim.Native.Nat.{ℕ, _+_, _-_, _*_, _≤_, _<_}
+use mathlib.Core.Path.{_≡_, sym, ap, _∙_}
+use mathlib.Core.List.{List, _++_}
 use native.Mathlib.Omega.{arith}
-use lib.ListN.{length, getD, take, drop, set, length-append}
+use lib.ListN.{length, take, drop, set, length-append}
 use lib.Seq.{getD-set-same, getD-set-other, take-add, drop-drop, take-all}
 use Rattle.laws.specs.Overlay.{putAt}
 use Rattle.kinds.specs.Sizes as sizes

@@ -1,15 +1,15 @@
 -- A site's live table against the protocol's row: where a part stands, and the table with one place changed.
-use Prim.Native.Nat.{ℕ, _+_, _-_, _*_, _≤_, _<_}
-use mathlib.Core.Path.{_≡_, refl, sym, ap, _∙_}
-use mathlib.Core.Bool.{Bool, true, false, not}
+use Prim.Native.Nat.{ℕ, _-_, _≤_, _<_}
+use mathlib.Core.Path.{_≡_, sym, ap, _∙_}
+use mathlib.Core.Bool.{true, not}
 use mathlib.Core.List.{List, [], _∷_}
 use native.Mathlib.Omega.{arith}
 use borrow.Author.Tests.{eqb-true, eqb-false, eq-eqb, ne-eqb, not-true}
 use lib.Dec.{eqb}
-use lib.ListN.{length, getD, set, length-set}
+use lib.ListN.{set, length-set}
 use lib.Seq.{getD-set-same, getD-set-other}
-use Rattle.laws.specs.Choice.{every, every-at, by-test}
-use Rattle.laws.specs.Scan.{at-first, before-first, first-le}
+use Rattle.laws.specs.Choice.{every-at, by-test}
+use Rattle.laws.specs.Scan.{at-first, before-first}
 use Rattle.kinds.specs.Sizes as sizes
 use Rattle.kinds.specs.Stage as stage
 use Rattle.kinds.specs.declared.Sub.{Sub}
@@ -18,7 +18,7 @@ use Rattle.rules.specs.House.{coordinatorOf}
 use Rattle.rules.specs.Live.{partAt, stageAt, freePlace, isPartOf, placeOf}
 use Rattle.rules.specs.World.{upd}
 use Rattle.rules.proofs.Tables.{upd-same, upd-other, upd-cases}
-use Rattle.rules.proofs.Refines.{IsFree, Sized, LiveIs, ListIs, ListsAre}
+use Rattle.rules.proofs.Refines.{IsFree, Sized, LiveIs, ListsAre}
 
 -- place i is for transaction t: no other place holds t, and it holds t or nothing
 pub record Spot (live : List Sub) (i t : ℕ) : Type 0 where
@@ -53,19 +53,19 @@ module _ {live : List Sub} {row : ℕ → Sub} (l : LiveIs live row) where
   held-there i t h f e = l .holds i h f ∙ ap row e
 
   -- where t is held, its place is found
-  pub record-place : (t : ℕ) → placeOf live t < sizes.live → isPartOf (partAt live (placeOf live t)) t ≡ true
+  pub found-place : (t : ℕ) → placeOf live t < sizes.live → isPartOf (partAt live (placeOf live t)) t ≡ true
   unfolding placeOf
-  record-place t h = at-first (λ i. isPartOf (partAt live i) t) sizes.live h
+  found-place t h = at-first (λ i. isPartOf (partAt live i) t) sizes.live h
 
   pub place-held : (t : ℕ) → placeOf live t < sizes.live → (partAt live (placeOf live t) ≡ row t) × (IsFree (row t) → ⊥) × (row t .tx ≡ t)
   place-held t h =
-      let (f, e) = part-is (partAt live (placeOf live t)) t (record-place t h) in
+      let (f, e) = part-is (partAt live (placeOf live t)) t (found-place t h) in
       let q = held-there (placeOf live t) t h f e in
       (q, rw q at f, rw q at e)
 
   pub place-spot : (t : ℕ) → placeOf live t < sizes.live → Spot live (placeOf live t) t
   place-spot t h =
-      let (f, e) = part-is (partAt live (placeOf live t)) t (record-place t h) in
+      let (f, e) = part-is (partAt live (placeOf live t)) t (found-place t h) in
       record { low = h; alone = λ j m g x. l .apart j (placeOf live t) m h g f (x ∙ sym e); own = λ g. e }
 
   -- and where it is not, t is not held

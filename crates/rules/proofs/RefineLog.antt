@@ -1,14 +1,14 @@
 -- Report and install, as moves: the calls that write a site's log.
 use Prim.Native.Nat.{ℕ, zero, suc, _+_, _-_, _≤_, _<_}
 use mathlib.Core.Path.{_≡_, refl, sym, ap, _∙_}
-use mathlib.Core.Bool.{Bool, true, false}
+use mathlib.Core.Bool.{true}
 use mathlib.Core.List.{List, [], _∷_, _++_, map, map-append}
 use native.Mathlib.Omega.{arith}
 use borrow.Author.Tests.{ltb-true, eqb-true}
 use lib.Dec.{ltb, leb, eqb}
 use lib.ListN.{length, getD, set, length-set, length-append, List·getD-append}
 use lib.Seq.{getD-set-same, getD-set-other, getD-append-seam}
-use Rattle.laws.specs.Choice.{pick, every-at, by-test}
+use Rattle.laws.specs.Choice.{every-at, by-test}
 use Rattle.laws.specs.Scan.{foldBelow}
 use Rattle.kinds.specs.Sizes as sizes
 use Rattle.kinds.specs.Stage as stage
@@ -18,12 +18,11 @@ use Rattle.kinds.specs.declared.Entry.{Entry}
 use Rattle.kinds.specs.declared.Site.{Site}
 use Rattle.kinds.specs.declared.Answer.the-variants.{Reported}
 use Rattle.kinds.specs.State.{Value, fresh, noSub, pastEntry, subAt, entryAt}
-use Rattle.rules.specs.House.{coordinatorOf}
 use Rattle.rules.specs.Record.{recordWords}
 use Rattle.rules.specs.KeysLaws.{by-order}
-use Rattle.rules.specs.Live.{partAt, stageAt, isQueued}
-use Rattle.rules.specs.History.{slotOf, recall, remembered, forgotten, forgetInto}
-use Rattle.rules.specs.Queue.{queuedBefore, leastQueued, isDue, stateNumber}
+use Rattle.rules.specs.Live.{partAt, isQueued}
+use Rattle.rules.specs.History.{slotOf, remembered, forgotten, forgetInto}
+use Rattle.rules.specs.Queue.{leastQueued, isDue, stateNumber}
 use Rattle.rules.specs.QueueLaws.{least-first, state-clock, state-open, state-decided}
 use Rattle.rules.specs.Valid.{siteOk}
 use Rattle.rules.specs.Effect.{Effect}
@@ -31,13 +30,12 @@ use Rattle.rules.specs.Install.{installCode, entryOf, partHead, partWord
 use Rattle.rules.specs.CallLaws.{install-clear, report-clear}
 use Rattle.rules.specs.World.{World, upd, step, logStep, recordIn}
 use Rattle.rules.specs.World as world
-use Rattle.rules.proofs.Tables.{upd₂, upd-same, upd-other}
-use Rattle.rules.proofs.Protocol.{Protocol, Rec, rPart, rState, partsOf, inst, LeastQueued, StateAt, install, report, stop, more}
+use Rattle.rules.proofs.Tables.{upd-same, upd-other}
+use Rattle.rules.proofs.Protocol.{Protocol, Rec, rPart, rState, partsOf, LeastQueued, StateAt, install, report, stop, more}
 use Rattle.rules.proofs.StepParts.{parts-append, parts-state}
-use Rattle.rules.proofs.Refines.{IsFree, CountersAre, HistoryIs, LiveIs, recWords, entryWords, partHeadOf, Refines}
-use Rattle.rules.proofs.RefineLive.{by-same, live-set, lists-set}
-use Rattle.rules.proofs.RefineTurn.{AtPlace, part-place, site-gone}
-use Rattle.rules.proofs.RefineStep.{Follows, by-code, row-same, row-other, inside, unlogged, log-step}
+use Rattle.rules.proofs.Refines.{IsFree, HistoryIs, LiveIs, recWords, entryWords, partHeadOf, Refines}
+use Rattle.rules.proofs.RefineTurn.{part-place, site-gone}
+use Rattle.rules.proofs.RefineStep.{Follows, by-code, row-other, inside, unlogged, log-step}
 
 -- a record written behind the log
 log-more : (s : ℕ) (l : List (List ℕ)) (m : List Rec) (a : Rec) (ws : List ℕ) → l ≡ map (recWords s) m → recordIn ws ≡ recWords s a ∷ []

@@ -1,15 +1,14 @@
 -- Words sent: they are messages behind one another, and each stands among those posted.
-use Prim.Native.Nat.{ℕ, zero, suc, _+_, _-_, _*_, _≤_, _<_}
+use Prim.Native.Nat.{ℕ, zero, suc, _+_, _-_, _≤_, _<_}
 use mathlib.Core.Path.{_≡_, refl, sym, ap, _∙_}
-use mathlib.Core.Bool.{Bool, true, false, not}
+use mathlib.Core.Bool.{true, not}
 use mathlib.Core.List.{List, [], _∷_, _++_, append-nil, append-assoc}
 use native.Mathlib.Omega.{arith}
 use native.Mathlib.Numerals.{add-one}
-use borrow.Author.Tests.{eqb-true, eq-eqb}
 use lib.Dec.{eqb}
 use lib.ListN.{length, getD, length-append}
 use lib.Seq.{take-at, drop-at, getD-append-seam}
-use Rattle.laws.specs.Choice.{pick, every-at, by-test}
+use Rattle.laws.specs.Choice.{every-at, by-test}
 use Rattle.laws.specs.Digits.{digit}
 use Rattle.kinds.specs.Sizes as sizes
 use Rattle.kinds.specs.declared.Channels.{Channels}

@@ -1,13 +1,13 @@
 -- A message taken, by its kind, as moves.
-use Prim.Native.Nat.{ℕ, zero, suc, _+_, _-_, _*_, _≤_, _<_}
+use Prim.Native.Nat.{ℕ, _+_, _-_, _*_, _≤_}
 use mathlib.Core.Path.{_≡_, refl, sym, ap, _∙_}
 use mathlib.Core.Bool.{Bool, true, false, not}
-use mathlib.Core.List.{List, [], _∷_, _++_}
+use mathlib.Core.List.{List, [], _∷_}
 use native.Mathlib.Omega.{arith}
 use borrow.Author.Tests.{eqb-true, eqb-false, ltb-true, ltb-false, leb-true, not-true}
 use lib.Dec.{eqb, leb, ltb}
-use lib.ListN.{length, getD, List·getD-eq-default}
-use Rattle.laws.specs.Choice.{pick, every, every-at, by-test}
+use lib.ListN.{List·getD-eq-default}
+use Rattle.laws.specs.Choice.{every, every-at, by-test}
 use Rattle.laws.specs.Scan.{all-below-at}
 use Rattle.kinds.specs.Sizes as sizes
 use Rattle.kinds.specs.Stage as stage
@@ -15,11 +15,10 @@ use Rattle.kinds.specs.Reason as reason
 use Rattle.kinds.specs.Kind as kind
 use Rattle.kinds.specs.declared.House.{House}
 use Rattle.kinds.specs.declared.Course.{Course}
-use Rattle.kinds.specs.declared.Sub.{Sub}
 use Rattle.kinds.specs.declared.Site.{Site}
 use Rattle.kinds.specs.declared.MessageHead.{MessageHead}
 use Rattle.kinds.specs.State.{noSub, subAt}
-use Rattle.rules.specs.House.{coordinatorOf, isTx, isMask}
+use Rattle.rules.specs.House.{isTx, isMask}
 use Rattle.rules.specs.Message.{entryTx, entryMask, entryMark, entryBefore, entryCount, entryOk, GoodMessage, mostEntries}
 use Rattle.rules.specs.MessageLaws.{head-clear}
 use Rattle.rules.specs.EntryLaws.{Marks}
@@ -28,12 +27,12 @@ use Rattle.rules.specs.Live.{placeOf, freePlace, allHeard}
 use Rattle.rules.specs.History.{isForgotten}
 use Rattle.rules.specs.Certify.{concurrent, voteOf}
 use Rattle.rules.specs.Valid.{siteOk}
-use Rattle.rules.specs.Effect.{Change, Effect, settle, changed, unless}
+use Rattle.rules.specs.Effect.{Change, Effect, settle, changed}
 use Rattle.rules.specs.Course.{headOf, sendTo, raise, quietly, withCourseOf, withSubOf, withReply, withDecision, isOutstanding, preparedStep, certifiedStep, voteStep, voteDecides}
 use Rattle.rules.specs.CallLaws.{reply-clear}
 use Rattle.rules.specs.Deliver.{arrived, passed, replyCode, spentTo, spentToAll, stepUnless, joinTurn, spoken, joinAt, takeJoin, joinedInTurn, takeJoined, takePrepare, passPrepare, concInTurn, gatherChange, gatherLists, takeConc, takeCert, voteInTurn, takeVote, takeCommit, takeAbort, keeping, takeHeld, takeOther, takeKind}
 use Rattle.rules.specs.World.{World, siteStep}
-use Rattle.rules.proofs.Protocol.{Protocol, Msg, mJoin, mJoined, mPrepare, mConc, mCert, mVote, mCommit, mAbort, Next, AtStage, courseAt}
+use Rattle.rules.proofs.Protocol.{Protocol, Msg, mJoin, mJoined, mPrepare, mConc, mCert, mVote, mCommit, mAbort, Next}
 use Rattle.rules.proofs.Invariants.{Invariant}
 use Rattle.rules.proofs.Frames.{said}
 use Rattle.rules.proofs.Refines.{IsFree, kindOf, txIn, clockIn, argumentIn, entriesIn, sliceOf, SiteIs, Refines}

@@ -1,37 +1,30 @@
 -- Messages taken without a reply: JOINED, COMMIT, ABORT, a yes that is not the last, and any for a transaction not held.
-use Prim.Native.Nat.{ℕ, zero, suc, _+_, _-_, _*_, _≤_, _<_, max}
+use Prim.Native.Nat.{ℕ, _-_, _≤_, max}
 use mathlib.Core.Path.{_≡_, refl, sym, ap, _∙_}
-use mathlib.Core.Bool.{Bool, true, false}
-use mathlib.Core.List.{List, [], _∷_, _++_}
+use mathlib.Core.Bool.{true}
+use mathlib.Core.List.{List, []}
 use native.Mathlib.Omega.{arith}
-use lib.ListN.{length, getD}
 use lib.Seq.{set-getD}
 use Rattle.kinds.specs.Sizes as sizes
 use Rattle.kinds.specs.Stage as stage
 use Rattle.kinds.specs.declared.Course.{Course}
-use Rattle.kinds.specs.declared.Sub.{Sub}
 use Rattle.kinds.specs.declared.Site.{Site}
 use Rattle.kinds.specs.State.{noSub, pastSub, subAt, withCourse, withChannels}
-use Rattle.rules.specs.House.{coordinatorOf}
-use Rattle.rules.specs.Effect.{turnAt, settle}
+use Rattle.rules.specs.Effect.{settle}
 use Rattle.rules.specs.Course.{takenFrom, raise, quietly, withSubOf, withCourseOf, withReply, withDecision, isOutstanding}
 use Rattle.rules.specs.Deliver.{arrived}
 use Rattle.rules.specs.World.{upd}
-use Rattle.rules.proofs.Tables.{upd₂, upd-same, upd-other}
+use Rattle.rules.proofs.Tables.{upd-same, upd-other}
 use Rattle.rules.proofs.Protocol.{Protocol, Msg, mJoined, mVote, mCommit, mAbort, Next, AtStage, courseAt, withCourseAt, withLive, took, raised, joined, votes, commits, aborts, passes}
 use Rattle.rules.proofs.Refines.{sliceOf, SiteIs}
 use Rattle.rules.proofs.RefineStep.{row-other}
-use Rattle.rules.proofs.RefineTurn.{AtPlace, course-is, site-course, site-gone}
+use Rattle.rules.proofs.RefineTurn.{AtPlace, course-is, site-course, site-gone, decision-stage}
 use Rattle.rules.proofs.RefineActs.{Acts}
 use Rattle.rules.proofs.RefineTake.{took-site, quiet-acts}
 
 pub reply-stage : (c : Course) (a r n : ℕ) → withReply c a r n .stage ≡ c .stage
 unfolding withReply
 reply-stage c a r n = refl
-
-decided-stage : (c : Course) (n : ℕ) → withDecision c n .stage ≡ stage.decided
-unfolding withDecision
-decided-stage c n = refl
 
 module _ {sites : ℕ} (p : Protocol) (s a : ℕ) {x : Site} {base lists : List ℕ} (few : sites ≤ sizes.sites) (low : 1 ≤ a) (high : a ≤ sites)
     (y : SiteIs sites s x base lists (sliceOf p s)) where
@@ -65,7 +58,7 @@ module _ {sites : ℕ} (p : Protocol) (s a : ℕ) {x : Site} {base lists : List 
         quiet-acts s a (commits a s t n next queued) (λ j z. upd-other (p .clock) s (max (p .clock s) n) j z) refl
         (λ j z. row-other (p .live) s t (withCourse (p .live s t) c) j z) refl refl refl (λ t z. refl)
         (took-site p s a few low high y (max (x .counters .clock) n) (raised-clock n) refl
-        (site-course y refl A c (withDecision (subAt x place .course) n) (rw (course-is A)) (λ z e. absurd (omega (arith, decided-stage (courseAt p s t) n)))))
+        (site-course y refl A c (withDecision (subAt x place .course) n) (rw (course-is A)) (λ z e. absurd (omega (arith, decision-stage (courseAt p s t) n)))))
 
     pub aborts-acts : Next p a s (mAbort t) → (AtStage p s t stage.decided → ⊥)
         → Acts sites s p (withLive (took p a s) s t noSub) (settle x place (quietly (withSubOf (arrived x place a) noSub) .turn)) base lists []

@@ -1,35 +1,34 @@
 -- Messages that a participant answers: JOIN, PREPARE and CERT.
-use Prim.Native.Nat.{ℕ, zero, suc, _+_, _-_, _*_, _≤_, _<_, max}
+use Prim.Native.Nat.{ℕ, _-_, _≤_, max}
 use mathlib.Core.Path.{_≡_, refl, sym, ap, _∙_}
-use mathlib.Core.Bool.{Bool, true, false}
-use mathlib.Core.List.{List, [], _∷_, _++_}
+use mathlib.Core.Bool.{Bool, false}
+use mathlib.Core.List.{List, []}
 use native.Mathlib.Omega.{arith}
 use borrow.Author.Tests.{eqb-true, eqb-false}
 use lib.Dec.{eqb}
-use lib.ListN.{length, getD}
-use Rattle.laws.specs.Choice.{pick, by-test}
+use lib.ListN.{length}
+use Rattle.laws.specs.Choice.{by-test}
 use Rattle.kinds.specs.Sizes as sizes
 use Rattle.kinds.specs.Stage as stage
 use Rattle.kinds.specs.Reason as reason
 use Rattle.kinds.specs.Kind as kind
 use Rattle.kinds.specs.declared.Course.{Course}
-use Rattle.kinds.specs.declared.Sub.{Sub}
 use Rattle.kinds.specs.declared.Turn.{Turn}
 use Rattle.kinds.specs.declared.Site.{Site}
-use Rattle.kinds.specs.State.{subAt, withCourse, withClock}
+use Rattle.kinds.specs.State.{subAt, withCourse}
 use Rattle.rules.specs.House.{coordinatorOf}
 use Rattle.rules.specs.Effect.{Change, settle}
 use Rattle.rules.specs.CourseLaws.{no-entries}
-use Rattle.rules.specs.Course.{newSub, takenFrom, sentTo, sendTo, raise, withCourseOf, withStage, withMark, preparedStep, certifiedStep}
+use Rattle.rules.specs.Course.{newSub, takenFrom, sendTo, raise, withCourseOf, withStage, withMark, preparedStep, certifiedStep}
 use Rattle.rules.specs.Deliver.{arrived}
 use Rattle.rules.specs.World.{upd}
-use Rattle.rules.proofs.Tables.{upd₂, upd-other}
-use Rattle.rules.proofs.Protocol.{Protocol, Msg, mJoin, mJoined, mPrepare, mConc, mCert, mVote, Next, AtStage, courseAt, Whole, Covers, Certified, inst, joins, full, prepared, lost, unknown, certified, rejects}
+use Rattle.rules.proofs.Tables.{upd-other}
+use Rattle.rules.proofs.Protocol.{Protocol, mJoin, mJoined, mPrepare, mConc, mCert, mVote, Next, AtStage, courseAt, Covers, Certified, inst, joins, full, prepared, lost, unknown, certified, rejects}
 use Rattle.rules.proofs.Refines.{IsFree, sliceOf, SiteIs}
 use Rattle.rules.proofs.RefineLive.{Spot}
 use Rattle.rules.proofs.RefineSite.{site-sub, new-sub, new-stage}
 use Rattle.rules.proofs.RefineStep.{row-same, row-other}
-use Rattle.rules.proofs.RefineTurn.{AtPlace, course-is, site-course}
+use Rattle.rules.proofs.RefineTurn.{AtPlace, course-is, site-course, mark-stage, tx-of}
 use Rattle.rules.proofs.RefineActs.{Acts}
 use Rattle.rules.proofs.RefineTake.{reply-site, reply-made, reply-acts}
 use Rattle.rules.proofs.RefineQuiet.{raised-clock}
@@ -37,10 +36,6 @@ use Rattle.rules.proofs.RefineQuiet.{raised-clock}
 stage-is : (c : Course) (mask g : ℕ) → withStage c mask g .stage ≡ g
 unfolding withStage
 stage-is c mask g = refl
-
-marked-stage : (c : Course) (n : ℕ) → withMark c n .stage ≡ stage.queued
-unfolding withMark
-marked-stage c n = refl
 
 -- a turn without a part of its own: the count stepped, and the transaction named
 abbrev pub namedTurn : Site → ℕ → ℕ → Turn
@@ -97,9 +92,6 @@ module _ {sites : ℕ} (p : Protocol) (s a t : ℕ) {x : Site} {base lists : Lis
       )
 
   module _ (place : ℕ) (A : AtPlace x p s t place) where
-    tx-is : subAt x place .tx ≡ t
-    tx-is = ap (λ (b : Sub). b .tx) (A .part) ∙ A .tx
-
     -- PREPARE: voted 19 where an install after the snapshot is forgotten, else answered by the list.
     abbrev raisedTurn : ℕ → Turn
     raisedTurn n = raise (arrived x place a) n
@@ -118,7 +110,7 @@ module _ {sites : ℕ} (p : Protocol) (s a t : ℕ) {x : Site} {base lists : Lis
               (λ j z. row-other (p .live) s t (withCourse (p .live s t) c) j z) refl refl m refl refl
               (reply-site p s a few low high y m (max (x .counters .clock) n) (raised-clock p s a few low high y n) refl
               (site-course y refl A c d (rw (course-is A)) (λ z e. apart e)))
-              (reply-made p s a few low high y u m refl refl tx-is (covers .whole)),
+              (reply-made p s a few low high y u m refl refl (tx-of A) (covers .whole)),
         )
 
     lost-one : (n mask r : ℕ) → (r ≡ 0 → ⊥) → Next p a s (mPrepare t n mask) → AtStage p s t stage.active
@@ -136,7 +128,7 @@ module _ {sites : ℕ} (p : Protocol) (s a t : ℕ) {x : Site} {base lists : Lis
               (λ j z. row-other (p .live) s t (withCourse (p .live s t) c) j z) refl refl m refl refl
               (reply-site p s a few low high y m (max (x .counters .clock) n) (raised-clock p s a few low high y n) refl
               (site-course y refl A c d (rw (course-is A)) (λ z e. omega (arith, stage-is (courseAt p s t) mask stage.rejected))))
-              (rw (ap (λ (c : Change). c .words) same) (reply-made p s a few low high y u m refl refl tx-is (no-entries .0))),
+              (rw (ap (λ (c : Change). c .words) same) (reply-made p s a few low high y u m refl refl (tx-of A) (no-entries .0))),
         )
 
     pub prepared-acts : (n mask : ℕ) (gone : Bool) (es : List ℕ) → Next p a s (mPrepare t n mask) → AtStage p s t stage.active → (coordinatorOf t ≡ s → ⊥)
@@ -162,8 +154,8 @@ module _ {sites : ℕ} (p : Protocol) (s a t : ℕ) {x : Site} {base lists : Lis
           _,
           reply-acts s a (certified a s t es next g v) (λ j z. refl) refl (λ j z. row-other (p .live) s t (withCourse (p .live s t) c) j z) refl refl m refl refl
               (reply-site p s a few low high y m (x .counters .clock) (sym (y .counters .clock-is)) refl
-              (site-course y refl A c d (rw (course-is A, y .counters .clock-is)) (λ z e. omega (arith, marked-stage (courseAt p s t) (p .clock s)))))
-              (rw (ap (λ (c : Change). c .words) same) (reply-made p s a few low high y u m refl refl tx-is (no-entries .0))),
+              (site-course y refl A c d (rw (course-is A, y .counters .clock-is)) (λ z e. omega (arith, mark-stage (courseAt p s t) (p .clock s)))))
+              (rw (ap (λ (c : Change). c .words) same) (reply-made p s a few low high y u m refl refl (tx-of A) (no-entries .0))),
         )
 
     no-one : (es : List ℕ) (r : ℕ) → (r ≡ 0 → ⊥) → Next p a s (mCert t es) → AtStage p s t stage.prepared
@@ -180,7 +172,7 @@ module _ {sites : ℕ} (p : Protocol) (s a t : ℕ) {x : Site} {base lists : Lis
           reply-acts s a (rejects a s t r es next g some) (λ j z. refl) refl (λ j z. row-other (p .live) s t (withCourse (p .live s t) c) j z) refl refl m refl refl
               (reply-site p s a few low high y m (x .counters .clock) (sym (y .counters .clock-is)) refl
               (site-course y refl A c d (rw (course-is A)) (λ z e. omega (arith, stage-is (courseAt p s t) (courseAt p s t .mask) stage.rejected))))
-              (rw (ap (λ (c : Change). c .words) same) (reply-made p s a few low high y u m refl refl tx-is (no-entries .0))),
+              (rw (ap (λ (c : Change). c .words) same) (reply-made p s a few low high y u m refl refl (tx-of A) (no-entries .0))),
         )
 
     pub certified-acts : (es : List ℕ) (v : ℕ) → Next p a s (mCert t es) → AtStage p s t stage.prepared → (v ≡ 0 → Certified p s t es)

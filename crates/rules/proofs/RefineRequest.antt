@@ -1,17 +1,13 @@
 -- The commit request, as a move: the coordinator makes its list, and sends PREPARE where it is not alone.
-use Prim.Native.Nat.{ℕ, zero, suc, _+_, _-_, _*_, _≤_, _<_}
+use Prim.Native.Nat.{ℕ, _-_, _*_, _≤_, _<_}
 use mathlib.Core.Path.{_≡_, refl, sym, ap, _∙_}
-use mathlib.Core.Bool.{Bool, true, false, not}
-use mathlib.Core.List.{List, [], _∷_, _++_}
+use mathlib.Core.Bool.{true, false}
+use mathlib.Core.List.{List, []}
 use native.Mathlib.Omega.{arith}
-use borrow.Author.Tests.{eqb-true, eqb-false, not-false}
-use lib.Dec.{eqb}
-use lib.ListN.{length, getD}
-use Rattle.laws.specs.Choice.{pick, by-test}
+use lib.ListN.{length}
 use Rattle.laws.specs.Overlay.{putAt}
 use Rattle.kinds.specs.Sizes as sizes
 use Rattle.kinds.specs.Stage as stage
-use Rattle.kinds.specs.Reason as reason
 use Rattle.kinds.specs.Kind as kind
 use Rattle.kinds.specs.declared.Snapshot.{Snapshot}
 use Rattle.kinds.specs.declared.Course.{Course}
@@ -22,36 +18,31 @@ use Rattle.kinds.specs.declared.Answer.the-variants.{Done}
 use Rattle.kinds.specs.State.{subAt, withCourse, withSub}
 use Rattle.rules.specs.House.{coordinatorOf}
 use Rattle.rules.specs.Message.{entryCount}
-use Rattle.rules.specs.Send.{countsLow}
-use Rattle.rules.specs.Live.{partAt, placeOf, allHeard}
+use Rattle.rules.specs.Live.{partAt, allHeard}
 use Rattle.rules.specs.History.{isForgotten}
 use Rattle.rules.specs.Join.{joined}
 use Rattle.rules.specs.Certify.{concurrent, voteOf}
 use Rattle.rules.specs.CertifyLaws.{concurrent-whole, concurrent-few}
 use Rattle.rules.specs.Valid.{siteOk}
 use Rattle.rules.specs.ValidLaws.{valid-site}
-use Rattle.rules.specs.Effect.{Effect, turnAt, settle, changed}
+use Rattle.rules.specs.Effect.{turnAt, settle}
 use Rattle.rules.specs.CourseLaws.{no-entries}
-use Rattle.rules.specs.Course.{withCourseOf, sendAll, abortStep, withRequest, prepareStep, castStep}
-use Rattle.rules.specs.Commit.{isMine, requestCode, commitCode, requestChange, isFull, isLost, commitChange, commitLists, commitOf, abandonCode, abandonOf}
-use Rattle.rules.specs.CommitLaws.{commit-full, commit-lost, commit-request, request-lone, request-prepare, lists-kept, lists-lost, lists-made}
-use Rattle.rules.specs.CallLaws.{request-clear, commit-clear, abandon-clear}
-use Rattle.rules.specs.World.{World, upd, step, siteStep}
-use Rattle.rules.specs.World as world
+use Rattle.rules.specs.Course.{withCourseOf, sendAll, withRequest, prepareStep, castStep}
+use Rattle.rules.specs.World.{upd}
 use Rattle.rules.proofs.Tables.{upd₂, upd₂-same, upd-same, upd-other}
-use Rattle.rules.proofs.Protocol.{Protocol, Msg, mPrepare, inst, Within, Moves, courseAt, AtStage, Covers, Certified, postedAll, withCourseAt, set-gathered, set-asked, set-mask, set-made, set-list, request, stop, more}
+use Rattle.rules.proofs.Protocol.{Protocol, Msg, mPrepare, inst, Within, Moves, courseAt, AtStage, Certified, postedAll, withCourseAt, set-gathered, set-asked, set-mask, set-made, set-list, request, stop, more}
 use Rattle.rules.proofs.Invariants.{In, Invariant}
 use Rattle.rules.proofs.Reached.{invariant-moves}
-use Rattle.rules.proofs.Refines.{IsFree, kindOf, clockIn, argumentIn, entriesIn, sliceOf, Slice, SiteIs, Refines}
+use Rattle.rules.proofs.Refines.{IsFree, kindOf, clockIn, argumentIn, entriesIn, sliceOf, SiteIs}
 use Rattle.rules.proofs.RefineLive.{live-set}
 use Rattle.rules.proofs.RefineSite.{site-channels}
-use Rattle.rules.proofs.RefineStep.{Elsewhere, Follows, by-code, row-same, row-other, inside, stays, unchanged}
+use Rattle.rules.proofs.RefineStep.{Elsewhere, row-same, row-other}
 use Rattle.rules.proofs.RefineMail.{none, grows-all}
-use Rattle.rules.proofs.RefineTurn.{AtPlace, at-place, course-is}
-use Rattle.rules.proofs.RefineActs.{Acts, acts-follow, acts-then, settled-turn, settled-again, others-elsewhere, members, send-all-site, send-all-made}
+use Rattle.rules.proofs.RefineTurn.{AtPlace, course-is, tx-of}
+use Rattle.rules.proofs.RefineActs.{Acts, acts-then, settled-turn, settled-again, others-elsewhere, members, send-all-site, send-all-made}
 use Rattle.rules.proofs.RefineCertify.{covers, certifies, concurrent-low, join-within, join-whole}
 use Rattle.rules.proofs.RefineLists.{list-first, lists-put}
-use Rattle.rules.proofs.RefineCourse.{lone, others-lone, abort-acts, cast-acts, settled-place}
+use Rattle.rules.proofs.RefineCourse.{lone, others-lone, cast-acts, settled-place}
 
 -- the protocol after the request
 abbrev pub requestAt : Protocol → ℕ → ℕ → List ℕ → Protocol
@@ -122,9 +113,6 @@ module _ {sites s t place : ℕ} {x : Site} {base lists : List ℕ} {p : Protoco
         base-size = y .base-size;
       }
 
-  tx-is : subAt x place .tx ≡ t
-  tx-is = ap (λ (b : Sub). b .tx) (a .part) ∙ a .tx
-
   mask-is : asked .mask ≡ courseAt p s t .mask
   mask-is = request-mask (subAt x place .course) count ∙ ap (λ (c : Course). c .mask) (course-is a)
 
@@ -172,7 +160,7 @@ module _ {sites s t place : ℕ} {x : Site} {base lists : List ℕ} {p : Protoco
         site = send-all-site (p .post) turn Done s (courseAt p s t .mask) message few (y .counters .own-is) mask-is (y .channels) refl request-site;
         made =
             send-all-made (p .post) turn Done s (courseAt p s t .mask) message few (y .counters .own-is) mask-is (y .channels) (no-entries .0)
-            (members s t i e (a .held)) tx-is;
+            (members s t i e (a .held)) (tx-of a);
       })
 
   -- alone
@@ -198,7 +186,7 @@ module _ {sites s t place : ℕ} {x : Site} {base lists : List ℕ} {p : Protoco
 
   turn-tx : turn .sub .tx ≡ t
   unfolding turnAt
-  turn-tx = tx-is
+  turn-tx = tx-of a
 
   turn-held : IsFree (turn .sub) → ⊥
   unfolding turnAt

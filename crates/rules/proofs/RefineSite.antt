@@ -1,14 +1,13 @@
 -- One site's state against its slice of the protocol, with one of its tables changed.
-use Prim.Native.Nat.{ℕ, _+_, _-_, _≤_, _<_}
+use Prim.Native.Nat.{ℕ, _+_, _-_, _≤_}
 use mathlib.Core.Path.{_≡_, refl, sym, ap, _∙_}
-use mathlib.Core.Bool.{Bool, true, false, not}
+use mathlib.Core.Bool.{Bool, true, false}
 use mathlib.Core.List.{List, [], _∷_, _++_}
 use native.Mathlib.Omega.{arith}
 use borrow.Author.Tests.{eq-eqb, le-leb}
-use lib.Dec.{eqb, leb}
-use lib.ListN.{length, getD, set, length-append, length-set}
+use lib.ListN.{length, getD, length-append, length-set}
 use lib.Seq.{getD-set-same, getD-set-other}
-use Rattle.laws.specs.Choice.{pick, every, by-test}
+use Rattle.laws.specs.Choice.{pick}
 use Rattle.kinds.specs.Sizes as sizes
 use Rattle.kinds.specs.Stage as stage
 use Rattle.kinds.specs.declared.Sub.{Sub}
@@ -20,9 +19,9 @@ use Rattle.rules.specs.Send.{isRecipient, stepCount, stepRecipients}
 use Rattle.rules.specs.SendLaws.{length-steps, steps-at}
 use Rattle.rules.specs.Course.{newSub, sentTo, takenFrom}
 use Rattle.rules.specs.World.{upd}
-use Rattle.rules.proofs.Tables.{upd₂, upd₂-cases, upd₂-same, upd-cases}
-use Rattle.rules.proofs.Protocol.{Msg, others, partsOf}
-use Rattle.rules.proofs.Refines.{IsFree, Sized, CountersAre, ChannelsAre, Slice, SiteIs}
+use Rattle.rules.proofs.Tables.{upd₂, upd₂-cases, upd₂-same}
+use Rattle.rules.proofs.Protocol.{Msg, others}
+use Rattle.rules.proofs.Refines.{IsFree, Sized, ChannelsAre, Slice, SiteIs}
 use Rattle.rules.proofs.RefineLive.{Spot, live-set, lists-set, by-same}
 
 pub no-keys-sized : Sized noKeys

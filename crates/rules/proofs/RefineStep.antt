@@ -1,22 +1,22 @@
 -- A call's world against the protocol after its moves: what a refusal leaves, and what a call leaves at its own site and elsewhere.
-use Prim.Native.Nat.{ℕ, zero, suc, _+_, _-_, _≤_, _<_}
+use Prim.Native.Nat.{ℕ, _+_, _-_, _≤_}
 use mathlib.Core.Path.{_≡_, refl, sym, ap, _∙_}
-use mathlib.Core.Bool.{Bool, true, false}
-use mathlib.Core.List.{List, [], _∷_, _++_, map, append-nil}
+use mathlib.Core.Bool.{true, false}
+use mathlib.Core.List.{List, [], _++_, map, append-nil}
 use native.Mathlib.Omega.{arith}
 use borrow.Author.Tests.{eqb-true, eqb-false, leb-true, leb-false}
 use lib.Dec.{eqb, leb}
-use lib.ListN.{length, getD, length-append, List·getD-append}
-use Rattle.laws.specs.Choice.{pick, by-test}
+use lib.ListN.{length-append, List·getD-append}
+use Rattle.laws.specs.Choice.{by-test}
 use Rattle.kinds.specs.declared.Site.{Site}
 use Rattle.rules.specs.House.{coordinatorOf}
 use Rattle.rules.specs.Valid.{siteOk}
 use Rattle.rules.specs.Effect.{Effect, refused, unless}
 use Rattle.rules.specs.World.{World, upd, siteStep, logStep, messagesIn, splitWords, recordIn}
-use Rattle.rules.proofs.Tables.{upd₂, upd-same, upd-other, upd-cases, upd₂-cases, All, a-nil, a-cons, all-map, all-append}
-use Rattle.rules.proofs.Protocol.{Protocol, Msg, mAbort, inst, Moves, stop}
+use Rattle.rules.proofs.Tables.{upd₂, upd-same, upd-other, upd-cases, upd₂-cases, All, all-map, all-append}
+use Rattle.rules.proofs.Protocol.{Protocol, Msg, mAbort, Moves, stop}
 use Rattle.rules.proofs.Frames.{set-not}
-use Rattle.rules.proofs.Refines.{Posted, encode, recWords, ChannelsAre, ListsAre, sliceOf, SiteIs, Refines}
+use Rattle.rules.proofs.Refines.{Posted, encode, recWords, sliceOf, SiteIs, Refines}
 
 -- the protocol makes some moves, or none, and the world is then that of its tables
 abbrev pub Follows : ℕ → Protocol → World → Type 0

@@ -1,21 +1,16 @@
 -- A message taken: what it leaves at the site, with a part changed and a reply sent, or without.
-use Prim.Native.Nat.{ℕ, zero, suc, _+_, _-_, _*_, _≤_, _<_, max}
-use mathlib.Core.Path.{_≡_, refl, sym, ap, _∙_}
-use mathlib.Core.Bool.{Bool, true, false}
+use Prim.Native.Nat.{ℕ, _+_, _-_, _≤_}
+use mathlib.Core.Path.{_≡_, ap, _∙_}
 use mathlib.Core.List.{List, [], _∷_, _++_}
-use native.Mathlib.Omega.{arith}
-use lib.ListN.{length, getD, set}
+use lib.ListN.{getD}
 use Rattle.kinds.specs.Sizes as sizes
-use Rattle.kinds.specs.Stage as stage
-use Rattle.kinds.specs.declared.Course.{Course}
 use Rattle.kinds.specs.declared.Sub.{Sub}
 use Rattle.kinds.specs.declared.Turn.{Turn}
 use Rattle.kinds.specs.declared.Site.{Site}
-use Rattle.kinds.specs.State.{noSub, subAt, withCourse, withClock}
+use Rattle.kinds.specs.State.{withClock}
 use Rattle.rules.specs.House.{coordinatorOf}
 use Rattle.rules.specs.Course.{takenFrom, sentTo, sendTo}
-use Rattle.rules.specs.World.{upd}
-use Rattle.rules.proofs.Tables.{upd₂, upd-other}
+use Rattle.rules.proofs.Tables.{upd₂}
 use Rattle.rules.proofs.Protocol.{Protocol, Msg, Rec, Whole, Move, stop, more}
 use Rattle.rules.proofs.Refines.{kindOf, txIn, clockIn, argumentIn, entriesIn, Posted, sliceOf, Slice, SiteIs}
 use Rattle.rules.proofs.RefineSite.{site-channels, site-clock, channels-one, channels-taken}

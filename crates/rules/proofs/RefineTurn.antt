@@ -1,5 +1,5 @@
 -- A part held at a place, and its site with another course there, or without it.
-use Prim.Native.Nat.{ℕ, _≤_, _<_}
+use Prim.Native.Nat.{ℕ, _<_}
 use mathlib.Core.Path.{_≡_, refl, sym, ap, _∙_}
 use mathlib.Core.List.{List}
 use native.Mathlib.Omega.{arith}
@@ -11,17 +11,26 @@ use Rattle.kinds.specs.declared.Site.{Site}
 use Rattle.kinds.specs.State.{noSub, subAt, withSub, withCourse}
 use Rattle.rules.specs.House.{coordinatorOf}
 use Rattle.rules.specs.Live.{placeOf}
-use Rattle.rules.specs.World.{upd}
+use Rattle.rules.specs.Course.{withMark, withDecision}
 use Rattle.rules.proofs.Tables.{upd₂}
 use Rattle.rules.proofs.Protocol.{Protocol, courseAt}
-use Rattle.rules.proofs.Refines.{IsFree, Sized, LiveIs, Slice, sliceOf, SiteIs}
+use Rattle.rules.proofs.Refines.{IsFree, Sized, LiveIs, Slice, SiteIs}
 use Rattle.rules.proofs.RefineLive.{Spot, place-held, place-spot}
 use Rattle.rules.proofs.RefineSite.{live-in, site-sub}
 use Rattle.rules.proofs.RefineStep.{row-same}
 
+-- stages of a part freed, marked and decided
 gone : noSub .course .stage ≡ stage.free
 unfolding noSub
 gone = refl
+
+pub mark-stage : (c : Course) (n : ℕ) → withMark c n .stage ≡ stage.queued
+unfolding withMark
+mark-stage c n = refl
+
+pub decision-stage : (c : Course) (n : ℕ) → withDecision c n .stage ≡ stage.decided
+unfolding withDecision
+decision-stage c n = refl
 
 pub record AtPlace (x : Site) (p : Protocol) (s t place : ℕ) : Type 0 where
   pub part : subAt x place ≡ p .live s t
@@ -48,7 +57,10 @@ part-place x p s i l h f =
       sized = l .sized (subAt x i .tx) g;
     }
 
--- a fact of the part's course, as the site has it
+-- the part's transaction and course, as the site has them
+pub tx-of : {x : Site} {p : Protocol} {s t place : ℕ} → AtPlace x p s t place → subAt x place .tx ≡ t
+tx-of a = ap (λ (b : Sub). b .tx) (a .part) ∙ a .tx
+
 pub course-is : {x : Site} {p : Protocol} {s t place : ℕ} → AtPlace x p s t place → subAt x place .course ≡ courseAt p s t
 course-is a = ap (λ (b : Sub). b .course) (a .part)
 
