@@ -1,12 +1,12 @@
 // Messages in lent words: their check, their header as a value, and the writers.
-mod check;
 mod entries;
 mod head;
+mod layout;
 mod send;
 mod write;
 
-pub use check::message_ok;
-pub use check::read_head;
+pub use layout::message_ok;
+pub use layout::read_head;
 pub use send::broadcast;
 pub use send::counts_low;
 pub use send::is_recipient;

@@ -1,5 +1,5 @@
 // A message written to the front of a lent slice.
-use crate::check::entry_offset;
+use crate::layout::entry_offset;
 use kinds::MessageHead;
 use kinds::sizes::ENTRY;
 use kinds::sizes::MESSAGE_HEADER;

@@ -1,5 +1,5 @@
 // A record written to the front of a lent slice.
-use crate::check::write_offset;
+use crate::layout::write_offset;
 use kinds::RecordHead;
 use kinds::sizes::RECORD_HEADER;
 use kinds::sizes::WRITE;

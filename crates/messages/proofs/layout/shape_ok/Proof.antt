@@ -5,12 +5,12 @@ use borrow.Author.Tests.{le-leb, lt-leb, eq-eqb, ne-eqb}
 use lib.ListN.{length, getD}
 use Rattle.laws.specs.Choice.{pick-self}
 use Rattle.kinds.specs.Word as word
-use Rattle.rules.specs.Record.{recordLength, recordShape}
-use Rattle.records.proofs.check.shape_ok.Statement.{statement}
-use Rattle.records.proofs.check.shape_ok.Tie as tie
+use Rattle.rules.specs.Message.{messageLength, messageShape}
+use Rattle.messages.proofs.layout.shape_ok.Statement.{statement}
+use Rattle.messages.proofs.layout.shape_ok.Tie as tie
 
 returns : tie.Need-returns
-unfolding recordShape
+unfolding messageShape
 returns c = search (lt-leb, needs)
 
 shared-slice-read-length : tie.Need-shared-slice-read-length
@@ -22,18 +22,18 @@ shared-slice-read-count c = search needs
 shared-slice-read-offset : tie.Need-shared-slice-read-offset
 shared-slice-read-offset c = search needs
 
-write-offset-requires : tie.Need-write-offset-requires
-write-offset-requires c κs = search needs
+entry-offset-requires : tie.Need-entry-offset-requires
+entry-offset-requires c κs = search needs
 
 returns-2 : tie.Need-returns-2
-unfolding recordShape
+unfolding messageShape
 returns-2 c = search (le-leb, ne-eqb, needs)
 
 returns-3 : tie.Need-returns-3
-unfolding recordShape
+unfolding messageShape
 returns-3 c =
     let m = c .before .before .before .before .before .before .before .before .args .m .now in
-    let d = ne-eqb (length m) (recordLength (getD m word.writeCount 0)) (λ q. omega arith) in
+    let d = ne-eqb (length m) (messageLength (getD m word.entryCount 0)) (λ q. omega arith) in
     search (d, le-leb, eq-eqb, needs)
 
 mul-if4 : tie.Need-mul-if4
@@ -43,12 +43,12 @@ add-if4 : tie.Need-add-if4
 add-if4 c = search needs
 
 returns-4 : tie.Need-returns-4
-unfolding recordShape
+unfolding messageShape
 returns-4 c = search (le-leb, eq-eqb, ne-eqb, needs)
 
 returns-5 : tie.Need-returns-5
-unfolding recordShape
-returns-5 c = search (← c .before .before .before .write-offset .ensures, pick-self, le-leb, eq-eqb, needs)
+unfolding messageShape
+returns-5 c = search (← c .before .before .before .entry-offset .ensures, pick-self, le-leb, eq-eqb, needs)
 
 pub shape-ok-spec : {M : Type 1} → statement M
 shape-ok-spec =
@@ -58,7 +58,7 @@ shape-ok-spec =
     shared-slice-read-length
     shared-slice-read-count
     shared-slice-read-offset
-    write-offset-requires
+    entry-offset-requires
     returns-2
     returns-3
     mul-if4

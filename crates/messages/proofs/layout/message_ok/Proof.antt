@@ -11,8 +11,8 @@ use Rattle.kinds.specs.Word as word
 use Rattle.kinds.specs.declared.MessageHead.{MessageHead}
 use Rattle.rules.specs.Message.{messageHead, messageEntries, messageOk}
 use Rattle.rules.specs.MessageLaws.{ShapeClear, shape-clear, HeadClear, head-clear, most-at-most}
-use Rattle.messages.proofs.check.message_ok.Statement.{statement}
-use Rattle.messages.proofs.check.message_ok.Tie as tie
+use Rattle.messages.proofs.layout.message_ok.Statement.{statement}
+use Rattle.messages.proofs.layout.message_ok.Tie as tie
 
 shaped : (c : tie.Else1) → ShapeClear (c .before .before .before .args .m .now)
 shaped c = shape-clear _ (sym (c .before .shape-ok .ensures) ∙ not-false _ (c .if1 .left))

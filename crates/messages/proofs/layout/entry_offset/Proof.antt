@@ -2,8 +2,8 @@
 use borrow.Author.Needs.{needs}
 use borrow.Author.Tests.{eq-eqb, ne-eqb}
 use Rattle.rules.specs.Message.{entryOffset}
-use Rattle.messages.proofs.check.entry_offset.Statement.{statement}
-use Rattle.messages.proofs.check.entry_offset.Tie as tie
+use Rattle.messages.proofs.layout.entry_offset.Statement.{statement}
+use Rattle.messages.proofs.layout.entry_offset.Tie as tie
 
 returns : tie.Need-returns
 unfolding entryOffset

@@ -9,16 +9,16 @@ use Rattle.laws.specs.Overlay.{length-rest, rest-is}
 use Rattle.kinds.specs.Sizes as sizes
 use Rattle.kinds.specs.Word as word
 use Rattle.kinds.specs.declared.RecordHead.{RecordHead}
-use Rattle.rules.specs.Record.{recordHead, recordWrites, mergedOk}
-use Rattle.rules.specs.RecordLaws.{ShapeClear, shape-clear, MergedClear, merged-clear}
-use Rattle.records.proofs.check.merged_ok.Statement.{statement}
-use Rattle.records.proofs.check.merged_ok.Tie as tie
+use Rattle.rules.specs.Record.{recordHead, recordWrites, partOk}
+use Rattle.rules.specs.RecordLaws.{ShapeClear, shape-clear, PartClear, part-clear}
+use Rattle.records.proofs.layout.part_ok.Statement.{statement}
+use Rattle.records.proofs.layout.part_ok.Tie as tie
 
 shaped : (c : tie.Else1) → ShapeClear (c .before .before .before .args .m .now)
 shaped c = shape-clear _ (sym (c .before .shape-ok .ensures) ∙ not-false _ (c .if1 .left))
 
-headed : (c : tie.Else2) → MergedClear (c .before .before .read-record .result)
-headed c = merged-clear _ (sym (c .before .merged-head-ok .ensures) ∙ not-false _ (c .if2 .left))
+headed : (c : tie.Else2) → PartClear (c .before .before .before .before .before .before .args .o) (c .before .before .read-record .result)
+headed c = part-clear _ _ (sym (c .before .part-head-ok .ensures) ∙ not-false _ (c .if2 .left))
 
 counted : (c : tie.Else2) → c .before .before .read-record .result .count ≡ getD (c .before .before .before .before .before .before .args .m .now) word.writeCount 0
 unfolding recordHead
@@ -28,38 +28,38 @@ shape-ok-requires : tie.Need-shape-ok-requires
 shape-ok-requires c κs = search needs
 
 returns : tie.Need-returns
-unfolding mergedOk
+unfolding partOk
 returns c = simp (← c .before .shape-ok .ensures, not-true (c .before .shape-ok .result) (c .if1 .taken))
 
 read-record-requires : tie.Need-read-record-requires
 read-record-requires c κs = let s = shaped c in omega arith
 
-merged-head-ok-requires : tie.Need-merged-head-ok-requires
-merged-head-ok-requires c κs = search needs
+part-head-ok-requires : tie.Need-part-head-ok-requires
+part-head-ok-requires c κs = search needs
 
 returns-2 : tie.Need-returns-2
-unfolding mergedOk
+unfolding partOk
 returns-2 c =
     let p = c .before .before .before in
     simp (
       ← p .before .shape-ok .ensures,
       not-false (p .before .shape-ok .result) (p .if1 .left),
       ← c .before .before .read-record .ensures,
-      ← c .before .merged-head-ok .ensures,
-      not-true (c .before .merged-head-ok .result) (c .if2 .taken),
+      ← c .before .part-head-ok .ensures,
+      not-true (c .before .part-head-ok .result) (c .if2 .taken),
     )
 
-sub-merged-writes-ok : tie.Need-sub-merged-writes-ok
-sub-merged-writes-ok c = let s = shaped (c .before .before .before) in omega arith
+sub-part-writes-ok : tie.Need-sub-part-writes-ok
+sub-part-writes-ok c = let s = shaped (c .before .before .before) in omega arith
 
-part-merged-writes-ok-start : tie.Need-part-merged-writes-ok-start
-part-merged-writes-ok-start c = let s = shaped (c .before .before .before) in omega arith
+part-part-writes-ok-start : tie.Need-part-part-writes-ok-start
+part-part-writes-ok-start c = let s = shaped (c .before .before .before) in omega arith
 
-part-merged-writes-ok-end : tie.Need-part-merged-writes-ok-end
-part-merged-writes-ok-end c = search needs
+part-part-writes-ok-end : tie.Need-part-part-writes-ok-end
+part-part-writes-ok-end c = search needs
 
-merged-writes-ok-requires : tie.Need-merged-writes-ok-requires
-merged-writes-ok-requires c κs =
+part-writes-ok-requires : tie.Need-part-writes-ok-requires
+part-writes-ok-requires c κs =
     let s = shaped (c .before .before .before .before) in
     let h = headed (c .before) in
     let n = counted (c .before) in
@@ -67,7 +67,7 @@ merged-writes-ok-requires c κs =
     omega (arith, length-rest m sizes.recordHeader)
 
 returns-3 : tie.Need-returns-3
-unfolding mergedOk recordWrites
+unfolding partOk recordWrites
 returns-3 c =
     let p = c .before .before .before .before .before in
     let h = c .before .before in
@@ -75,23 +75,23 @@ returns-3 c =
       ← p .before .shape-ok .ensures,
       not-false (p .before .shape-ok .result) (p .if1 .left),
       ← h .before .before .read-record .ensures,
-      ← h .before .merged-head-ok .ensures,
-      not-false (h .before .merged-head-ok .result) (h .if2 .left),
+      ← h .before .part-head-ok .ensures,
+      not-false (h .before .part-head-ok .result) (h .if2 .left),
       pick-self,
     )
-    (c .merged-writes-ok .ensures ∙ rw rest-is)
+    (c .part-writes-ok .ensures ∙ rw rest-is)
 
-pub merged-ok-spec : {M : Type 1} → statement M
-merged-ok-spec =
+pub part-ok-spec : {M : Type 1} → statement M
+part-ok-spec =
     tie.close
     (tie.spec
     shape-ok-requires
     returns
     read-record-requires
-    merged-head-ok-requires
+    part-head-ok-requires
     returns-2
-    sub-merged-writes-ok
-    part-merged-writes-ok-start
-    part-merged-writes-ok-end
-    merged-writes-ok-requires
+    sub-part-writes-ok
+    part-part-writes-ok-start
+    part-part-writes-ok-end
+    part-writes-ok-requires
     returns-3)

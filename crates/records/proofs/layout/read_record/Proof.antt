@@ -2,8 +2,8 @@
 use mathlib.Core.Path.{refl}
 use borrow.Author.Needs.{needs}
 use Rattle.rules.specs.Record.{recordHead}
-use Rattle.records.proofs.check.read_record.Statement.{statement}
-use Rattle.records.proofs.check.read_record.Tie as tie
+use Rattle.records.proofs.layout.read_record.Statement.{statement}
+use Rattle.records.proofs.layout.read_record.Tie as tie
 
 shared-slice-read-t3 : tie.Need-shared-slice-read-t3
 shared-slice-read-t3 c = search needs

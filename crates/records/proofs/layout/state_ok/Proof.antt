@@ -6,8 +6,8 @@ use borrow.Author.Tests.{not-true, not-false}
 use Rattle.laws.specs.Choice.{pick-self}
 use Rattle.rules.specs.Record.{stateOk}
 use Rattle.rules.specs.RecordLaws.{shape-clear}
-use Rattle.records.proofs.check.state_ok.Statement.{statement}
-use Rattle.records.proofs.check.state_ok.Tie as tie
+use Rattle.records.proofs.layout.state_ok.Statement.{statement}
+use Rattle.records.proofs.layout.state_ok.Tie as tie
 
 shape-ok-requires : tie.Need-shape-ok-requires
 shape-ok-requires c κs = search needs

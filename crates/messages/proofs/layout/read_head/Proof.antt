@@ -2,8 +2,8 @@
 use mathlib.Core.Path.{refl}
 use borrow.Author.Needs.{needs}
 use Rattle.rules.specs.Message.{messageHead}
-use Rattle.messages.proofs.check.read_head.Statement.{statement}
-use Rattle.messages.proofs.check.read_head.Tie as tie
+use Rattle.messages.proofs.layout.read_head.Statement.{statement}
+use Rattle.messages.proofs.layout.read_head.Tie as tie
 
 shared-slice-read-t3 : tie.Need-shared-slice-read-t3
 shared-slice-read-t3 c = search needs

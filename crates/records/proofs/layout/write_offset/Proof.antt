@@ -2,8 +2,8 @@
 use borrow.Author.Needs.{needs}
 use borrow.Author.Tests.{eq-eqb, ne-eqb}
 use Rattle.rules.specs.Record.{writeOffset}
-use Rattle.records.proofs.check.write_offset.Statement.{statement}
-use Rattle.records.proofs.check.write_offset.Tie as tie
+use Rattle.records.proofs.layout.write_offset.Statement.{statement}
+use Rattle.records.proofs.layout.write_offset.Tie as tie
 
 returns : tie.Need-returns
 unfolding writeOffset
