@@ -119,7 +119,7 @@ module _ (sites : ℕ) (p : Protocol) (i : Invariant sites p) where
   pub later : (q : Protocol) → Move sites p q → Later p q
   later q (begin s t l m n e) = begun (λ j. omega arith) s t (inl (rw e (tx-coordinator s (p .serial s + 1) (omega arith))))
   later q (enlist s t r c a l m n o) = quiet (λ j. omega arith)
-  later q (access s t b a w f) = quiet (λ j. omega arith)
+  later q (access s t b fs a told w f) = quiet (λ j. omega arith)
   later q (request s t es c a l r v) =
       let x : AtStage p (coordinatorOf t) t stage.active = rw c a in
       record {

@@ -30,6 +30,7 @@ pub mod RefineStep
 pub mod RefineFresh
 pub mod RefineBegin
 pub mod RefineSite
+pub mod KeysTold
 pub mod RefineAccess
 pub mod RefineMail
 pub mod RefineTurn
@@ -37,6 +38,8 @@ pub mod RefineEnlist
 pub mod RefineLog
 pub mod RefineOther
 pub mod Stream
+pub mod Told
+pub mod Booked
 pub mod StreamInv
 pub mod StreamTake
 pub mod StreamEmit
@@ -67,3 +70,11 @@ pub mod RefineHanded
 pub mod RefineCalls
 pub mod BookCopies
 pub mod BookReplays
+pub mod BookLists
+pub mod BookKept
+pub mod BookBegins
+pub mod BookAccess
+pub mod BookInstalls
+pub mod BookMove
+pub mod Demand
+pub mod Theorem

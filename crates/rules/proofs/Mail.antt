@@ -83,7 +83,7 @@ module _ (sites : ℕ) (p : Protocol) (i : Invariant sites p) where
         (i .parts .site s t has, (l, m)),
         (h, o),
       )
-  mail q (access s t b a w f) = none q
+  mail q (access s t b fs a told w f) = none q
   mail q (request s t es c a l r v) =
       every-other q s t _ c (λ f. omega arith)
       (λ j e n. ((c, upd-same (p .asked) t true, rw (upd-same (p .mask) t (courseAt p s t .mask)), rw (upd-same (p .mask) t (courseAt p s t .mask)) e, n), tt))
@@ -137,7 +137,7 @@ module _ (sites : ℕ) (p : Protocol) (i : Invariant sites p) where
   pub takes : (q : Protocol) → Move sites p q → Took (q .taken)
   takes q (begin s t l m n e) = idle
   takes q (enlist s t r c a l m n o) = idle
-  takes q (access s t b a w f) = idle
+  takes q (access s t b fs a told w f) = idle
   takes q (request s t es c a l r v) = idle
   takes q (abort s t c a d) = idle
   takes q (cast s t es c a l w v) = idle

@@ -69,7 +69,7 @@ module _ (sites : ℕ) (p : Protocol) (i : Invariant sites p) where
           → (Held p s t × In (courseAt p s t .mask) k) ⊎ (k ≤ sites)
       more k z (inl e) = inl ((λ f. omega arith), (z .0, e))
       more k z (inr e) = inr (omega arith)
-  masked q (access s t b a w f) = one s t _ (λ o. same s t _ _ (λ x. x) refl)
+  masked q (access s t b fs a told w f) = one s t _ (λ o. same s t _ _ (λ x. x) refl)
   masked q (request s t es c a l r v) = course s t _ (λ f. omega arith) refl
   masked q (abort s t c a d) = one s t _ (λ o. gone s t _)
   masked q (cast s t es c a l w v) = course s t _ (λ f. omega arith) refl

@@ -76,7 +76,7 @@ module _ {sites : ℕ} {p : Protocol} (i : Invariant sites p) where
   unfolding withDecision noSub
   news q (begin s t l m n e) = quiet q same
   news q (enlist s t r c a l m n o) = quiet q same
-  news q (access s t b a w f) = quiet q same
+  news q (access s t b fs a told w f) = quiet q same
   news q (request s t es c a l r v) =
       let m = courseAt p s t .mask in
       record {

@@ -16,14 +16,17 @@ use Rattle.kinds.specs.declared.Course.{Course}
 use Rattle.kinds.specs.declared.Sub.{Sub}
 use Rattle.kinds.specs.declared.Entry.{Entry}
 use Rattle.kinds.specs.State.{noSub, noKeys, pastEntry, withCourse, withKeys}
-use Rattle.rules.specs.House.{coordinatorOf, txOf, inMask, maskOf}
+use Rattle.kinds.specs.State.{Value}
+use Rattle.rules.specs.House.{coordinatorOf, siteOf, txOf, inMask, maskOf}
 use Rattle.rules.specs.Message.{entryTx, entryMask, entryMark, entryCount}
-use Rattle.rules.specs.Keys.{wroteKey, readKey, dependent}
+use Rattle.rules.specs.Keys.{wroteKey, wroteValue, readKey, dependent}
 use Rattle.rules.specs.Live.{isPrepared, isQueued, allHeard}
 use Rattle.rules.specs.Queue.{queuedBefore}
 use Rattle.rules.specs.Install.{entryOf}
 use Rattle.rules.specs.Course.{newSub, withParticipant, withReply, withDecision, withMark, withRequest, withStage, isOutstanding}
 use Rattle.rules.specs.World.{upd}
+use Rattle.rules.specs.Book as book
+use Rattle.rules.specs.Book.{Fact}
 use Rattle.rules.proofs.Tables.{upd₂}
 
 -- A message from one site to another, without its channel number.
@@ -223,6 +226,17 @@ beganAt p s t mask =
     (set-keys (upd₂ (p .keys) s t noKeys) p)))
     s t (newSub t mask (length (inst p s)))
 
+-- What a read or a write tells the book. A read uses its key and leaves the writes; a write sets its value and leaves the others.
+pub data Accessed (sites s t : ℕ) (old new : Keys) : List Fact → Type 0 where
+  reads : (k : ℕ) → siteOf (record { sites = sites }) k ≡ s → (readKey new k ≡ true) ⊎ (wroteKey new k ≡ true)
+      → ((j : ℕ) → readKey old j ≡ true → readKey new j ≡ true)
+      → ((j : ℕ) → (wroteKey new j ≡ wroteKey old j) × (wroteKey old j ≡ true → wroteValue new j ≡ wroteValue old j))
+      → Accessed sites s t old new (book.used t k ∷ [])
+  writes : (k : ℕ) (v : Value) → siteOf (record { sites = sites }) k ≡ s → wroteKey new k ≡ true → wroteValue new k ≡ v
+      → ((j : ℕ) → readKey old j ≡ true → readKey new j ≡ true)
+      → ((j : ℕ) → (j ≡ k → ⊥) → (wroteKey new j ≡ wroteKey old j) × (wroteKey old j ≡ true → wroteValue new j ≡ wroteValue old j))
+      → Accessed sites s t old new (book.used t k ∷ book.wrote t k v ∷ [])
+
 -- The moves. A call is some of them, one after the other.
 pub data Move (sites : ℕ) (p : Protocol) : Protocol → Type 0 where
   -- begin, at site s
@@ -232,7 +246,7 @@ pub data Move (sites : ℕ) (p : Protocol) : Protocol → Type 0 where
   enlist : (s t r : ℕ) → coordinatorOf t ≡ s → AtStage p s t stage.active → 1 ≤ r → r ≤ sites → (r ≡ s → ⊥) → inMask (courseAt p s t .mask) r ≡ false
       → Move sites p (posted (withCourseAt p s t (withParticipant (courseAt p s t) r)) s r (mJoin t))
   -- a read or a write of an active part: what it wrote more was written by no other live part, nor installed after the snapshot
-  access : (s t : ℕ) (b : Keys) → AtStage p s t stage.active
+  access : (s t : ℕ) (b : Keys) (fs : List Fact) → AtStage p s t stage.active → Accessed sites s t (p .live s t .keys) b fs
       → ((k : ℕ) → wroteKey (p .live s t .keys) k ≡ true → wroteKey b k ≡ true)
       → ((k : ℕ) → wroteKey b k ≡ true → wroteKey (p .live s t .keys) k ≡ false
       → ((u : ℕ) → (u ≡ t → ⊥) → (AtStage p s u stage.free → ⊥) → wroteKey (p .live s u .keys) k ≡ false)

@@ -7,8 +7,8 @@ use mathlib.Core.List.{List, [], _∷_}
 use native.Mathlib.Omega.{arith}
 use borrow.Author.Tests.{ltb-false, le-leb, ne-eqb}
 use lib.Dec.{leb, eqb}
-use lib.ListN.{length, getD, set, length-set}
-use lib.Seq.{getD-set-same, getD-set-other}
+use lib.ListN.{length, getD}
+use lib.Seq.{set-getD}
 use Rattle.laws.specs.Choice.{pick, pick-self, every, by-test}
 use Rattle.laws.specs.Scan.{any-below-none}
 use Rattle.kinds.specs.Sizes as sizes
@@ -18,74 +18,33 @@ use Rattle.kinds.specs.declared.Sub.{Sub}
 use Rattle.kinds.specs.declared.Entry.{Entry}
 use Rattle.kinds.specs.declared.Site.{Site}
 use Rattle.kinds.specs.declared.Snapshot.{Snapshot}
-use Rattle.kinds.specs.State.{Value, subAt, pastEntry, withKeys, withSub}
-use Rattle.rules.specs.Keys.{wroteKey, readKey, keyPlace, withRead, withWrite}
-use Rattle.rules.specs.KeysLaws.{by-order, wrote-among, among-wrote}
+use Rattle.kinds.specs.declared.Answer.{Answer}
+use Rattle.kinds.specs.declared.Answer.the-variants.{Found}
+use Rattle.kinds.specs.State.{Value, subAt, pastSub, pastEntry, withKeys, withSub}
+use Rattle.rules.specs.House.{siteOf}
+use Rattle.rules.specs.Keys.{wroteKey, wroteValue, readKey, withRead, withWrite}
 use Rattle.rules.specs.Live.{partAt, stageAt, placeOf, otherHolds, keyHeld}
 use Rattle.rules.specs.History.{recall, remembered, forgotten, isForgotten, within, isNewer}
 use Rattle.rules.specs.Valid.{siteOk}
-use Rattle.rules.specs.Effect.{Effect, turnAt, settle}
+use Rattle.rules.specs.ValidLaws.{live-wrote}
+use Rattle.rules.specs.Effect.{Effect, refused, turnAt, settle}
 use Rattle.rules.specs.Course.{quietly}
 use Rattle.rules.specs.Access.{accessCode, readCode, readVersion, readAt, readOf, writeCodeAt, written, writeAt, writeOf}
-use Rattle.rules.specs.CallLaws.{access-clear, write-clear}
+use Rattle.rules.specs.CallLaws.{access-clear, read-clear, write-clear}
 use Rattle.rules.specs.World.{World, step, siteStep, messagesIn, splitWords}
 use Rattle.rules.specs.World as world
+use Rattle.rules.specs.Book as book
+use Rattle.rules.specs.Book.{Fact}
 use Rattle.rules.proofs.Tables.{a-nil}
-use Rattle.rules.proofs.Protocol.{Protocol, inst, access, stop, more}
+use Rattle.rules.proofs.Protocol.{Protocol, inst, Accessed, access, stop, more}
+use Rattle.rules.proofs.Protocol as protocol
 use Rattle.rules.proofs.Invariants.{at}
 use Rattle.rules.proofs.Frames.{set-not}
+use Rattle.rules.proofs.KeysTold.{read-wrote, read-value, read-sized, read-kept, read-new, write-reads, write-sized, Sets, again-wrote, again-sets, first-kept, first-new, first-sets}
 use Rattle.rules.proofs.Refines.{IsFree, Sized, LiveIs, HistoryIs, Refines}
 use Rattle.rules.proofs.RefineLive.{place-held, place-spot}
 use Rattle.rules.proofs.RefineSite.{site-sub}
-use Rattle.rules.proofs.RefineStep.{Follows, by-code, row-same, row-other, grows-none, inside, stays, site-step}
-
--- What is written more by a read, and by a write.
-read-wrote : (b : Keys) (k j : ℕ) → wroteKey (withRead b k) j ≡ wroteKey b j
-unfolding withRead wroteKey
-read-wrote b k j = by-test (readKey b k) (λ e. rw e) (λ e. rw e)
-
-read-sized : (b : Keys) (k : ℕ) → Sized b → Sized (withRead b k)
-unfolding withRead
-read-sized b k z =
-    by-test (readKey b k) (λ e. rw e z)
-    (λ e. rw e (record { reads-size = length-set (b .reads) (b .read) k ∙ z .reads-size; writes-size = z .writes-size; values-size = z .values-size }))
-
-write-sized : (b : Keys) (k : ℕ) (v : Value) → Sized b → Sized (withWrite b k v)
-unfolding withWrite
-write-sized b k v z =
-    by-test (wroteKey b k)
-    (λ e. rw e (record { reads-size = z .reads-size; writes-size = z .writes-size; values-size = length-set (b .values) _ v ∙ z .values-size }))
-    (λ e. rw e
-    (record {
-      reads-size = z .reads-size;
-      writes-size = length-set (b .writes) (b .wrote) k ∙ z .writes-size;
-      values-size = length-set (b .values) (b .wrote) v ∙ z .values-size;
-    }))
-
-same-writes : (b : Keys) (values : List Value) (j : ℕ)
-    → wroteKey (record { read = b .read; wrote = b .wrote; reads = b .reads; writes = b .writes; values = values }) j ≡ wroteKey b j
-unfolding wroteKey
-same-writes b values j = refl
-
-again-wrote : (b : Keys) (k : ℕ) (v : Value) → wroteKey b k ≡ true → (j : ℕ) → wroteKey (withWrite b k v) j ≡ wroteKey b j
-unfolding withWrite
-again-wrote b k v e j = rw e (same-writes b (set (b .values) (keyPlace (b .writes) (b .wrote) k) v) j)
-
-module _ (b : Keys) (k : ℕ) (v : Value) (z : Sized b) (room : b .wrote < sizes.writes) (e : wroteKey b k ≡ false) where
-  first-kept : (j : ℕ) → wroteKey b j ≡ true → wroteKey (withWrite b k v) j ≡ true
-  unfolding withWrite
-  first-kept j t =
-      let (i, l, q) = wrote-among b j t in
-      rw e (among-wrote _ j (i, omega arith, getD-set-other (b .writes) (b .wrote) i k 0 (λ y. omega arith) ∙ q))
-
-  first-new : (j : ℕ) → wroteKey (withWrite b k v) j ≡ true → (wroteKey b j ≡ true) ⊎ (j ≡ k)
-  unfolding withWrite
-  first-new j t =
-      let (i, l, q) = wrote-among _ j (rw e at t) in
-      by-order i (b .wrote)
-      (λ y. inl (among-wrote b j (i, y, sym (getD-set-other (b .writes) (b .wrote) i k 0 (λ z. omega arith)) ∙ q)))
-      (λ y. let o : i ≡ b .wrote = omega arith in
-      inr (sym q ∙ ap (λ (n : ℕ). getD (set (b .writes) (b .wrote) k) n 0) o ∙ getD-set-same (b .writes) (b .wrote) k 0 (omega (arith, z .writes-size))))
+use Rattle.rules.proofs.RefineStep.{Follows, toldBy, by-code, row-same, row-other, grows-none, inside, stays, site-step}
 
 -- Nobody else holds a key: no part at another place,
 key-free : (live : List Sub) (row : ℕ → Sub) (t k : ℕ) → LiveIs live row → placeOf live t < sizes.live → keyHeld live (placeOf live t) k ≡ false
@@ -114,22 +73,24 @@ key-latest history es p k x f e i l h =
 
 -- The part with other keys.
 module _ {sites : ℕ} {w : World} {p : Protocol} (r : Refines sites w p) (s t : ℕ) (l : 1 ≤ s) (h : s ≤ sites) where
-  accesses : placeOf (w .site s .live) t < sizes.live → p .live s t .course .stage ≡ stage.active → (b : Keys) → Sized b
+  accesses : placeOf (w .site s .live) t < sizes.live → p .live s t .course .stage ≡ stage.active → (b : Keys) (fs : List Fact) → Sized b
+      → Accessed sites s t (p .live s t .keys) b fs
       → ((k : ℕ) → wroteKey (p .live s t .keys) k ≡ true → wroteKey b k ≡ true)
       → ((k : ℕ) → wroteKey b k ≡ true → wroteKey (p .live s t .keys) k ≡ false
       → ((u : ℕ) → (u ≡ t → ⊥) → (IsFree (p .live s u) → ⊥) → wroteKey (p .live s u .keys) k ≡ false)
       × ((i : ℕ) → p .live s t .snapshot .installs ≤ i → i < length (inst p s) → wroteKey (at p s i .keys) k ≡ false))
       → (e : Effect) → e .site ≡ withSub (w .site s) (placeOf (w .site s .live) t) (withKeys (p .live s t) b) → e .words ≡ []
-      → Follows sites p (siteStep w s e (w .base s) (w .lists s) .world)
+      → Follows sites p (siteStep w s e (w .base s) (w .lists s) .world) fs
   unfolding messagesIn splitWords
-  accesses held active b z kept new e es ws =
+  accesses held active b fs z told kept new e es ws =
       let x = w .site s in
       let place = placeOf (x .live) t in
       let y = r .site s l h in
       let (q, f, o) = place-held (y .live) t held in
       let c = withKeys (p .live s t) b in (
         _,
-        more stop (access s t b active kept new),
+        more stop (access s t b fs active told kept new),
+        refl,
         site-step r s l h
             (record {
               clock = λ j n. refl;
@@ -160,6 +121,8 @@ module _ {sites : ℕ} {w : World} {p : Protocol} (r : Refines sites w p) (s t k
     pub part : subAt here spot ≡ p .live s t
     pub active : p .live s t .course .stage ≡ stage.active
     pub sized : Sized (p .live s t .keys)
+    pub few : p .live s t .keys .wrote ≤ sizes.writes
+    pub home : siteOf (record { sites = sites }) k ≡ s
     pub installs : here .counters .installs ≡ length (inst p s)
     pub history : HistoryIs (here .history) (inst p s)
     pub live : LiveIs (here .live) (p .live s)
@@ -177,55 +140,77 @@ module _ {sites : ℕ} {w : World} {p : Protocol} (r : Refines sites w p) (s t k
         part = q;
         active = sym (ap (λ (b : Sub). b .course .stage) q) ∙ c .active;
         sized = y .live .sized t f;
+        few = rw q at (live-wrote here (c .valid) spot (c .held));
+        home = ap (λ (n : ℕ). siteOf (record { sites = n }) k) (sym (y .house)) ∙ c .here ∙ y .counters .own-is;
         installs = y .counters .installs-are;
         history = y .history;
         live = y .live;
       }
 
+  abbrev Goal : (Answer → List Fact) → Effect → Type 0
+  Goal f e = Follows sites p (siteStep w s e (w .base s) (w .lists s) .world) (f (e .answer))
+
   -- Read: of an own write nothing changes; else the key enters the set.
-  reads : Reaches → Follows sites p (siteStep w s (readVersion here (w .base s) spot k) (w .base s) (w .lists s) .world)
+  abbrev owned : Effect
+  owned = record { answer = Found (wroteValue (subAt here spot .keys) k); words = []; site = here; lent = [] }
+
+  reads-own : Reaches → wroteKey (subAt here spot .keys) k ≡ true → Goal (book.uses t k) owned
+  reads-own a f =
+      let b = p .live s t .keys in
+      let f′ : wroteKey b k ≡ true = sym (ap (λ (b : Sub). wroteKey (b .keys) k) (a .part)) ∙ f in
+      let same : withSub here spot (subAt here spot) ≡ here = rw (set-getD (here .live) spot pastSub) in
+      accesses r s t (a .low) (a .high) (a .held) (a .active) b (book.used t k ∷ []) (a .sized)
+      (protocol.reads k (a .home) (inr f′) (λ j e. e) (λ j. (refl, λ e. refl)))
+      (λ j e. e) (λ j e g. absurd (set-not _ e g))
+      owned (sym (ap (withSub here spot) (sym (a .part)) ∙ same)) refl
+
+  reads : Reaches → readCode (isForgotten (here .counters .installs) (subAt here spot .snapshot)) (readKey (subAt here spot .keys) k) (subAt here spot .keys .read) ≡ 0
+      → Goal (book.uses t k) (readVersion here (w .base s) spot k)
   unfolding readVersion settle turnAt
-  reads a =
-      let b = withRead (p .live s t .keys) k in
-      let same = read-wrote (p .live s t .keys) k in
-      accesses r s t (a .low) (a .high) (a .held) (a .active) b (read-sized (p .live s t .keys) k (a .sized)) (λ j e. same j ∙ e)
-      (λ j e f. absurd (set-not _ e (same j ∙ f)))
+  reads a c =
+      let own = p .live s t .keys in
+      let b = withRead own k in
+      let same = read-wrote own k in
+      let d = subAt here spot in
+      let room : readKey own k ≡ false → own .read < sizes.reads = rw (a .part) at (read-clear (isForgotten (here .counters .installs) (d .snapshot)) (readKey (d .keys) k) (d .keys .read) c .room) in
+      accesses r s t (a .low) (a .high) (a .held) (a .active) b (book.used t k ∷ []) (read-sized own k (a .sized))
+      (protocol.reads k (a .home) (inl (read-new own k (a .sized) room)) (read-kept own k) (λ j. (same j, λ e. read-value own k j)))
+      (λ j e. same j ∙ e) (λ j e f. absurd (set-not _ e (same j ∙ f)))
       (readVersion here (w .base s) spot k) (rw (a .part)) refl
 
-  abbrev Goal : Effect → Type 0
-  Goal e = Follows sites p (siteStep w s e (w .base s) (w .lists s) .world)
-
-  pub read-moves : Follows sites p (step w (world.read s t k) .world)
-  unfolding step readOf readAt
+  pub read-moves : let x = step w (world.read s t k) in Follows sites p (x .world) (toldBy (world.read s t k) (x .answer) (x .words))
+  unfolding step siteStep readOf readAt
   read-moves =
       let b = subAt here spot in
-      by-code Goal (accessCode (siteOk here) (length (w .base s)) (here .house) (here .counters .own) k spot (stageAt (here .live) spot)) here []
-      (readAt here (w .base s) spot k)
-      (λ e. by-test (wroteKey (b .keys) k)
-      (λ f. rw f (stays r s _ refl refl))
-      (λ f. rw f
-      (by-code Goal (readCode (isForgotten (here .counters .installs) (b .snapshot)) (readKey (b .keys) k) (b .keys .read)) here []
-      (readVersion here (w .base s) spot k) (λ c. reads (reaches (length (w .base s)) e)) (stays r s _ refl refl))))
-      (stays r s _ refl refl)
+      let code = accessCode (siteOk here) (length (w .base s)) (here .house) (here .counters .own) k spot (stageAt (here .live) spot) in
+      let late = readCode (isForgotten (here .counters .installs) (b .snapshot)) (readKey (b .keys) k) (b .keys .read) in
+      by-code (Goal (book.uses t k)) code here [] (readAt here (w .base s) spot k)
+      (λ e. let a = reaches (length (w .base s)) e in
+      by-test (wroteKey (b .keys) k)
+      (λ f. rw f (reads-own a f))
+      (λ f. rw f (by-code (Goal (book.uses t k)) late here [] (readVersion here (w .base s) spot k) (reads a) (stays r s (refused late here []) refl refl))))
+      (stays r s (refused code here []) refl refl)
 
   -- Write: over an own write, or where nobody else holds the key and none was installed after the snapshot.
-  writes : (v : Value) → (a : Reaches) → ((j : ℕ) → wroteKey (p .live s t .keys) j ≡ true → wroteKey (withWrite (p .live s t .keys) k v) j ≡ true)
+  writes : (v : Value) → (a : Reaches) → Sets (p .live s t .keys) (withWrite (p .live s t .keys) k v) k v → ((j : ℕ) → wroteKey (p .live s t .keys) j ≡ true → wroteKey (withWrite (p .live s t .keys) k v) j ≡ true)
       → ((j : ℕ) → wroteKey (withWrite (p .live s t .keys) k v) j ≡ true → wroteKey (p .live s t .keys) j ≡ false
       → ((u : ℕ) → (u ≡ t → ⊥) → (IsFree (p .live s u) → ⊥) → wroteKey (p .live s u .keys) j ≡ false)
       × ((i : ℕ) → p .live s t .snapshot .installs ≤ i → i < length (inst p s) → wroteKey (at p s i .keys) j ≡ false))
-      → Goal (written here spot k v)
+      → Goal (book.writes t k v) (written here spot k v)
   unfolding written settle turnAt quietly
-  writes v a kept new =
-      accesses r s t (a .low) (a .high) (a .held) (a .active) (withWrite (p .live s t .keys) k v) (write-sized (p .live s t .keys) k v (a .sized)) kept new
+  writes v a sets kept new =
+      let own = p .live s t .keys in
+      accesses r s t (a .low) (a .high) (a .held) (a .active) (withWrite own k v) (book.used t k ∷ book.wrote t k v ∷ []) (write-sized own k v (a .sized))
+      (protocol.writes k v (a .home) (sets .wrote) (sets .value) (λ j e. write-reads own k v j ∙ e) (sets .others)) kept new
       (written here spot k v) (rw (a .part)) refl
 
-  rewrites : (v : Value) → Reaches → wroteKey (subAt here spot .keys) k ≡ true → Goal (written here spot k v)
+  rewrites : (v : Value) → Reaches → wroteKey (subAt here spot .keys) k ≡ true → Goal (book.writes t k v) (written here spot k v)
   rewrites v a f =
       let f′ : wroteKey (p .live s t .keys) k ≡ true = sym (ap (λ (b : Sub). wroteKey (b .keys) k) (a .part)) ∙ f in
       let same = again-wrote (p .live s t .keys) k v f′ in
-      writes v a (λ j e. same j ∙ e) (λ j e g. absurd (set-not _ e (same j ∙ g)))
+      writes v a (again-sets (p .live s t .keys) k v f′ (a .sized) (a .few)) (λ j e. same j ∙ e) (λ j e g. absurd (set-not _ e (same j ∙ g)))
 
-  first : (v : Value) → Reaches → wroteKey (subAt here spot .keys) k ≡ false → writeCodeAt here spot k ≡ 0 → Goal (written here spot k v)
+  first : (v : Value) → Reaches → wroteKey (subAt here spot .keys) k ≡ false → writeCodeAt here spot k ≡ 0 → Goal (book.writes t k v) (written here spot k v)
   unfolding writeCodeAt
   first v a f c =
       let b = subAt here spot in
@@ -237,16 +222,17 @@ module _ {sites : ℕ} {w : World} {p : Protocol} (r : Refines sites w p) (s t k
       let latest : isNewer (here .history) (length (inst p s)) (p .live s t .snapshot) k ≡ false = rw (← a .part, ← a .installs) (d .latest) in
       let free = key-free (here .live) (p .live s) t k (a .live) (a .held) (d .free) in
       let old = key-latest (here .history) (inst p s) (p .live s t .snapshot) k (a .history) kept latest in
-      writes v a (first-kept own k v (a .sized) room f′)
+      writes v a (first-sets own k v (a .sized) room f′) (first-kept own k v (a .sized) room f′)
       (λ j e g. ⊎-elim (λ (z : wroteKey own j ≡ true). absurd (set-not _ z g)) (λ (z : j ≡ k). rw z (free, old)) (first-new own k v (a .sized) room f′ j e))
 
-  pub write-moves : (v : Value) → Follows sites p (step w (world.write s t k v) .world)
-  unfolding step writeOf writeAt
+  pub write-moves : (v : Value) → (let x = step w (world.write s t k v) in Follows sites p (x .world) (toldBy (world.write s t k v) (x .answer) (x .words)))
+  unfolding step siteStep writeOf writeAt
   write-moves v =
-      by-code Goal (accessCode (siteOk here) sizes.keys (here .house) (here .counters .own) k spot (stageAt (here .live) spot)) here []
-      (writeAt here spot k v)
+      let code = accessCode (siteOk here) sizes.keys (here .house) (here .counters .own) k spot (stageAt (here .live) spot) in
+      let late = writeCodeAt here spot k in
+      by-code (Goal (book.writes t k v)) code here [] (writeAt here spot k v)
       (λ e. let a = reaches sizes.keys e in
       by-test (wroteKey (subAt here spot .keys) k)
       (λ f. rw f (rewrites v a f))
-      (λ f. rw f (by-code Goal (writeCodeAt here spot k) here [] (written here spot k v) (first v a f) (stays r s _ refl refl))))
-      (stays r s _ refl refl)
+      (λ f. rw f (by-code (Goal (book.writes t k v)) late here [] (written here spot k v) (first v a f) (stays r s (refused late here []) refl refl))))
+      (stays r s (refused code here []) refl refl)

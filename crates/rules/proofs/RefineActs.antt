@@ -1,7 +1,7 @@
 -- What a step of a part's course does at its site, as moves: steps one after the other, and the call that they make up.
 use Prim.Native.Nat.{ℕ, _+_, _-_, _≤_, _<_}
-use mathlib.Core.Path.{_≡_, ap, _∙_}
-use mathlib.Core.List.{List, [], _++_, append-assoc}
+use mathlib.Core.Path.{_≡_, sym, ap, _∙_}
+use mathlib.Core.List.{List, [], _++_, append-nil, append-assoc}
 use borrow.Author.Tests.{ne-eqb}
 use lib.ListN.{length}
 use lib.Seq.{getD-set-same, set-set}
@@ -14,15 +14,18 @@ use Rattle.rules.specs.House.{coordinatorOf}
 use Rattle.rules.specs.Effect.{Effect, turnAt, settle}
 use Rattle.rules.specs.Course.{sendAll}
 use Rattle.rules.specs.World.{World, siteStep}
+use Rattle.rules.specs.Book.{Fact}
 use Rattle.rules.proofs.Protocol.{Protocol, Msg, others, Whole, Moves, stop, more, courseAt}
+use Rattle.rules.proofs.Told.{told, toldAll}
 use Rattle.rules.proofs.Invariants.{In, Held, Invariant}
 use Rattle.rules.proofs.Refines.{kindOf, txIn, clockIn, argumentIn, entriesIn, Posted, ChannelsAre, Slice, sliceOf, SiteIs, Refines}
 use Rattle.rules.proofs.RefineSite.{post-in, site-channels, channels-all}
 use Rattle.rules.proofs.RefineStep.{Follows, Grows, Elsewhere, site-step}
 use Rattle.rules.proofs.RefineMail.{Made, made-in, made-all, send-all-words}
 
-pub record Acts (sites s : ℕ) (p q : Protocol) (x : Site) (base lists words : List ℕ) : Type 0 where
+pub record Acts (sites s : ℕ) (p q : Protocol) (x : Site) (base lists words : List ℕ) (facts : List Fact) : Type 0 where
   pub moves : Moves sites p q
+  pub tells : toldAll moves ≡ facts
   pub elsewhere : Elsewhere s p q
   pub grows : Grows (p .post) (q .post)
   pub log : (j : ℕ) → q .log j ≡ p .log j
@@ -30,21 +33,27 @@ pub record Acts (sites s : ℕ) (p q : Protocol) (x : Site) (base lists words : 
   pub made : Made (Posted (q .post)) words
 
 -- the call
-pub acts-follow : {sites : ℕ} {w : World} {p q : Protocol} {base lists : List ℕ} (r : Refines sites w p) (s : ℕ) → 1 ≤ s → s ≤ sites → (e : Effect)
-    → Acts sites s p q (e .site) base lists (e .words) → Follows sites p (siteStep w s e base lists .world)
+pub acts-follow : {sites : ℕ} {w : World} {p q : Protocol} {base lists : List ℕ} {facts : List Fact} (r : Refines sites w p) (s : ℕ) → 1 ≤ s → s ≤ sites → (e : Effect)
+    → Acts sites s p q (e .site) base lists (e .words) facts → Follows sites p (siteStep w s e base lists .world) facts
 acts-follow {q = q} {base = base} {lists = lists} r s l h e a =
-    (q, a .moves, site-step r s l h (a .elsewhere) e base lists (a .site) (a .grows) (a .log) (made-in (a .made)))
+    (q, a .moves, a .tells, site-step r s l h (a .elsewhere) e base lists (a .site) (a .grows) (a .log) (made-in (a .made)))
 
 -- One step after another: the first sends nothing.
 pub moves-append : {sites : ℕ} {p q r : Protocol} → Moves sites p q → Moves sites q r → Moves sites p r
 moves-append m stop = m
 moves-append m (more n k) = more (moves-append m n) k
 
-pub acts-then : {sites s : ℕ} {p q r : Protocol} {x y : Site} {base base′ lists lists′ words : List ℕ}
-    → Acts sites s p q x base lists [] → Acts sites s q r y base′ lists′ words → Acts sites s p r y base′ lists′ words
+told-append : {sites : ℕ} {p q r : Protocol} (m : Moves sites p q) (n : Moves sites q r) → toldAll (moves-append m n) ≡ toldAll m ++ toldAll n
+unfolding moves-append
+told-append m stop = sym (append-nil (toldAll m))
+told-append m (more n k) = ap (λ (l : List Fact). l ++ told k) (told-append m n) ∙ append-assoc (toldAll m) (toldAll n) (told k)
+
+pub acts-then : {sites s : ℕ} {p q r : Protocol} {x y : Site} {base base′ lists lists′ words : List ℕ} {fs gs : List Fact}
+    → Acts sites s p q x base lists [] fs → Acts sites s q r y base′ lists′ words gs → Acts sites s p r y base′ lists′ words (fs ++ gs)
 acts-then {p = p} a b =
     record {
       moves = moves-append (a .moves) (b .moves);
+      tells = told-append (a .moves) (b .moves) ∙ (λ i. a .tells i ++ b .tells i);
       elsewhere =
           record {
             clock = λ j n. b .elsewhere .clock j n ∙ a .elsewhere .clock j n;

@@ -8,11 +8,12 @@ use Rattle.kinds.specs.Sizes as sizes
 use Rattle.rules.specs.House.{txOf, maskOf}
 use Rattle.rules.specs.Live.{freePlace}
 use Rattle.rules.specs.Valid.{siteOk}
-use Rattle.rules.specs.Effect.{changed, settle}
+use Rattle.rules.specs.Effect.{Effect, refused, changed, settle}
 use Rattle.rules.specs.Course.{newSub}
 use Rattle.rules.specs.Begin.{nextTx, beginCode, begun, beginOf, begin-clear}
 use Rattle.rules.specs.World.{World, upd, step, siteStep, messagesIn, splitWords}
 use Rattle.rules.specs.World as world
+use Rattle.rules.specs.Book as book
 use Rattle.rules.proofs.Tables.{upd-same, upd-other, a-nil}
 use Rattle.rules.proofs.Protocol.{Protocol, inst, beganAt, set-serial, begin, stop, more}
 use Rattle.rules.proofs.Invariants.{Invariant}
@@ -20,11 +21,14 @@ use Rattle.rules.proofs.Frames.{new-tx}
 use Rattle.rules.proofs.Refines.{IsFree, Refines}
 use Rattle.rules.proofs.RefineLive.{by-free, free-spot}
 use Rattle.rules.proofs.RefineSite.{new-sub, new-stage, site-sub, site-serial}
-use Rattle.rules.proofs.RefineStep.{Follows, by-code, row-same, row-other, grows-none, inside, stays, site-step}
+use Rattle.rules.proofs.RefineStep.{Follows, toldBy, by-code, row-same, row-other, grows-none, inside, stays, site-step}
 
 module _ {sites : ℕ} {w : World} {p : Protocol} (r : Refines sites w p) (i : Invariant sites p) (s : ℕ) where
+  abbrev Goal : Effect → Type 0
+  Goal e = Follows sites p (siteStep w s e (w .base s) (w .lists s) .world) (book.begins s (e .answer))
+
   begins : beginCode (siteOk (w .site s)) (w .site s .counters) (freePlace (w .site s .live)) ≡ 0
-      → Follows sites p (siteStep w s (changed (w .site s) (freePlace (w .site s .live)) (begun (w .site s)) []) (w .base s) (w .lists s) .world)
+      → Goal (changed (w .site s) (freePlace (w .site s .live)) (begun (w .site s)) [])
   unfolding begun settle nextTx messagesIn splitWords
   begins e =
       let x = w .site s in
@@ -42,6 +46,7 @@ module _ {sites : ℕ} {w : World} {p : Protocol} (r : Refines sites w p) (i : I
       let n : newSub (txOf (x .counters .own) (x .counters .serial + 1)) (maskOf (x .counters .own)) (x .counters .installs) ≡ b = rw (k .own-is, k .serial-is, k .installs-are) in (
         q,
         more stop (begin s t l h u refl),
+        rw (k .own-is, k .serial-is),
         site-step r s l h
             (record {
               clock = λ j z. refl;
@@ -58,11 +63,10 @@ module _ {sites : ℕ} {w : World} {p : Protocol} (r : Refines sites w p) (i : I
             (grows-none (p .post)) (λ j. refl) a-nil,
       )
 
-  pub begin-moves : Follows sites p (step w (world.begin s) .world)
-  unfolding step beginOf
+  pub begin-moves : let x = step w (world.begin s) in Follows sites p (x .world) (toldBy (world.begin s) (x .answer) (x .words))
+  unfolding step siteStep beginOf
   begin-moves =
       let x = w .site s in
       let place = freePlace (x .live) in
-      by-code (λ e. Follows sites p (siteStep w s e (w .base s) (w .lists s) .world)) (beginCode (siteOk x) (x .counters) place) x []
-      (changed x place (begun x) []) begins
-      (stays r s _ refl refl)
+      let code = beginCode (siteOk x) (x .counters) place in
+      by-code Goal code x [] (changed x place (begun x) []) begins (stays r s (refused code x []) refl refl)

@@ -21,17 +21,18 @@ use Rattle.rules.specs.Live.{placeOf, allHeard}
 use Rattle.rules.specs.Join.{joined}
 use Rattle.rules.specs.Certify.{concurrent}
 use Rattle.rules.specs.Valid.{siteOk}
-use Rattle.rules.specs.Effect.{Effect, turnAt, changed}
-use Rattle.rules.specs.Course.{abortStep}
+use Rattle.rules.specs.Effect.{Effect, turnAt, refused, changed}
+use Rattle.rules.specs.Course.{sendAll, abortStep}
 use Rattle.rules.specs.Commit.{isMine, requestCode, commitCode, isFull, isLost, commitChange, commitLists, commitOf, abandonCode, abandonOf}
 use Rattle.rules.specs.CommitLaws.{commit-full, commit-lost, commit-request, request-lone, request-prepare, lists-kept, lists-lost, lists-made}
 use Rattle.rules.specs.CallLaws.{request-clear, commit-clear, abandon-clear}
 use Rattle.rules.specs.World.{World, step, siteStep}
 use Rattle.rules.specs.World as world
+use Rattle.rules.specs.Book as book
 use Rattle.rules.proofs.Protocol.{Protocol, AtStage, more}
 use Rattle.rules.proofs.Invariants.{Invariant}
 use Rattle.rules.proofs.Refines.{Refines}
-use Rattle.rules.proofs.RefineStep.{Follows, by-code, inside, stays}
+use Rattle.rules.proofs.RefineStep.{Follows, toldBy, by-code, inside, stays}
 use Rattle.rules.proofs.RefineTurn.{at-place, course-is}
 use Rattle.rules.proofs.RefineActs.{acts-follow}
 use Rattle.rules.proofs.RefineCourse.{abort-acts}
@@ -50,7 +51,8 @@ module _ {sites : ℕ} {w : World} {p : Protocol} (r : Refines sites w p) (i : I
 
   abandons : requestCode (siteOk here) (length out) true spot (isMine here t) ≡ 0
       → abandonCode (course .stage) (countsLow (here .channels .sent) (course .mask) (here .counters .own)) ≡ 0
-      → Follows sites p (siteStep w s (changed here spot (abortStep (turnAt here spot) reason.abandoned) []) (w .base s) (w .lists s) .world)
+      → Follows sites p (siteStep w s (changed here spot (abortStep (turnAt here spot) reason.abandoned) []) (w .base s) (w .lists s) .world) []
+  unfolding abortStep sendAll
   abandons e f =
       let c = request-clear (siteOk here) (length out) true spot (isMine here t) e in
       let d = abandon-clear (course .stage) (countsLow (here .channels .sent) (course .mask) (here .counters .own)) f in
@@ -61,11 +63,11 @@ module _ {sites : ℕ} {w : World} {p : Protocol} (r : Refines sites w p) (i : I
       (λ z. eqb-false (course .stage) stage.decided (d .undecided) (ap (λ (c : Course). c .stage) (course-is a) ∙ z)) in
       acts-follow r s l h (changed here spot (abortStep (turnAt here spot) reason.abandoned) []) k
 
-  pub abandon-moves : Follows sites p (step w (world.abandon s out t) .world)
+  pub abandon-moves : Follows sites p (step w (world.abandon s out t) .world) []
   unfolding step abandonOf
   abandon-moves =
-      by-code (λ e. Follows sites p (siteStep w s e (w .base s) (w .lists s) .world)) (requestCode (siteOk here) (length out) true spot (isMine here t)) here [] _
-      (λ e. by-code (λ e. Follows sites p (siteStep w s e (w .base s) (w .lists s) .world))
+      by-code (λ e. Follows sites p (siteStep w s e (w .base s) (w .lists s) .world) []) (requestCode (siteOk here) (length out) true spot (isMine here t)) here [] _
+      (λ e. by-code (λ e. Follows sites p (siteStep w s e (w .base s) (w .lists s) .world) [])
       (abandonCode (course .stage) (countsLow (here .channels .sent) (course .mask) (here .counters .own))) here []
       (changed here spot (abortStep (turnAt here spot) reason.abandoned) []) (abandons e) (stays r s _ refl refl))
       (stays r s _ refl refl)
@@ -82,7 +84,7 @@ module _ {sites : ℕ} {w : World} {p : Protocol} (r : Refines sites w p) (i : I
   stood = subAt site place .course
 
   abbrev Goal : Effect → Type 0
-  Goal e = Follows sites p (siteStep w s e (w .base s) (e .lent) .world)
+  Goal e = Follows sites p (siteStep w s e (w .base s) (e .lent) .world) (book.commits t (e .answer))
 
   not-full : isFull site place ≡ false → stood .reason ≡ 0
   unfolding isFull
@@ -123,11 +125,12 @@ module _ {sites : ℕ} {w : World} {p : Protocol} (r : Refines sites w p) (i : I
       (lone-commit-acts (r .few) l i mine y a (c .valid) ready (sym (ap (λ (z : Course). allHeard 0 (z .mask)) k) ∙ lone) .1)))
       (λ more. rw (request-prepare site place own n refl more) (acts-follow r s l h (changed site place _ _) (prepare-acts (r .few) i mine y a (c .valid) ready))))))
 
-  pub commit-moves : Follows sites p (step w (world.commit s out t) .world)
-  unfolding step commitOf
+  pub commit-moves : let x = step w (world.commit s out t) in Follows sites p (x .world) (toldBy (world.commit s out t) (x .answer) (x .words))
+  unfolding step siteStep commitOf
   commit-moves =
-      by-code Goal (requestCode (siteOk site) (length out) (eqb (length (w .lists s)) sizes.lists) place (isMine site t)) site (w .lists s) _
-      (λ e. by-code Goal
-      (commitCode (stood .stage) (allHeard (stood .heard) (stood .mask)) (countsLow (site .channels .sent) (stood .mask) (site .counters .own))) site (w .lists s)
-      (changed site place (commitChange site place) (commitLists site (w .lists s) place)) (commits e) (stays r s _ refl refl))
-      (stays r s _ refl refl)
+      let code = requestCode (siteOk site) (length out) (eqb (length (w .lists s)) sizes.lists) place (isMine site t) in
+      let late = commitCode (stood .stage) (allHeard (stood .heard) (stood .mask)) (countsLow (site .channels .sent) (stood .mask) (site .counters .own)) in
+      by-code Goal code site (w .lists s) _
+      (λ e. by-code Goal late site (w .lists s)
+      (changed site place (commitChange site place) (commitLists site (w .lists s) place)) (commits e) (stays r s (refused late site (w .lists s)) refl refl))
+      (stays r s (refused code site (w .lists s)) refl refl)

@@ -28,6 +28,7 @@ use Rattle.rules.specs.CourseLaws.{whole-count}
 use Rattle.rules.specs.Course.{quietly, withCourseOf, withReply, isOutstanding, castStep}
 use Rattle.rules.specs.Deliver.{arrived}
 use Rattle.rules.specs.World.{upd}
+use Rattle.rules.specs.Book as book
 use Rattle.rules.proofs.Tables.{upd₂-same, upd-same, upd-other}
 use Rattle.rules.proofs.Protocol.{Protocol, mConc, Next, AtStage, courseAt, Within, withCourseAt, set-gathered, took, gathers}
 use Rattle.rules.proofs.Invariants.{Invariant}
@@ -99,7 +100,7 @@ module _ {sites : ℕ} (p : Protocol) (s a : ℕ) {t : ℕ} {x : Site} {base lis
       list-more lists place (subAt x place) part (p .gathered t) es (entryCount es) (y .lists .size) (A .spot .low) (rw tx at old) room whole
       (reply-listed (courseAt p s t) a (entryCount es) ∙ ap (λ (c : Course). c .listed + entryCount es) (sym k)) marks
 
-  gather-acts : Acts sites s p (gatherAt p s a t es) (settle x place turn) base gatheredLists []
+  gather-acts : Acts sites s p (gatherAt p s a t es) (settle x place turn) base gatheredLists [] []
   unfolding settle arrived
   gather-acts =
       quiet-acts s a (gathers a s t es next prepared out) (λ j n. refl) refl (λ j n. row-other (p .live) s t part j n) refl refl refl
@@ -143,7 +144,7 @@ module _ {sites : ℕ} (p : Protocol) (s a : ℕ) {t : ℕ} {x : Site} {base lis
 
   -- the last list
   all-acts : allHeard (heard .heard) (heard .mask) ≡ true
-      → (let c = castStep turn (voteOf x place join (entryCount join)) join in (q : Protocol) × Acts sites s p q (settle x place (c .turn)) base gatheredLists (c .words))
+      → (let c = castStep turn (voteOf x place join (entryCount join)) join in (q : Protocol) × Acts sites s p q (settle x place (c .turn)) base gatheredLists (c .words) (book.commits t (c .answer)))
   all-acts all =
       let v = voteOf x place join (entryCount join) in
       let p1 = gatherAt p s a t es in
@@ -159,6 +160,6 @@ module _ {sites : ℕ} (p : Protocol) (s a : ℕ) {t : ℕ} {x : Site} {base lis
       (q, acts-then gather-acts (rw (settled-turn x place turn long, settled-again x place turn (castStep turn v join .turn)) at two))
 
   pub conc-acts : (let c = pick (allHeard (heard .heard) (heard .mask)) (castStep turn (voteOf x place join (entryCount join)) join) (quietly turn) in
-      (q : Protocol) × Acts sites s p q (settle x place (c .turn)) base gatheredLists (c .words))
+      (q : Protocol) × Acts sites s p q (settle x place (c .turn)) base gatheredLists (c .words) (book.commits t (c .answer)))
   unfolding quietly
   conc-acts = by-test (allHeard (heard .heard) (heard .mask)) (λ f. rw f (all-acts f)) (λ f. rw f (_, gather-acts))

@@ -24,6 +24,7 @@ use Rattle.rules.specs.Effect.{turnAt, settle}
 use Rattle.rules.specs.CourseLaws.{no-entries}
 use Rattle.rules.specs.Course.{withCourseOf, sendAll, abortStep, commitStep, decideStep, withDecision, withMark, castStep}
 use Rattle.rules.specs.World.{upd}
+use Rattle.rules.specs.Book as book
 use Rattle.rules.proofs.Tables.{upd₂, upd₂-same, upd-same, upd-other}
 use Rattle.rules.proofs.Protocol.{Protocol, Msg, mAbort, mCert, mCommit, others, courseAt, AtStage, Whole, Within, Certified, abort, cast, decide, stop, more, postedAll, withCourseAt, set-certed, set-cert, set-yes, set-mark}
 use Rattle.rules.proofs.Invariants.{In, Held, Invariant}
@@ -85,13 +86,14 @@ module _ {sites s t place : ℕ} {x : Site} {base lists : List ℕ} {p : Protoco
 
   -- Abort: ABORT to the others, and the part is gone.
   pub abort-acts : (r : ℕ) → (AtStage p s t stage.decided → ⊥)
-      → (q : Protocol) × Acts sites s p q (settle x place (abortStep turn r .turn)) base lists (abortStep turn r .words)
+      → (q : Protocol) × Acts sites s p q (settle x place (abortStep turn r .turn)) base lists (abortStep turn r .words) (book.commits t (abortStep turn r .answer))
   unfolding abortStep settle turnAt sendAll
   abort-acts r n =
       let m = mAbort t in (
         _,
         record {
           moves = more stop (abort s t e (a .held) n);
+          tells = refl;
           elsewhere =
               record {
                 clock = λ j z. refl;
@@ -111,7 +113,7 @@ module _ {sites s t place : ℕ} {x : Site} {base lists : List ℕ} {p : Protoco
 
   -- The decision: the clock plus 1 is the commit number.
   commit-acts : AtStage p s t stage.queued → allHeard (courseAt p s t .heard) mask ≡ true → (n : ℕ) → n ≡ p .clock s + 1
-      → (q : Protocol) × Acts sites s p q (settle x place (commitStep turn n .turn)) base lists (commitStep turn n .words)
+      → (q : Protocol) × Acts sites s p q (settle x place (commitStep turn n .turn)) base lists (commitStep turn n .words) (book.commits t (commitStep turn n .answer))
   unfolding commitStep settle turnAt sendAll
   commit-acts g all n z =
       let m = mCommit t (p .clock s + 1) in
@@ -125,6 +127,7 @@ module _ {sites s t place : ℕ} {x : Site} {base lists : List ℕ} {p : Protoco
         _,
         record {
           moves = more stop (decide s t e g all);
+          tells = refl;
           elsewhere =
               record {
                 clock = λ j o. upd-other (p .clock) s (p .clock s + 1) j o;
@@ -147,7 +150,7 @@ module _ {sites s t place : ℕ} {x : Site} {base lists : List ℕ} {p : Protoco
 
   -- at the last clock an abort
   pub decide-acts : AtStage p s t stage.queued → allHeard (courseAt p s t .heard) mask ≡ true
-      → (q : Protocol) × Acts sites s p q (settle x place (decideStep turn .turn)) base lists (decideStep turn .words)
+      → (q : Protocol) × Acts sites s p q (settle x place (decideStep turn .turn)) base lists (decideStep turn .words) (book.commits t (decideStep turn .answer))
   unfolding decideStep turnAt
   decide-acts g all =
       by-test (leb sizes.last (x .counters .clock))
@@ -170,7 +173,7 @@ module _ {sites s t place : ℕ} {x : Site} {base lists : List ℕ} {p : Protoco
   marks = rw (course-is a, y .counters .clock-is)
 
   cert-acts : AtStage p s t stage.prepared → allHeard (courseAt p s t .heard) mask ≡ true → (es : List ℕ) → Whole es → Within (p .gathered t) es → Certified p s t es
-      → (q : Protocol) × Acts sites s p q (settle x place (sendAll marked Done kind.cert 0 0 es .turn)) base lists (sendAll marked Done kind.cert 0 0 es .words)
+      → (q : Protocol) × Acts sites s p q (settle x place (sendAll marked Done kind.cert 0 0 es .turn)) base lists (sendAll marked Done kind.cert 0 0 es .words) (book.commits t (sendAll marked Done kind.cert 0 0 es .answer))
   unfolding settle turnAt sendAll
   cert-acts g all es whole w v =
       let m = mCert t es in
@@ -179,6 +182,7 @@ module _ {sites s t place : ℕ} {x : Site} {base lists : List ℕ} {p : Protoco
         castAt p s t es,
         record {
           moves = more stop (cast s t es e g all w v);
+          tells = refl;
           elsewhere =
               record {
                 clock = λ j o. refl;
@@ -200,7 +204,7 @@ module _ {sites s t place : ℕ} {x : Site} {base lists : List ℕ} {p : Protoco
 
   -- Alone, all votes are there.
   lone-acts : AtStage p s t stage.prepared → allHeard (courseAt p s t .heard) mask ≡ true → (es : List ℕ) → Within (p .gathered t) es → Certified p s t es
-      → ((r : ℕ) → In mask r → (r ≡ s → ⊥) → ⊥) → Acts sites s p (castAt p s t es) (settle x place marked) base lists []
+      → ((r : ℕ) → In mask r → (r ≡ s → ⊥) → ⊥) → Acts sites s p (castAt p s t es) (settle x place marked) base lists [] []
   unfolding settle turnAt
   lone-acts g all es w v alone =
       let m = mCert t es in
@@ -208,6 +212,7 @@ module _ {sites s t place : ℕ} {x : Site} {base lists : List ℕ} {p : Protoco
       let same = others-lone (p .post) s mask m alone in
       record {
         moves = more stop (cast s t es e g all w v);
+        tells = refl;
         elsewhere =
             record {
               clock = λ j o. refl;
@@ -251,6 +256,7 @@ module _ {sites s t place : ℕ} {x : Site} {base lists : List ℕ} {p : Protoco
   lone-decides : AtStage p s t stage.prepared → allHeard (courseAt p s t .heard) (courseAt p s t .mask) ≡ true → (es : List ℕ) → Within (p .gathered t) es → Certified p s t es
       → allHeard 0 (courseAt p s t .mask) ≡ true
       → (q : Protocol) × Acts sites s p q (settle x place (decideStep (marked few i e y a) .turn)) base lists (decideStep (marked few i e y a) .words)
+      (book.commits t (decideStep (marked few i e y a) .answer))
   lone-decides g all es w c h =
       let u = marked few i e y a in
       let one = lone-acts few i e y a g all es w c (lone s t i e low (a .held) h) in
@@ -268,6 +274,7 @@ module _ {sites s t place : ℕ} {x : Site} {base lists : List ℕ} {p : Protoco
   pub cast-acts : AtStage p s t stage.prepared → allHeard (courseAt p s t .heard) (courseAt p s t .mask) ≡ true → (v : ℕ) (es : List ℕ) → Whole es → Within (p .gathered t) es
       → (v ≡ 0 → Certified p s t es)
       → (q : Protocol) × Acts sites s p q (settle x place (castStep (turnAt x place) v es .turn)) base lists (castStep (turnAt x place) v es .words)
+      (book.commits t (castStep (turnAt x place) v es .answer))
   unfolding castStep turnAt
   cast-acts g all v es whole w c =
       by-test (eqb v 0)

@@ -312,11 +312,12 @@ module _ {sites : ℕ} {w : World} {v : Stream} (x : StreamIs sites w v) (z : St
             let o : In (p .mask (G .tx)) s = (a, rw (f .mask) at t) in
             z .invariant .parts .site s (G .tx) (z .invariant .account .asked-has (G .tx) s (committed-asked (z .invariant .parts) (z .invariant .account) (G .tx) (f .committed)) o) .1
 
-    emit-to : Refines sites (mergerStep w y (w .merged) .world) p → Holds (y .merger) (y .queues) → Onward sites v (mergerStep w y (w .merged) .world)
+    emit-to : Refines sites (mergerStep w y (w .merged) .world) p → Holds (y .merger) (y .queues) → Onward sites v (mergerStep w y (w .merged) .world) []
     unfolding mergerStep
     emit-to f h = (
       record { protocol = p; merger = emitted m G; replayed = v .replayed },
       one-step (stream.merges _ (stream.emit G machine-emits)),
+      refl,
       record {
         refines = f;
         merger = tables h;
@@ -328,19 +329,19 @@ module _ {sites : ℕ} {w : World} {v : Stream} (x : StreamIs sites w v) (z : St
       },
     )
 
-  pub emit-onward : (out : List ℕ) → Onward sites v (step w (world.emit out) .world)
+  pub emit-onward : (out : List ℕ) → Onward sites v (step w (world.emit out) .world) []
   unfolding step mergerStep
   emit-onward out = go (emit-cases g (length out) (w .queues))
     where
-      go : ((n : ℕ) × (emitOf g (length out) (w .queues) ≡ refusedMerger n g (w .queues))) ⊎ Emits g (w .queues) (emitOf g (length out) (w .queues)) → Onward sites v (step w (world.emit out) .world)
-      go (inl (n, e)) = rw (e, append-nil) (v, stream.stop, x)
+      go : ((n : ℕ) × (emitOf g (length out) (w .queues) ≡ refusedMerger n g (w .queues))) ⊎ Emits g (w .queues) (emitOf g (length out) (w .queues)) → Onward sites v (step w (world.emit out) .world) []
+      go (inl (n, e)) = rw (e, append-nil) (v, stream.stop, refl, x)
       go (inr d) = some (m .queue (leastSite g (w .queues) + 1)) refl
         where
-          some : (u : List Entry) → m .queue (leastSite g (w .queues) + 1) ≡ u → Onward sites v (step w (world.emit out) .world)
+          some : (u : List Entry) → m .queue (leastSite g (w .queues) + 1) ≡ u → Onward sites v (step w (world.emit out) .world) []
           some [] e = absurd (let l : leastSite g (w .queues) < sites = omega (arith, d .least .below, x .merger .house) in
               omega (arith, d .least .queued, x .merger .source (leastSite g (w .queues)) l .queued, ap length e))
           some (e ∷ u) q =
               let r = x .refines in
               emit-to d e u q
-              (record { few = r .few; site = r .site; outside = r .outside; sent = r .sent; log = r .log; stream = emit-moves r out .2 .stream })
+              (record { few = r .few; site = r .site; outside = r .outside; sent = r .sent; log = r .log; stream = emit-moves r out .3 .stream })
               (emit-kept g (length out) (w .queues) (x .merger .holds))

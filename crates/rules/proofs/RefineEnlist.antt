@@ -46,7 +46,7 @@ module _ {sites : ℕ} {w : World} {p : Protocol} (r : Refines sites w p) (s : �
   course = subAt here spot .course
 
   abbrev Goal : Effect → Type 0
-  Goal e = Follows sites p (siteStep w s e (w .base s) (w .lists s) .world)
+  Goal e = Follows sites p (siteStep w s e (w .base s) (w .lists s) .world) []
 
   enlists : enlistCode (siteOk here) room (isSite (here .house) n) spot (eqb (coordinatorOf t) (here .counters .own)) ≡ 0
       → joinerCode (course .stage) (eqb n (here .counters .own)) (inMask (course .mask) n) (channelSpent (here .channels) n) ≡ 0
@@ -71,6 +71,7 @@ module _ {sites : ℕ} {w : World} {p : Protocol} (r : Refines sites w p) (s : �
       let words = send-words u (mJoin t) s n own (tx-of a) in (
         _,
         more stop (enlist s t n (eqb-true _ _ (c .coordinator) ∙ own) active (o .low) m apart (sym (ap (λ (z : Course). inMask (z .mask) n) k) ∙ d .new)),
+        refl,
         site-step r s l h
             (record {
               clock = λ j z. refl;
@@ -89,7 +90,7 @@ module _ {sites : ℕ} {w : World} {p : Protocol} (r : Refines sites w p) (s : �
             (made-in (rw words (made-one (p .post) s n (getD (here .channels .sent) (n - 1) 0) (mJoin t) (no-entries .0) number))),
       )
 
-  pub enlist-moves : Follows sites p (step w (world.enlist s out t n) .world)
+  pub enlist-moves : Follows sites p (step w (world.enlist s out t n) .world) []
   unfolding step enlistOf enlistAt
   enlist-moves =
       by-code Goal (enlistCode (siteOk here) room (isSite (here .house) n) spot (eqb (coordinatorOf t) (here .counters .own))) here [] (enlistAt here spot n)

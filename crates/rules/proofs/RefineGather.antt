@@ -20,6 +20,7 @@ use Rattle.rules.specs.Live.{allHeard}
 use Rattle.rules.specs.Effect.{settle}
 use Rattle.rules.specs.Course.{raise, quietly, withCourseOf, withReply, isOutstanding, abortStep, decideStep, voteStep}
 use Rattle.rules.specs.Deliver.{arrived, voteInTurn}
+use Rattle.rules.specs.Book as book
 use Rattle.rules.proofs.Tables.{upd₂-same}
 use Rattle.rules.proofs.Protocol.{Protocol, mVote, Next, AtStage, courseAt, withCourseAt, took, raised}
 use Rattle.rules.proofs.Invariants.{Invariant}
@@ -72,6 +73,7 @@ module _ {sites : ℕ} (p : Protocol) (s a : ℕ) {t : ℕ} {x : Site} {base lis
   -- a no: the first one aborts
   no-acts : (n v : ℕ) → Next p a s (mVote t n v) → (AtStage p s t stage.free → ⊥) → (AtStage p s t stage.decided → ⊥)
       → (q : Protocol) × Acts sites s p q (settle x place (abortStep (raisedTurn n) v .turn)) base lists (abortStep (raisedTurn n) v .words)
+      (book.commits t (abortStep (raisedTurn n) v .answer))
   no-acts n v next held undecided =
       let u = raisedTurn n in
       let one = raised-acts p s a few low high y place A n (mVote t n v) next in
@@ -91,6 +93,7 @@ module _ {sites : ℕ} (p : Protocol) (s a : ℕ) {t : ℕ} {x : Site} {base lis
   last-acts : (n : ℕ) → Next p a s (mVote t n 0) → AtStage p s t stage.queued → isOutstanding (courseAt p s t) a ≡ true
       → (let c = withReply (courseAt p s t) a 0 0 in allHeard (c .heard) (c .mask) ≡ true)
       → (q : Protocol) × Acts sites s p q (settle x place (decideStep (heardTurn n) .turn)) base lists (decideStep (heardTurn n) .words)
+      (book.commits t (decideStep (heardTurn n) .answer))
   last-acts n next queued out all =
       let u = heardTurn n in
       let one = votes-acts p s a few low high y place A n next queued out in
@@ -105,6 +108,7 @@ module _ {sites : ℕ} (p : Protocol) (s a : ℕ) {t : ℕ} {x : Site} {base lis
 
   pub vote-acts : (n v : ℕ) → Next p a s (mVote t n v) → voteInTurn (subAt x place .course) a v ≡ true
       → (q : Protocol) × Acts sites s p q (settle x place (voteStep (raisedTurn n) a v .turn)) base lists (voteStep (raisedTurn n) a v .words)
+      (book.commits t (voteStep (raisedTurn n) a v .answer))
   unfolding voteStep raise arrived quietly
   vote-acts n v next inTurn =
       let b = subAt x place .course in

@@ -19,7 +19,7 @@ use Rattle.rules.specs.Keys.{sortedCount}
 use Rattle.rules.specs.KeysLaws.{words-length}
 use Rattle.rules.specs.Live.{placeOf}
 use Rattle.rules.specs.Valid.{siteOk}
-use Rattle.rules.specs.Effect.{Effect}
+use Rattle.rules.specs.Effect.{Effect, refused}
 use Rattle.rules.specs.Course.{headOf}
 use Rattle.rules.specs.Install.{stateWords}
 use Rattle.rules.specs.Deliver.{arrivalCode, nextCode, takeKind, messageAt, messageOf}
@@ -31,8 +31,8 @@ use Rattle.rules.proofs.Protocol.{Protocol, Msg, mAbort, Rec, rPart, rS
 use Rattle.rules.proofs.Invariants.{Invariant}
 use Rattle.rules.proofs.Frames.{in-range, set-not}
 use Rattle.rules.proofs.Refines.{entriesIn, encode, Posted, recWords, entryWords, partHeadOf, IsRecord, sliceOf, SiteIs, Refines}
-use Rattle.rules.proofs.RefineStep.{Follows, by-code, inside, stays}
-use Rattle.rules.proofs.RefineMessage.{headIn, takes}
+use Rattle.rules.proofs.RefineStep.{Follows, toldBy, by-code, inside, stays}
+use Rattle.rules.proofs.RefineMessage.{headIn, toldTaken, takes}
 
 pub all-is : {A : Type 0} {P : A → Type 0} {a : A} {l : List A} → All P l → Is a l → P a
 all-is (a-cons p ps) here = p
@@ -114,7 +114,7 @@ module _ {sites : ℕ} {w : World} {p : Protocol} (r : Refines sites w p) (i : I
   head = messageHead m
 
   abbrev Goal : Effect → Type 0
-  Goal e = Follows sites p (siteStep w s e (w .base s) (e .lent) .world)
+  Goal e = Follows sites p (siteStep w s e (w .base s) (e .lent) .world) (toldTaken s (head .kind) (head .tx) (e .words) (e .answer))
 
   -- words that pass are a posted message
   posted : Handed w (world.message s out m) → messageOk (site .house) m ≡ true → Posted (p .post) m
@@ -134,10 +134,12 @@ module _ {sites : ℕ} {w : World} {p : Protocol} (r : Refines sites w p) (i : I
       let good = rw (a .head, a .entries) at (passed-good (site .house) m (c .formed)) in
       rw (a .head, a .entries) (takes r i s (a .from) (a .number) l h (a .low) (a .high) (c .valid) (a .message) (a .next) good)
 
-  pub message-moves : Handed w (world.message s out m) → Follows sites p (step w (world.message s out m) .world)
-  unfolding step messageOf messageAt
+  pub message-moves : Handed w (world.message s out m) → (let x = step w (world.message s out m) in Follows sites p (x .world) (toldBy (world.message s out m) (x .answer) (x .words)))
+  unfolding step siteStep messageOf messageAt
   message-moves handed =
-      by-code Goal (arrivalCode (siteOk site) (length out) (eqb (length lists) sizes.lists) (messageOk (site .house) m)) site lists (messageAt site lists m)
-      (λ e. by-code Goal (nextCode (head .to) (site .counters .own) (head .channel) (getD (site .channels .taken) (head .from - 1) 0)) site lists
-      (takeKind (head .kind) site head (messageEntries m) lists (placeOf (site .live) (head .tx))) (delivers handed e) (stays r s _ refl refl))
-      (stays r s _ refl refl)
+      let code = arrivalCode (siteOk site) (length out) (eqb (length lists) sizes.lists) (messageOk (site .house) m) in
+      let late = nextCode (head .to) (site .counters .own) (head .channel) (getD (site .channels .taken) (head .from - 1) 0) in
+      by-code Goal code site lists (messageAt site lists m)
+      (λ e. by-code Goal late site lists (takeKind (head .kind) site head (messageEntries m) lists (placeOf (site .live) (head .tx))) (delivers handed e)
+      (stays r s (refused late site lists) refl refl))
+      (stays r s (refused code site lists) refl refl)

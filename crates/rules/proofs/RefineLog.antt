@@ -18,6 +18,7 @@ use Rattle.kinds.specs.declared.Entry.{Entry}
 use Rattle.kinds.specs.declared.Site.{Site}
 use Rattle.kinds.specs.declared.Answer.the-variants.{Reported}
 use Rattle.kinds.specs.State.{Value, fresh, noSub, pastEntry, subAt, entryAt}
+use Rattle.rules.specs.House.{coordinatorOf}
 use Rattle.rules.specs.Record.{recordWords}
 use Rattle.rules.specs.KeysLaws.{by-order}
 use Rattle.rules.specs.Live.{partAt, isQueued}
@@ -25,17 +26,18 @@ use Rattle.rules.specs.History.{slotOf, remembered, forgotten, forgetInt
 use Rattle.rules.specs.Queue.{leastQueued, isDue, stateNumber}
 use Rattle.rules.specs.QueueLaws.{least-first, state-clock, state-open, state-decided}
 use Rattle.rules.specs.Valid.{siteOk}
-use Rattle.rules.specs.Effect.{Effect}
+use Rattle.rules.specs.Effect.{Effect, refused}
 use Rattle.rules.specs.Install.{installCode, entryOf, partHead, partWords, baseAfter, installedAt, installOf, reportCode, stateWords, reportOf}
 use Rattle.rules.specs.CallLaws.{install-clear, report-clear}
 use Rattle.rules.specs.World.{World, upd, step, logStep, recordIn}
 use Rattle.rules.specs.World as world
+use Rattle.rules.specs.Book as book
 use Rattle.rules.proofs.Tables.{upd-same, upd-other}
 use Rattle.rules.proofs.Protocol.{Protocol, Rec, rPart, rState, partsOf, LeastQueued, StateAt, install, report, stop, more}
 use Rattle.rules.proofs.StepParts.{parts-append, parts-state}
 use Rattle.rules.proofs.Refines.{IsFree, HistoryIs, LiveIs, recWords, entryWords, partHeadOf, Refines}
 use Rattle.rules.proofs.RefineTurn.{part-place, site-gone}
-use Rattle.rules.proofs.RefineStep.{Follows, by-code, row-other, inside, unlogged, log-step}
+use Rattle.rules.proofs.RefineStep.{Follows, toldBy, by-code, row-other, inside, unlogged, log-step}
 
 -- a record written behind the log
 log-more : (s : ℕ) (l : List (List ℕ)) (m : List Rec) (a : Rec) (ws : List ℕ) → l ≡ map (recWords s) m → recordIn ws ≡ recWords s a ∷ []
@@ -71,7 +73,7 @@ module _ {sites : ℕ} {w : World} {p : Protocol} (r : Refines sites w p) (s : �
   abbrev reported : Effect
   reported = record { answer = Reported state; words = stateWords (here .counters .own) state; site = here; lent = [] }
 
-  reports : reportCode (siteOk here) (length out) ≡ 0 → Follows sites p (logStep w s reported (w .base s) .world)
+  reports : reportCode (siteOk here) (length out) ≡ 0 → Follows sites p (logStep w s reported (w .base s) .world) []
   reports e =
       let c = report-clear (siteOk here) (length out) e in
       let (l, h) = inside r s (c .valid) in
@@ -81,6 +83,7 @@ module _ {sites : ℕ} {w : World} {p : Protocol} (r : Refines sites w p) (s : �
       let z : partsOf (upd (p .log) s k s) ≡ partsOf (p .log s) = rw g (parts-state (p .log s) state) in (
         _,
         more stop (report s state (state-at (here .live) p s (here .counters .clock) (y .live) (y .counters .clock-is))),
+        refl,
         log-step r s l h
             (record {
               clock = λ j n. refl;
@@ -105,11 +108,11 @@ module _ {sites : ℕ} {w : World} {p : Protocol} (r : Refines sites w p) (s : �
             (rw g (log-more s (w .log s) (p .log s) (rState state) (stateWords (here .counters .own) state) (r .log s) (state-record (here .counters .own) s state (y .counters .own-is)))),
       )
 
-  pub report-moves : Follows sites p (step w (world.report s out) .world)
+  pub report-moves : Follows sites p (step w (world.report s out) .world) []
   unfolding step reportOf
   report-moves =
-      by-code (λ e. Follows sites p (logStep w s e (w .base s) .world)) (reportCode (siteOk here) (length out)) here [] reported reports
-      (p, stop, unlogged r s _ (w .base s) refl refl refl)
+      by-code (λ e. Follows sites p (logStep w s e (w .base s) .world) []) (reportCode (siteOk here) (length out)) here [] reported reports
+      (p, stop, refl, unlogged r s _ (w .base s) refl refl refl)
 
 -- The history with one install more: the new one takes the slot of the one that is forgotten.
 slots-apart : (n k : ℕ) → k < n → n < k + sizes.history → slotOf k ≡ slotOf n → ⊥
@@ -187,7 +190,7 @@ module _ {sites : ℕ} {w : World} {p : Protocol} (r : Refines sites w p) (s : �
   due = leastQueued (site .live) sizes.live
 
   installs : installCode (siteOk site) (length out) (length (w .base s)) (isDue (site .live) due) (site .counters .installs) ≡ 0
-      → Follows sites p (logStep w s (installedAt site (w .base s) due) (baseAfter site (w .base s)) .world)
+      → Follows sites p (logStep w s (installedAt site (w .base s) due) (baseAfter site (w .base s)) .world) (book.installs s (installedAt site (w .base s) due .answer))
   unfolding installedAt isDue
   installs e =
       let c = install-clear (siteOk site) (length out) (length (w .base s)) (isDue (site .live) due) (site .counters .installs) e in
@@ -204,6 +207,7 @@ module _ {sites : ℕ} {w : World} {p : Protocol} (r : Refines sites w p) (s : �
       let gone = site-gone y refl a in (
         _,
         more stop (install s t (sym (ap (λ (x : Sub). x .course .stage) (a .part)) ∙ decided) (least-at (site .live) p s t (y .live) (a .part))),
+        ap (λ (b : Sub). book.installed s (b .course .number) (coordinatorOf t) ∷ []) (sym (a .part)),
         log-step r s l h
             (record {
               clock = λ j n. refl;
@@ -236,10 +240,10 @@ module _ {sites : ℕ} {w : World} {p : Protocol} (r : Refines sites w p) (s : �
             (part-record (site .counters .own) s (subAt site due) b (y .counters .own-is) (a .part)))),
       )
 
-  pub install-moves : Follows sites p (step w (world.install s out) .world)
-  unfolding step installOf installedAt
+  pub install-moves : let x = step w (world.install s out) in Follows sites p (x .world) (toldBy (world.install s out) (x .answer) (x .words))
+  unfolding step logStep installOf installedAt
   install-moves =
-      by-code (λ e. Follows sites p (logStep w s e (e .lent) .world))
-      (installCode (siteOk site) (length out) (length (w .base s)) (isDue (site .live) due) (site .counters .installs)) site (w .base s)
+      let code = installCode (siteOk site) (length out) (length (w .base s)) (isDue (site .live) due) (site .counters .installs) in
+      by-code (λ e. Follows sites p (logStep w s e (e .lent) .world) (book.installs s (e .answer))) code site (w .base s)
       (installedAt site (w .base s) due) installs
-      (p, stop, unlogged r s _ (w .base s) refl refl refl)
+      (p, stop, refl, unlogged r s (refused code site (w .base s)) (w .base s) refl refl refl)

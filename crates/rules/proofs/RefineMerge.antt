@@ -37,6 +37,7 @@ use Rattle.rules.proofs.Stream as stream
 use Rattle.rules.proofs.Stream.{Stream, Steps, NextRecord, rankOf}
 use Rattle.rules.proofs.StreamInv.{NotAbove}
 use Rattle.rules.proofs.StreamReached.{Standing}
+use Rattle.rules.proofs.Told.{toldSteps}
 use Rattle.rules.proofs.RefineHanded.{all-is}
 use Rattle.rules.proofs.RefineMerger.{itemWords, MergerIs, StreamIs, Onward, one-step, posted-no-record, is-map, part-head, state-head, item-head, map-at, same-words, words-same}
 use Rattle.rules.proofs.RefineQueue.{TakesPart, TakesState, merge-cases, part-whole, state-whole, tx-low, more-queued, still-queued}
@@ -52,14 +53,15 @@ module _ {sites : ℕ} {w : World} {v : Stream} (x : StreamIs sites w v) where
   with-merger n = record { protocol = v .protocol; merger = n; replayed = v .replayed }
 
   -- nothing is emitted
-  quiet : (e : Merging) (merged : ℕ → ℕ) (n : stream.Merger) → Steps sites v (with-merger n) → n .out ≡ m .out → e .words ≡ []
-      → MergerIs sites (e .merger) (e .queues) n → ((s : ℕ) → merged s ≡ n .took s) → Onward sites v (mergerStep w e merged .world)
+  quiet : (e : Merging) (merged : ℕ → ℕ) (n : stream.Merger) (s : Steps sites v (with-merger n)) → toldSteps s ≡ [] → n .out ≡ m .out → e .words ≡ []
+      → MergerIs sites (e .merger) (e .queues) n → ((s : ℕ) → merged s ≡ n .took s) → Onward sites v (mergerStep w e merged .world) []
   unfolding mergerStep
-  quiet e merged n s o k i c =
+  quiet e merged n s t o k i c =
       let r = x .refines in
       let y : w .stream ++ recordIn (e .words) ≡ w .stream = rw (k, append-nil) in (
         with-merger n,
         s,
+        t,
         record {
           refines = record { few = r .few; site = r .site; outside = r .outside; sent = r .sent; log = r .log; stream = rw y (r .stream) };
           merger = i;
@@ -130,7 +132,7 @@ module _ {sites : ℕ} {w : World} {v : Stream} (x : StreamIs sites w v) where
   abbrev After : List ℕ → ℕ → Type 0
   After ws i =
       Onward sites v (mergerStep w (mergeOf (w .merger) (w .queues) ws)
-      (upd (w .merged) (i + 1) (stepTaken (mergeOf (w .merger) (w .queues) ws .answer) (w .log (i + 1)) (w .merged (i + 1)) ws)) .world)
+      (upd (w .merged) (i + 1) (stepTaken (mergeOf (w .merger) (w .queues) ws .answer) (w .log (i + 1)) (w .merged (i + 1)) ws)) .world) []
 
   took-none : (s n : ℕ) (j : ℕ) → n ≡ m .took s → upd (w .merged) s n j ≡ m .took j
   took-none s n j e = upd-cases (λ j k. k ≡ m .took j) (w .merged) s n e (λ j a. x .merged j) j
@@ -221,7 +223,7 @@ module _ {sites : ℕ} {w : World} {v : Stream} (x : StreamIs sites w v) where
           rw d
           (quiet _ _ (stream.tookPart m (i + 1) e)
           (one-step (stream.merges _ (stream.takePart (i + 1) e (next-record (rPart e) part-next q) above beyond)))
-          refl refl (part-tables h)
+          refl refl refl (part-tables h)
           (λ j. took-all (i + 1) (counted ws (i + 1)) j (count-next ws (i + 1) (next-is ws (i + 1) f part-next))))
 
     module _ (n : ℕ) (q : getD (p .log (i + 1)) (f .place) (rState 0) ≡ rState n) (t : sourceAt g i .state ≤ n) where
@@ -281,17 +283,17 @@ module _ {sites : ℕ} {w : World} {v : Stream} (x : StreamIs sites w v) where
           (by-test (isNext ws (i + 1))
           (λ e. quiet _ _ (stream.tookState m (i + 1) n)
           (one-step (stream.merges _ (stream.takeState (i + 1) n (next-state e) state-low)))
-          refl refl
+          refl refl refl
           (state-tables (upd (m .state) (i + 1) n) (upd (m .took) (i + 1) (m .took (i + 1) + 1)) (upd-same (m .state) (i + 1) n)
           (λ k a. upd-other (m .state) (i + 1) n (k + 1) (λ b. a (omega arith))) h)
           (λ j. took-all (i + 1) (counted ws (i + 1)) j (count-next ws (i + 1) e)))
-          (λ e. quiet _ _ m stream.stop refl refl
+          (λ e. quiet _ _ m stream.stop refl refl refl
           (state-tables (m .state) (m .took) (state-same e) (λ k a. refl) h)
           (λ j. took-none (i + 1) (counted ws (i + 1)) j (count-same ws (i + 1) e))))
 
   module _ (z : Standing sites v) (ws : List ℕ) (h : Handed w (world.merge ws)) where
     abbrev Merged : Type 0
-    Merged = Onward sites v (step w (world.merge ws) .world)
+    Merged = Onward sites v (step w (world.merge ws) .world) []
 
     -- a record taken, by its site's index
     part-on : (i : ℕ) → recordHead ws .site ≡ i + 1 → i < sites → TakesPart (w .merger) (w .queues) ws (recordHead ws) i → FromLog ws (i + 1) → Merged
@@ -329,7 +331,7 @@ module _ {sites : ℕ} {w : World} {v : Stream} (x : StreamIs sites w v) where
 
         go : ((n : ℕ) × (mergeOf (w .merger) (w .queues) ws ≡ refusedMerger n (w .merger) (w .queues)))
             ⊎ (TakesPart (w .merger) (w .queues) ws (recordHead ws) (recordHead ws .site - 1) ⊎ TakesState (w .merger) (w .queues) ws (recordHead ws) (recordHead ws .site - 1)) → Merged
-        go (inl (n, d)) = rw d (quiet (refusedMerger n (w .merger) (w .queues)) _ m stream.stop refl refl (x .merger) (λ j. took-none (recordHead ws .site) _ j (x .merged (recordHead ws .site))))
+        go (inl (n, d)) = rw d (quiet (refusedMerger n (w .merger) (w .queues)) _ m stream.stop refl refl refl (x .merger) (λ j. took-none (recordHead ws .site) _ j (x .merged (recordHead ws .site))))
         go (inr (inl t)) =
             let c = part-clear (w .merger .house) (recordHead ws) (part-passed-good (w .merger .house) ws (t .ok) .head) in
             let (e, l) = index (recordHead ws .site) (c .site) in

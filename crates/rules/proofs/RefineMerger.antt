@@ -1,7 +1,7 @@
 -- The tie between the rules and the merger's machine: when the merger's queues, the stream and the copies are those of the machine's
 -- tables.
 use Prim.Native.Nat.{ℕ, _+_, _≤_, _<_}
-use mathlib.Core.Path.{_≡_, refl, _∙_}
+use mathlib.Core.Path.{_≡_, refl, ap, _∙_}
 use mathlib.Core.Bool.{true}
 use mathlib.Core.List.{List, [], _∷_, _++_, map}
 use native.Mathlib.Omega.{arith}
@@ -31,13 +31,16 @@ use Rattle.rules.specs.Merger.{sourceAt, queuedPart, writesIn}
 use Rattle.rules.specs.MergerKept.{Holds}
 use Rattle.rules.specs.Copy.{copyNumber, copyCoordinator, copyValue}
 use Rattle.rules.specs.World.{World, Is, here, there, sameWords}
+use Rattle.rules.specs.Book.{Fact}
 use Rattle.rules.proofs.Tables.{All}
 use Rattle.rules.proofs.Protocol.{Protocol, Msg, mJoin, mJoined, mPrepare, mConc, mCert, mVote, mCommit, mAbort, Moves, stop, more}
 use Rattle.rules.proofs.Frames.{in-range}
 use Rattle.rules.proofs.Refines.{encode, Posted, entryWords, partHeadOf, Refines}
+use Rattle.rules.proofs.RefineStep.{Follows}
 use Rattle.rules.proofs.Stream as stream
 use Rattle.rules.proofs.Stream.{Item, Stream, Step, Steps}
 use Rattle.rules.proofs.StreamClaims.{leftIn}
+use Rattle.rules.proofs.Told.{told, toldAll, toldSteps}
 
 -- The words of an item.
 abbrev pub keyWords : Keys → List ℕ
@@ -107,23 +110,33 @@ pub record StreamIs (sites : ℕ) (w : World) (v : Stream) : Type 0 where
   pub replayed : (c : ℕ) → w .replayed c ≡ v .replayed c
   pub copy : (c : ℕ) → CopyIs sites (w .copy c) (take (v .replayed c) (v .merger .out))
 
--- some steps on, the machine is that of a world
-abbrev pub Onward : ℕ → Stream → World → Type 0
-Onward sites v w = (u : Stream) × Steps sites v u × StreamIs sites w u
+-- some steps on, which tell these facts, the machine is that of a world
+abbrev pub Onward : ℕ → Stream → World → List Fact → Type 0
+Onward sites v w fs = (u : Stream) × (ss : Steps sites v u) × (toldSteps ss ≡ fs) × StreamIs sites w u
 
-pub one-step : {sites : ℕ} {v u : Stream} → Step sites v u → Steps sites v u
+abbrev pub one-step : {sites : ℕ} {v u : Stream} → Step sites v u → Steps sites v u
 one-step s = stream.more stream.stop s
 
 -- A call of a site: moves, and nothing of the merger or the copies.
-moved : {sites : ℕ} {v : Stream} {p q : Protocol} → Moves sites p q → v .protocol ≡ p → Steps sites v (record { protocol = q; merger = v .merger; replayed = v .replayed })
-moved {v = v} stop e = rw (← e) stream.stop
-moved {v = v} (more ms m) e = stream.more (moved ms e) (stream.moves _ m)
+module _ (g : stream.Merger) (n : ℕ → ℕ) where
+  abbrev beside : Protocol → Stream
+  beside p = record { protocol = p; merger = g; replayed = n }
 
-pub site-onward : {sites : ℕ} {w x : World} {v : Stream} → StreamIs sites w v → (q : Protocol) → Moves sites (v .protocol) q → Refines sites x q
-    → x .merger ≡ w .merger → x .queues ≡ w .queues → x .merged ≡ w .merged → x .stream ≡ w .stream → x .replayed ≡ w .replayed → x .copy ≡ w .copy → Onward sites v x
-site-onward {v = v} i q m r a b c d e f = (
+  moved : {sites : ℕ} {p q : Protocol} → Moves sites p q → Steps sites (beside p) (beside q)
+  moved stop = stream.stop
+  moved (more ms m) = stream.more (moved ms) (stream.moves _ m)
+
+  told-moved : {sites : ℕ} {p q : Protocol} (ms : Moves sites p q) → toldSteps (moved ms) ≡ toldAll ms
+  unfolding moved
+  told-moved stop = refl
+  told-moved (more ms m) = ap (λ (l : List Fact). l ++ told m) (told-moved ms)
+
+pub site-onward : {sites : ℕ} {w x : World} {v : Stream} {fs : List Fact} → StreamIs sites w v → Follows sites (v .protocol) x fs
+    → x .merger ≡ w .merger → x .queues ≡ w .queues → x .merged ≡ w .merged → x .stream ≡ w .stream → x .replayed ≡ w .replayed → x .copy ≡ w .copy → Onward sites v x fs
+site-onward {v = v} i (q, m, t, r) a b c d e f = (
   record { protocol = q; merger = v .merger; replayed = v .replayed },
-  moved m refl,
+  moved (v .merger) (v .replayed) m,
+  told-moved (v .merger) (v .replayed) m ∙ t,
   record {
     refines = r;
     merger = rw (a, b) (i .merger);

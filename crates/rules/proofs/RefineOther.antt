@@ -1,6 +1,6 @@
 -- Merge, emit, replay and value move nothing: they write no state, message or log of a site.
 use Prim.Native.Nat.{ℕ, _-_}
-use mathlib.Core.Path.{_≡_}
+use mathlib.Core.Path.{_≡_, refl}
 use mathlib.Core.Bool.{true}
 use mathlib.Core.List.{List, [], _∷_}
 use native.Mathlib.Omega.{arith}
@@ -63,23 +63,23 @@ emit-words g room queues =
     (λ x. rw x a-nil)
 
 module _ {sites : ℕ} {w : World} {p : Protocol} (r : Refines sites w p) where
-  merger-same : (e : Merging) (merged : ℕ → ℕ) → All IsRecord (recordIn (e .words)) → Follows sites p (mergerStep w e merged .world)
+  merger-same : (e : Merging) (merged : ℕ → ℕ) → All IsRecord (recordIn (e .words)) → Follows sites p (mergerStep w e merged .world) []
   unfolding mergerStep
   merger-same e merged h =
-      (p, stop, record { few = r .few; site = r .site; outside = r .outside; sent = r .sent; log = r .log; stream = all-append (r .stream) h })
+      (p, stop, refl, record { few = r .few; site = r .site; outside = r .outside; sent = r .sent; log = r .log; stream = all-append (r .stream) h })
 
-  pub merge-moves : (m : List ℕ) → Follows sites p (step w (world.merge m) .world)
+  pub merge-moves : (m : List ℕ) → Follows sites p (step w (world.merge m) .world) []
   unfolding step mergeStep
   merge-moves m = merger-same (mergeOf (w .merger) (w .queues) m) _ (rw (merge-silent (w .merger) (w .queues) m) a-nil)
 
-  pub emit-moves : (out : List ℕ) → Follows sites p (step w (world.emit out) .world)
+  pub emit-moves : (out : List ℕ) → Follows sites p (step w (world.emit out) .world) []
   unfolding step
   emit-moves out = merger-same (emitOf (w .merger) (length out) (w .queues)) (w .merged) (emit-words (w .merger) (length out) (w .queues))
 
-  pub replay-moves : (c : ℕ) (m : List ℕ) → Follows sites p (step w (world.replay c m) .world)
+  pub replay-moves : (c : ℕ) (m : List ℕ) → Follows sites p (step w (world.replay c m) .world) []
   unfolding step replayStep copyStep
-  replay-moves c m = (p, stop, record { few = r .few; site = r .site; outside = r .outside; sent = r .sent; log = r .log; stream = r .stream })
+  replay-moves c m = (p, stop, refl, record { few = r .few; site = r .site; outside = r .outside; sent = r .sent; log = r .log; stream = r .stream })
 
-  pub value-moves : (c k : ℕ) → Follows sites p (step w (world.value c k) .world)
+  pub value-moves : (c k : ℕ) → Follows sites p (step w (world.value c k) .world) []
   unfolding step
-  value-moves c k = (p, stop, r)
+  value-moves c k = (p, stop, refl, r)

@@ -189,16 +189,17 @@ module _ {sites : ℕ} {w : World} {v : Stream} (x : StreamIs sites w v) (z : St
         let e : ws ≡ itemWords sites (itemAt m n) = f .words ∙ ap (λ (k : ℕ). itemWords sites (itemAt m k)) is-next in
         rw (e, add-one n, take-suc (m .out) n pastItem l) (copy-more (itemAt m n) (all-at (x .placed) pastItem n l) (x .copy c))
 
-  pub replay-onward : (c : ℕ) (ws : List ℕ) → Handed w (world.replay c ws) → Onward sites v (step w (world.replay c ws) .world)
+  pub replay-onward : (c : ℕ) (ws : List ℕ) → Handed w (world.replay c ws) → Onward sites v (step w (world.replay c ws) .world) []
   unfolding step replayStep copyStep stepTaken
   replay-onward c ws h = go (replay-cases (w .copy c) ws)
     where
-      go : ((n : ℕ) × (replayOf (w .copy c) ws ≡ record { answer = Refused n; copy = w .copy c })) ⊎ Replays (w .copy c) ws → Onward sites v (step w (world.replay c ws) .world)
+      go : ((n : ℕ) × (replayOf (w .copy c) ws ≡ record { answer = Refused n; copy = w .copy c })) ⊎ Replays (w .copy c) ws → Onward sites v (step w (world.replay c ws) .world) []
       go (inl (n, e)) =
           let r = x .refines in
           rw e (
             v,
             stream.stop,
+            refl,
             record {
               refines = record { few = r .few; site = r .site; outside = r .outside; sent = r .sent; log = r .log; stream = r .stream };
               merger = x .merger;
@@ -216,6 +217,7 @@ module _ {sites : ℕ} {w : World} {v : Stream} (x : StreamIs sites w v) (z : St
           rw (t .is) (
             _,
             one-step (stream.replays c l),
+            refl,
             record {
               refines = record { few = r .few; site = r .site; outside = r .outside; sent = r .sent; log = r .log; stream = r .stream };
               merger = x .merger;
@@ -227,6 +229,6 @@ module _ {sites : ℕ} {w : World} {v : Stream} (x : StreamIs sites w v) (z : St
             },
           )
 
-  pub value-onward : (c k : ℕ) → Onward sites v (step w (world.value c k) .world)
+  pub value-onward : (c k : ℕ) → Onward sites v (step w (world.value c k) .world) []
   unfolding step
-  value-onward c k = (v, stream.stop, x)
+  value-onward c k = (v, stream.stop, refl, x)

@@ -2,7 +2,7 @@
 use Prim.Native.Nat.{ℕ, _-_, _≤_, max}
 use mathlib.Core.Path.{_≡_, refl, sym, ap, _∙_}
 use mathlib.Core.Bool.{Bool, false}
-use mathlib.Core.List.{List, []}
+use mathlib.Core.List.{List, [], _∷_}
 use native.Mathlib.Omega.{arith}
 use borrow.Author.Tests.{eqb-true, eqb-false}
 use lib.Dec.{eqb}
@@ -22,6 +22,7 @@ use Rattle.rules.specs.CourseLaws.{no-entries}
 use Rattle.rules.specs.Course.{newSub, takenFrom, sendTo, raise, withCourseOf, withStage, withMark, preparedStep, certifiedStep}
 use Rattle.rules.specs.Deliver.{arrived}
 use Rattle.rules.specs.World.{upd}
+use Rattle.rules.specs.Book as book
 use Rattle.rules.proofs.Tables.{upd-other}
 use Rattle.rules.proofs.Protocol.{Protocol, mJoin, mJoined, mPrepare, mConc, mCert, mVote, Next, AtStage, courseAt, Covers, Certified, inst, joins, full, prepared, lost, unknown, certified, rejects}
 use Rattle.rules.proofs.Refines.{IsFree, sliceOf, SiteIs}
@@ -52,7 +53,7 @@ module _ {sites : ℕ} (p : Protocol) (s a t : ℕ) {x : Site} {base lists : Lis
   begins = sendTo (namedTurn x a t) kind.joined a 0 0 []
 
   pub joins-acts : (free : ℕ) → Spot (x .live) free t → Next p a s (mJoin t) → IsFree (p .live s t)
-      → (q : Protocol) × Acts sites s p q (settle x free (begins .turn)) base lists (begins .words)
+      → (q : Protocol) × Acts sites s p q (settle x free (begins .turn)) base lists (begins .words) (book.began s t ∷ [])
   unfolding settle sendTo
   joins-acts free spot next gone =
       let m = mJoined t 0 in
@@ -67,7 +68,7 @@ module _ {sites : ℕ} (p : Protocol) (s a t : ℕ) {x : Site} {base lists : Lis
       )
 
   pub full-acts : (r : ℕ) → (r ≡ 0 → ⊥) → Next p a s (mJoin t)
-      → (let c = sendTo (namedTurn x a t) kind.joined a 0 r [] in (q : Protocol) × Acts sites s p q (spokenSite x c) base lists (c .words))
+      → (let c = sendTo (namedTurn x a t) kind.joined a 0 r [] in (q : Protocol) × Acts sites s p q (spokenSite x c) base lists (c .words) [])
   unfolding sendTo
   full-acts r some next =
       let m = mJoined t r in (
@@ -79,7 +80,7 @@ module _ {sites : ℕ} (p : Protocol) (s a t : ℕ) {x : Site} {base lists : Lis
 
   -- PREPARE for a transaction not held: voted no.
   pub unknown-acts : (n mask r : ℕ) → (r ≡ 0 → ⊥) → Next p a s (mPrepare t n mask) → IsFree (p .live s t)
-      → (let u = raise (namedTurn x a t) n in let c = sendTo u kind.vote a (u .counters .clock) r [] in (q : Protocol) × Acts sites s p q (spokenSite x c) base lists (c .words))
+      → (let u = raise (namedTurn x a t) n in let c = sendTo u kind.vote a (u .counters .clock) r [] in (q : Protocol) × Acts sites s p q (spokenSite x c) base lists (c .words) [])
   unfolding sendTo raise
   unknown-acts n mask r some next gone =
       let m = mVote t (max (p .clock s) n) r in
@@ -98,7 +99,7 @@ module _ {sites : ℕ} (p : Protocol) (s a t : ℕ) {x : Site} {base lists : Lis
 
     prepared-one : (n mask : ℕ) (es : List ℕ) → Next p a s (mPrepare t n mask) → AtStage p s t stage.active → (coordinatorOf t ≡ s → ⊥) → Covers p s t es
         → (let c = sendTo (withCourseOf (raisedTurn n) (withStage (raisedTurn n .sub .course) mask stage.prepared)) kind.conc a 0 0 es in
-        (q : Protocol) × Acts sites s p q (settle x place (c .turn)) base lists (c .words))
+        (q : Protocol) × Acts sites s p q (settle x place (c .turn)) base lists (c .words) [])
     unfolding settle sendTo raise arrived
     prepared-one n mask es next active apart covers =
         let m = mConc t es in
@@ -115,7 +116,7 @@ module _ {sites : ℕ} (p : Protocol) (s a t : ℕ) {x : Site} {base lists : Lis
 
     lost-one : (n mask r : ℕ) → (r ≡ 0 → ⊥) → Next p a s (mPrepare t n mask) → AtStage p s t stage.active
         → (let c = sendTo (withCourseOf (raisedTurn n) (withStage (raisedTurn n .sub .course) mask stage.rejected)) kind.vote a (raisedTurn n .counters .clock) r [] in
-        (q : Protocol) × Acts sites s p q (settle x place (c .turn)) base lists (c .words))
+        (q : Protocol) × Acts sites s p q (settle x place (c .turn)) base lists (c .words) [])
     unfolding settle sendTo raise arrived
     lost-one n mask r some next active =
         let m = mVote t (max (p .clock s) n) r in
@@ -133,8 +134,8 @@ module _ {sites : ℕ} (p : Protocol) (s a t : ℕ) {x : Site} {base lists : Lis
 
     pub prepared-acts : (n mask : ℕ) (gone : Bool) (es : List ℕ) → Next p a s (mPrepare t n mask) → AtStage p s t stage.active → (coordinatorOf t ≡ s → ⊥)
         → (gone ≡ false → Covers p s t es)
-        → (let c = preparedStep (raisedTurn n) a mask gone es in (q : Protocol) × Acts sites s p q (settle x place (c .turn)) base lists (c .words))
-    unfolding preparedStep
+        → (let c = preparedStep (raisedTurn n) a mask gone es in (q : Protocol) × Acts sites s p q (settle x place (c .turn)) base lists (c .words) (book.commits t (c .answer)))
+    unfolding preparedStep sendTo
     prepared-acts n mask gone es next active apart covers =
         by-test gone
         (λ l. rw l (lost-one n mask reason.uncertain (λ z. omega arith) next active))
@@ -143,7 +144,7 @@ module _ {sites : ℕ} (p : Protocol) (s a t : ℕ) {x : Site} {base lists : Lis
     -- CERT: it votes.
     yes-one : (es : List ℕ) → Next p a s (mCert t es) → AtStage p s t stage.prepared → Certified p s t es
         → (let u = arrived x place a in let c = sendTo (withCourseOf u (withMark (u .sub .course) (u .counters .clock))) kind.vote a (u .counters .clock) 0 [] in
-        (q : Protocol) × Acts sites s p q (settle x place (c .turn)) base lists (c .words))
+        (q : Protocol) × Acts sites s p q (settle x place (c .turn)) base lists (c .words) [])
     unfolding settle sendTo arrived
     yes-one es next g v =
         let m = mVote t (p .clock s) 0 in
@@ -160,7 +161,7 @@ module _ {sites : ℕ} (p : Protocol) (s a t : ℕ) {x : Site} {base lists : Lis
 
     no-one : (es : List ℕ) (r : ℕ) → (r ≡ 0 → ⊥) → Next p a s (mCert t es) → AtStage p s t stage.prepared
         → (let u = arrived x place a in let c = sendTo (withCourseOf u (withStage (u .sub .course) (u .sub .course .mask) stage.rejected)) kind.vote a (u .counters .clock) r [] in
-        (q : Protocol) × Acts sites s p q (settle x place (c .turn)) base lists (c .words))
+        (q : Protocol) × Acts sites s p q (settle x place (c .turn)) base lists (c .words) [])
     unfolding settle sendTo arrived
     no-one es r some next g =
         let m = mVote t (p .clock s) r in
@@ -176,8 +177,8 @@ module _ {sites : ℕ} (p : Protocol) (s a t : ℕ) {x : Site} {base lists : Lis
         )
 
     pub certified-acts : (es : List ℕ) (v : ℕ) → Next p a s (mCert t es) → AtStage p s t stage.prepared → (v ≡ 0 → Certified p s t es)
-        → (let c = certifiedStep (arrived x place a) a v in (q : Protocol) × Acts sites s p q (settle x place (c .turn)) base lists (c .words))
-    unfolding certifiedStep
+        → (let c = certifiedStep (arrived x place a) a v in (q : Protocol) × Acts sites s p q (settle x place (c .turn)) base lists (c .words) (book.commits t (c .answer)))
+    unfolding certifiedStep sendTo
     certified-acts es v next g f =
         by-test (eqb v 0)
         (λ e. rw e (yes-one es next g (f (eqb-true v 0 e))))

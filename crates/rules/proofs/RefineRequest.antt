@@ -29,6 +29,7 @@ use Rattle.rules.specs.Effect.{turnAt, settle}
 use Rattle.rules.specs.CourseLaws.{no-entries}
 use Rattle.rules.specs.Course.{withCourseOf, sendAll, withRequest, prepareStep, castStep}
 use Rattle.rules.specs.World.{upd}
+use Rattle.rules.specs.Book as book
 use Rattle.rules.proofs.Tables.{upd₂, upd₂-same, upd-same, upd-other}
 use Rattle.rules.proofs.Protocol.{Protocol, Msg, mPrepare, inst, Within, Moves, courseAt, AtStage, Certified, postedAll, withCourseAt, set-gathered, set-asked, set-mask, set-made, set-list, request, stop, more}
 use Rattle.rules.proofs.Invariants.{In, Invariant}
@@ -148,12 +149,13 @@ module _ {sites s t place : ℕ} {x : Site} {base lists : List ℕ} {p : Protoco
   requests c = more stop (request s t own e (c .active) (c .heard) (c .joined) (covers y (i .parts) a (c .kept)))
 
   -- with PREPARE to the others
-  pub prepare-acts : Ready → Acts sites s p (requestAt p s t own) (settle x place (prepareStep turn .turn)) base made-lists (prepareStep turn .words)
-  unfolding settle turnAt sendAll
+  pub prepare-acts : Ready → Acts sites s p (requestAt p s t own) (settle x place (prepareStep turn .turn)) base made-lists (prepareStep turn .words) (book.commits t (prepareStep turn .answer))
+  unfolding settle turnAt sendAll requests
   prepare-acts c =
       rw prepare-is
       (record {
         moves = requests c;
+        tells = refl;
         elsewhere = request-elsewhere;
         grows = grows-all (p .post) s (courseAt p s t .mask) message;
         log = λ j. refl;
@@ -164,12 +166,13 @@ module _ {sites s t place : ℕ} {x : Site} {base lists : List ℕ} {p : Protoco
       })
 
   -- alone
-  pub lone-request-acts : Ready → ((r : ℕ) → In (courseAt p s t .mask) r → (r ≡ s → ⊥) → ⊥) → Acts sites s p (requestAt p s t own) (settle x place turn) base made-lists []
-  unfolding settle turnAt
+  pub lone-request-acts : Ready → ((r : ℕ) → In (courseAt p s t .mask) r → (r ≡ s → ⊥) → ⊥) → Acts sites s p (requestAt p s t own) (settle x place turn) base made-lists [] []
+  unfolding settle turnAt requests
   lone-request-acts c alone =
       let same = others-lone (p .post) s (courseAt p s t .mask) message alone in
       record {
         moves = requests c;
+        tells = refl;
         elsewhere = request-elsewhere;
         grows = grows-all (p .post) s (courseAt p s t .mask) message;
         log = λ j. refl;
@@ -207,7 +210,7 @@ module _ {sites s t place : ℕ} {x : Site} {base lists : List ℕ} {p : Protoco
     (y : SiteIs sites s x base lists (sliceOf p s)) (a : AtPlace x p s t place) (valid : siteOk x ≡ true) where
   pub lone-commit-acts : Ready few i e y a valid → allHeard 0 (courseAt p s t .mask) ≡ true
       → (let own = concurrent x place in let es = joined own (entryCount own) in let c = castStep (turn few i e y a valid) (voteOf x place es (entryCount es)) es in
-      (q : Protocol) × Acts sites s p q (settle x place (c .turn)) base (putAt (sizes.gathered * place) lists own) (c .words))
+      (q : Protocol) × Acts sites s p q (settle x place (c .turn)) base (putAt (sizes.gathered * place) lists own) (c .words) (book.commits t (c .answer)))
   lone-commit-acts c h =
       let own = concurrent x place in
       let es = joined own (entryCount own) in

@@ -9,18 +9,38 @@ use lib.Dec.{eqb, leb}
 use lib.ListN.{length-append, List·getD-append}
 use Rattle.laws.specs.Choice.{by-test}
 use Rattle.kinds.specs.declared.Site.{Site}
+use Rattle.kinds.specs.declared.Answer.{Answer}
 use Rattle.rules.specs.House.{coordinatorOf}
 use Rattle.rules.specs.Valid.{siteOk}
 use Rattle.rules.specs.Effect.{Effect, refused, unless}
-use Rattle.rules.specs.World.{World, upd, siteStep, logStep, messagesIn, splitWords, recordIn}
+use Rattle.rules.specs.World.{World, Call, upd, siteStep, logStep, messagesIn, splitWords, recordIn}
+use Rattle.rules.specs.World as world
+use Rattle.rules.specs.Book.{Fact, factsOf}
 use Rattle.rules.proofs.Tables.{upd₂, upd-same, upd-other, upd-cases, upd₂-cases, All, all-map, all-append}
 use Rattle.rules.proofs.Protocol.{Protocol, Msg, mAbort, Moves, stop}
+use Rattle.rules.proofs.Told.{toldAll}
 use Rattle.rules.proofs.Frames.{set-not}
 use Rattle.rules.proofs.Refines.{Posted, encode, recWords, sliceOf, SiteIs, Refines}
 
--- the protocol makes some moves, or none, and the world is then that of its tables
-abbrev pub Follows : ℕ → Protocol → World → Type 0
-Follows sites p w = (q : Protocol) × Moves sites p q × Refines sites w q
+-- the protocol makes some moves, or none, which tell these facts, and the world is then that of its tables
+abbrev pub Follows : ℕ → Protocol → World → List Fact → Type 0
+Follows sites p w fs = (q : Protocol) × (m : Moves sites p q) × (toldAll m ≡ fs) × Refines sites w q
+
+-- what a call tells of the protocol: all that the book notes, but for replays, which the protocol does not know
+abbrev pub toldBy : Call → Answer → List ℕ → List Fact
+toldBy (world.begin s) a words = factsOf (world.begin s) a words
+toldBy (world.enlist s out tx site) a words = factsOf (world.enlist s out tx site) a words
+toldBy (world.read s tx key) a words = factsOf (world.read s tx key) a words
+toldBy (world.write s tx key v) a words = factsOf (world.write s tx key v) a words
+toldBy (world.commit s out tx) a words = factsOf (world.commit s out tx) a words
+toldBy (world.abandon s out tx) a words = factsOf (world.abandon s out tx) a words
+toldBy (world.message s out m) a words = factsOf (world.message s out m) a words
+toldBy (world.install s out) a words = factsOf (world.install s out) a words
+toldBy (world.report s out) a words = factsOf (world.report s out) a words
+toldBy (world.merge m) a words = factsOf (world.merge m) a words
+toldBy (world.emit out) a words = factsOf (world.emit out) a words
+toldBy (world.replay copy m) a words = []
+toldBy (world.value copy key) a words = factsOf (world.value copy key) a words
 
 -- the cause of a refusal, as a case
 pub by-code : (P : Effect → Type 0) (code : ℕ) (s : Site) (lent : List ℕ) (e : Effect) → (code ≡ 0 → P e) → P (refused code s lent) → P (unless code s lent e)
@@ -125,8 +145,8 @@ module _ {sites : ℕ} {w : World} {p : Protocol} (r : Refines sites w p) (s : �
       }
 
   -- so the protocol makes no move
-  pub stays : (e : Effect) → e .site ≡ w .site s → e .words ≡ [] → Follows sites p (siteStep w s e (w .base s) (w .lists s) .world)
-  stays e a b = (p, stop, unchanged e (w .base s) (w .lists s) a b refl refl)
+  pub stays : (e : Effect) → e .site ≡ w .site s → e .words ≡ [] → Follows sites p (siteStep w s e (w .base s) (w .lists s) .world) []
+  stays e a b = (p, stop, refl, unchanged e (w .base s) (w .lists s) a b refl refl)
 
   pub unlogged : (e : Effect) (base : List ℕ) → e .site ≡ w .site s → e .words ≡ [] → base ≡ w .base s
       → Refines sites (logStep w s e base .world) p

@@ -1,6 +1,6 @@
 -- A message taken: what it leaves at the site, with a part changed and a reply sent, or without.
 use Prim.Native.Nat.{ℕ, _+_, _-_, _≤_}
-use mathlib.Core.Path.{_≡_, ap, _∙_}
+use mathlib.Core.Path.{_≡_, refl, ap, _∙_}
 use mathlib.Core.List.{List, [], _∷_, _++_}
 use lib.ListN.{getD}
 use Rattle.kinds.specs.Sizes as sizes
@@ -12,6 +12,7 @@ use Rattle.rules.specs.House.{coordinatorOf}
 use Rattle.rules.specs.Course.{takenFrom, sentTo, sendTo}
 use Rattle.rules.proofs.Tables.{upd₂}
 use Rattle.rules.proofs.Protocol.{Protocol, Msg, Rec, Whole, Move, stop, more}
+use Rattle.rules.proofs.Told.{told}
 use Rattle.rules.proofs.Refines.{kindOf, txIn, clockIn, argumentIn, entriesIn, Posted, sliceOf, Slice, SiteIs}
 use Rattle.rules.proofs.RefineSite.{site-channels, site-clock, channels-one, channels-taken}
 use Rattle.rules.proofs.RefineStep.{Elsewhere, row-other, column-other, grows-none}
@@ -76,10 +77,11 @@ module _ (p : Protocol) (s a : ℕ) where
 module _ {sites : ℕ} {p q : Protocol} (s a : ℕ) (move : Move sites p q) (clock : (j : ℕ) → (j ≡ s → ⊥) → q .clock j ≡ p .clock j) (serial : q .serial ≡ p .serial)
     (live : (j : ℕ) → (j ≡ s → ⊥) → q .live j ≡ p .live j) (taken : q .taken ≡ upd₂ (p .taken) a s (p .taken a s + 1)) (log : q .log ≡ p .log) where
   pub quiet-acts : {x : Site} {base lists : List ℕ} → q .post ≡ p .post → ((t : ℕ) → (coordinatorOf t ≡ s → ⊥) → q .gathered t ≡ p .gathered t)
-      → SiteIs sites s x base lists (sliceOf q s) → Acts sites s p q x base lists []
+      → SiteIs sites s x base lists (sliceOf q s) → Acts sites s p q x base lists [] (told move)
   quiet-acts post gathered y =
       record {
         moves = more stop move;
+        tells = refl;
         elsewhere = took-elsewhere p s a clock serial live (λ j k n. ap (λ (f : ℕ → ℕ → List Msg). f j k) post) taken log gathered;
         grows = rw post (grows-none (p .post));
         log = λ j. ap (λ (f : ℕ → List Rec). f j) log;
@@ -88,10 +90,11 @@ module _ {sites : ℕ} {p q : Protocol} (s a : ℕ) (move : Move sites p q) (clo
       }
 
   pub reply-acts : {x : Site} {base lists words : List ℕ} (m : Msg) → q .post ≡ upd₂ (p .post) s a (p .post s a ++ (m ∷ [])) → q .gathered ≡ p .gathered
-      → SiteIs sites s x base lists (sliceOf q s) → Made (Posted (upd₂ (p .post) s a (p .post s a ++ (m ∷ [])))) words → Acts sites s p q x base lists words
+      → SiteIs sites s x base lists (sliceOf q s) → Made (Posted (upd₂ (p .post) s a (p .post s a ++ (m ∷ [])))) words → Acts sites s p q x base lists words (told move)
   reply-acts m post gathered y k =
       record {
         moves = more stop move;
+        tells = refl;
         elsewhere =
             took-elsewhere p s a clock serial live (λ j k n. ap (λ (f : ℕ → ℕ → List Msg). f j k) post ∙ reply-elsewhere p s a m j k n) taken log
             (λ t n. ap (λ (f : ℕ → List ℕ). f t) gathered);

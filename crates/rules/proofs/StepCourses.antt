@@ -215,7 +215,7 @@ module _ (sites : ℕ) (p : Protocol) (i : Invariant sites p) where
   unfolding newSub withParticipant withDecision withMark withRequest withStage
   step q (begin s t l m n e) = let h = blank p s t (i .account) l (new-tx sites p s t (i .parts) n e s) in one s t _ (at-active _ _ _ _ _ _ _ refl (h .made) (h .yes))
   step q (enlist s t r c a l m n o) = let h = all s t .active a in one s t _ (at-active _ _ _ _ _ _ _ a (h .0) (h .1))
-  step q (access s t b a w f) = one s t _ (all s t)
+  step q (access s t b fs a told w f) = one s t _ (all s t)
   step q (request s t es c a l r v) = requested s t (entryCount es) (courseAt p s t .mask) c a refl
   step q (abort s t c a d) = gone s t
   step q (cast s t es c a l w v) = voted s t a

@@ -261,7 +261,7 @@ module _ (sites : ℕ) (p : Protocol) (i : Invariant sites p) where
   step : (q : Protocol) → Move sites p q → Parts sites q
   step q (begin s t l m n e) = began s t l m n e
   step q (enlist s t r c a l m n o) = course q s t _ (λ f. omega arith) same refl
-  step q (access s t b a w f) = parts-access sites p s t b (λ z. omega arith) (i .parts)
+  step q (access s t b fs a told w f) = parts-access sites p s t b (λ z. omega arith) (i .parts)
   step q (request s t es c a l r v) = course q s t _ (λ f. omega arith) same refl
   step q (abort s t c a d) = gone q s t same refl
   step q (cast s t es c a l w v) = course q s t _ (λ f. omega arith) same refl

@@ -227,7 +227,7 @@ module _ (sites : ℕ) (p : Protocol) (h : sites ≤ sizes.sites) (i : Invariant
       one i l s t _ (λ u x. same)
       (λ c. begun sites p i q h s t a b c (new-tx sites p s t (i .parts) n e) refl refl refl _)
   step q (enlist s t r c a x y n o) l = one i l s t _ (λ u x. same) (λ c. enlisted i l s t c r (omega arith) a same)
-  step q (access s t b a w f) l = one i l s t _ (λ u x. same) (λ c. kept-here i l s t c same)
+  step q (access s t b fs a told w f) l = one i l s t _ (λ u x. same) (λ c. kept-here i l s t c same)
   step q (request s t es c a x r v) l =
       one i l s t _ (λ u n. let z = others i l s t c u n in (upd-other (p .asked) t _ u z, upd-other (p .gathered) t _ u z, refl, refl))
       (λ c. requested i l s t c es _ a (v .whole) (upd-same (p .asked) t true, upd-same (p .mask) t _) (upd-same (p .gathered) t es)

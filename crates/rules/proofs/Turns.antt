@@ -99,7 +99,7 @@ module _ {sites : ℕ} {p : Protocol} (i : Invariant sites p) where
   unfolding newSub withParticipant withReply withDecision withMark withRequest withStage noSub
   turns q (begin s t l m n e) = began q s t _ refl refl refl (new-tx sites p s t (i .parts) n e s) refl
   turns q (enlist s t r c a l m n o) = stayed q s t _ none refl refl
-  turns q (access s t b a w f) =
+  turns q (access s t b fs a told w f) =
       one q s t _ (λ j u x. (refl, refl, upd₂-other (p .keys) s t b j u x))
       (t-reads refl refl a a (λ u n. upd₂-other (p .keys) s t b s u (λ z. n (z .1)))
       (here₂ (λ (c : Keys). (k : ℕ) → wroteKey c k ≡ true → wroteKey (p .live s t .keys) k ≡ false → Unwritten p s t k) (p .keys) s t b f))
@@ -132,7 +132,7 @@ module _ {sites : ℕ} {p : Protocol} (i : Invariant sites p) where
   pub logs : (q : Protocol) → Move sites p q → (s : ℕ) → Logged p s (q .log s)
   logs q (begin s t l m n e) = quiet
   logs q (enlist s t r c a l m n o) = quiet
-  logs q (access s t b a w f) = quiet
+  logs q (access s t b fs a told w f) = quiet
   logs q (request s t es c a l r v) = quiet
   logs q (abort s t c a d) = quiet
   logs q (cast s t es c a l w v) = quiet

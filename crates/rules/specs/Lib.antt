@@ -44,5 +44,6 @@ pub mod MergerLaws
 pub mod MergerJoin
 pub mod MergerKept
 pub mod DeliverLaws
+pub mod DispatchLaws
 pub mod ListLaws
 pub mod InstallLaws

@@ -1,0 +1,107 @@
+-- The book with facts behind it: what stands in it, what stands before what, and each transaction's last writes.
+use Prim.Native.Nat.{ℕ}
+use mathlib.Core.Path.{_≡_, refl, sym, ap, _∙_}
+use mathlib.Core.Logic.{_⊎_, inl, inr, ⊎-elim}
+use mathlib.Core.List.{List, [], _∷_, _++_, append-assoc}
+use native.Mathlib.Omega.{arith}
+use lib.ListN.{length}
+use Rattle.kinds.specs.State.{Value}
+use Rattle.rules.specs.World.{Is, here, there}
+use Rattle.rules.specs.Book as book
+use Rattle.rules.specs.Book.{Fact}
+use Rattle.rules.specs.Claim.{Before, LastWrite}
+use Rattle.rules.proofs.Tables.{All}
+use Rattle.rules.proofs.RefineHanded.{all-is}
+use Rattle.rules.proofs.BookReplays.{is-append}
+
+-- What stands in a list.
+pub none-is : {A : Type 0} {a : A} → Is a [] → ⊥
+none-is = elim [ ]
+
+pub is-cases : {A : Type 0} {a x : A} {l : List A} → Is a (x ∷ l) → (a ≡ x) ⊎ Is a l
+is-cases here = inl refl
+is-cases (there i) = inr i
+
+-- in one with another before or behind it
+pub is-kept : {A : Type 0} {a : A} {b : List A} (l : List A) → Is a b → Is a (b ++ l)
+is-kept l here = here
+is-kept l (there i) = there (is-kept l i)
+
+pub is-behind : {A : Type 0} {a : A} (b : List A) {l : List A} → Is a l → Is a (b ++ l)
+is-behind [] i = i
+is-behind (x ∷ b) i = there (is-behind b i)
+
+-- the last of a list with one more
+pub is-last : {A : Type 0} {a : A} (b : List A) → Is a (b ++ (a ∷ []))
+is-last b = is-behind b here
+
+-- Facts by kind: a read or a write tells those of one kind, and so does every other move.
+abbrev pub factKind : Fact → ℕ
+factKind (book.began s t) = 0
+factKind (book.used t k) = 1
+factKind (book.wrote t k v) = 1
+factKind (book.committed t n c) = 2
+factKind (book.installed s n c) = 3
+factKind (book.replayed y n c) = 4
+
+abbrev pub OfKind : ℕ → List Fact → Type 0
+OfKind k = All (λ f. factKind f ≡ k)
+
+-- behind the book there are only facts of another kind
+pub old : {f : Fact} {k : ℕ} (b l : List Fact) → OfKind k l → (factKind f ≡ k → ⊥) → Is f (b ++ l) → Is f b
+old b l a n i = ⊎-elim (λ j. j) (λ j. absurd (n (all-is a j))) (is-append b l i)
+
+-- Before.
+pub before-second : {f g : Fact} {b : List Fact} → Before f g b → Is g b
+before-second (p, q, e, i, j) = rw e (is-behind p j)
+
+pub before-kept : {f g : Fact} {b : List Fact} (l : List Fact) → Before f g b → Before f g (b ++ l)
+before-kept l (p, q, e, i, j) = (p, q ++ l, rw e (append-assoc p q l), i, is-kept l j)
+
+pub before-here : {f g : Fact} {b l : List Fact} → Is f b → Is g l → Before f g (b ++ l)
+before-here {b = b} {l = l} i j = (b, l, refl, i, j)
+
+-- where the first stands in a list, and the second behind it, each may stand in either part
+pub before-append : {f g : Fact} (b l : List Fact) → Before f g (b ++ l) → Before f g b ⊎ ((Is f b × Is g l) ⊎ Before f g l)
+before-append [] l h = inr (inr h)
+before-append (x ∷ b) l ([], q, e, i, j) = absurd (none-is i)
+before-append {f} {g} (x ∷ b) l (y ∷ p, q, e, i, j) =
+    ⊎-elim (λ z. first (z ∙ sym heads) (is-append b l (rw tails (is-behind p j)))) (λ m. later (before-append b l (p, q, tails, m, j))) (is-cases i)
+  where
+    heads : x ≡ y
+    heads = cc
+
+    tails : b ++ l ≡ p ++ q
+    tails = cc
+
+    later : Before f g b ⊎ ((Is f b × Is g l) ⊎ Before f g l) → Before f g (x ∷ b) ⊎ ((Is f (x ∷ b) × Is g l) ⊎ Before f g l)
+    later (inl (u, v, d, m, n)) = inl (x ∷ u, v, ap (λ (z : List Fact). x ∷ z) d, there m, n)
+    later (inr (inl (m, n))) = inr (inl (there m, n))
+    later (inr (inr h)) = inr (inr h)
+
+    first : f ≡ x → Is g b ⊎ Is g l → Before f g (x ∷ b) ⊎ ((Is f (x ∷ b) × Is g l) ⊎ Before f g l)
+    first z (inl n) = rw z (inl (x ∷ [], b, refl, here, n))
+    first z (inr n) = rw z (inr (inl (here, n)))
+
+pub not-alone : {f g x : Fact} → Before f g (x ∷ []) → ⊥
+not-alone ([], q, e, i, j) = none-is i
+not-alone (y ∷ [], [], e, i, j) = none-is j
+not-alone (y ∷ [], z ∷ q, e, i, j) = omega (arith, ap (λ (l : List Fact). length l) e)
+not-alone (y ∷ u ∷ p, q, e, i, j) = omega (arith, ap (λ (l : List Fact). length l) e)
+
+-- where no second stands behind, it stood so before
+pub before-old : {f g : Fact} (b l : List Fact) → (Is g l → ⊥) → Before f g (b ++ l) → Before f g b
+before-old {f} {g} b l n h = go (before-append b l h)
+  where
+    go : Before f g b ⊎ ((Is f b × Is g l) ⊎ Before f g l) → Before f g b
+    go (inl k) = k
+    go (inr (inl (i, j))) = absurd (n j)
+    go (inr (inr k)) = absurd (n (before-second k))
+
+-- The last write.
+pub last-kept : {t k : ℕ} {v : Value} {b : List Fact} (l : List Fact) → ((u : Value) → Is (book.wrote t k u) l → ⊥) → LastWrite b t k v → LastWrite (b ++ l) t k v
+last-kept {t} {k} {v} l n (p, q, e, g) =
+    (p, q ++ l, rw e (append-assoc p (book.wrote t k v ∷ q) l), λ u i. ⊎-elim (λ j. g u j) (λ j. n u j) (is-append q l i))
+
+pub last-fresh : {t k : ℕ} {v : Value} (b l : List Fact) → ((u : Value) → Is (book.wrote t k u) l → ⊥) → LastWrite (b ++ (book.wrote t k v ∷ l)) t k v
+last-fresh b l n = (b, l, refl, n)

@@ -1,0 +1,105 @@
+-- The book after any moves: each tells what it did to the tables that the book is about.
+use Prim.Native.Nat.{ℕ, _+_, _≤_}
+use mathlib.Core.Path.{_≡_, refl, sym}
+use mathlib.Core.Bool.{true, false, true≢false}
+use mathlib.Core.List.{List, [], _∷_, _++_, append-assoc}
+use native.Mathlib.Omega.{arith}
+use Rattle.kinds.specs.Stage as stage
+use Rattle.rules.specs.House.{coordinatorOf}
+use Rattle.rules.specs.Install.{entryOf}
+use Rattle.rules.specs.Book as book
+use Rattle.rules.specs.Book.{Fact}
+use Rattle.rules.proofs.Protocol.{Protocol, AtStage, courseAt, Move, Moves, stop, more, begin, enlist, access, request, abort, cast, decide, install, report, joins, full, joined, prepared, lost, unknown, gathers, certified, rejects, votes, commits, aborts, passes, freshProtocol}
+use Rattle.rules.proofs.Told.{told, toldAll, toldStep, toldSteps}
+use Rattle.rules.proofs.Invariants.{Held, Invariant}
+use Rattle.rules.proofs.Frames.{new-tx, new-join}
+use Rattle.rules.proofs.StepParts.{inst-report}
+use Rattle.rules.proofs.Reached.{invariant-moves}
+use Rattle.rules.proofs.Stream as stream
+use Rattle.rules.proofs.Stream.{Stream, Steps}
+use Rattle.rules.proofs.StreamReached.{Standing, standing-steps}
+use Rattle.rules.proofs.BookLists.{none-is, before-second}
+use Rattle.rules.proofs.Booked.{Booked}
+use Rattle.rules.proofs.BookKept.{same, booked-quiet}
+use Rattle.rules.proofs.BookBegins.{booked-began}
+use Rattle.rules.proofs.BookAccess.{tells, booked-accessed}
+use Rattle.rules.proofs.BookInstalls.{booked-decided, booked-installed}
+
+module _ {sites : ℕ} {p : Protocol} {b : List Fact} (i : Invariant sites p) (x : Booked sites b p) where
+  -- the pair that an install tells is the entry's
+  installed : (q : Protocol) (s t : ℕ) → Booked sites (b ++ (book.installed s (entryOf (p .live s t) .number) (coordinatorOf (entryOf (p .live s t) .tx)) ∷ [])) q
+      → AtStage p s t stage.decided → Booked sites (b ++ (book.installed s (courseAt p s t .number) (coordinatorOf t) ∷ [])) q
+  unfolding entryOf
+  installed q s t y a = rw (i .parts .tx s t (λ f. omega arith)) at y
+
+  -- a coordinator that decides had not
+  undecided : (s t : ℕ) → coordinatorOf t ≡ s → AtStage p s t stage.queued → p .num t ≡ 0
+  undecided s t c a = i .rounds .undecided t (rw c (λ f. omega arith)) (rw c (λ f. omega arith))
+
+  step : (q : Protocol) (m : Move sites p q) → Booked sites (b ++ told m) q
+  step q (begin s t l m n e) =
+      booked-began (record { none = new-tx sites p s t (i .parts) n e s; has = refl; snap = refl; keys = refl; num = refl; parts = λ j. refl }) x
+  step q (enlist s t r c a l m n o) = booked-quiet same x
+  step q (access s t k fs a v w f) =
+      let h : Held p s t = λ z. omega arith in
+      let e = i .parts .keys s t h in
+      booked-accessed (record { begun = i .parts .has s t h; has = refl; snap = refl; keys = refl; num = refl; parts = λ j. refl }) x
+      (tells (rw e at v)) (rw e at w)
+  step q (request s t es c a l r v) = booked-quiet same x
+  step q (abort s t c a d) = booked-quiet same x
+  step q (cast s t es c a l w v) = booked-quiet same x
+  step q (decide s t c a l) =
+      booked-decided (record { undecided = undecided s t c a; positive = omega arith; has = refl; snap = refl; keys = refl; num = refl; parts = λ j. refl }) x
+  step q (install s t a l) =
+      installed q s t (booked-installed (record { low = i .parts .low; has = refl; snap = refl; keys = refl; num = refl; log = refl }) x) a
+  step q (report s n a) = booked-quiet (refl, refl, refl, refl, inst-report p s n) x
+  step q (joins a s t n f) =
+      booked-began (record { none = new-join sites p a s t (i .posts) n; has = refl; snap = refl; keys = refl; num = refl; parts = λ j. refl }) x
+  step q (full a s t r n z) = booked-quiet same x
+  step q (joined a s t r n y o) = booked-quiet same x
+  step q (prepared a s t n m es y z v) = booked-quiet same x
+  step q (lost a s t n m r y z o) = booked-quiet same x
+  step q (unknown a s t n m r y z o) = booked-quiet same x
+  step q (gathers a s t es y z o) = booked-quiet same x
+  step q (certified a s t es y z v) = booked-quiet same x
+  step q (rejects a s t r es y z o) = booked-quiet same x
+  step q (votes a s t n y z o) = booked-quiet same x
+  step q (commits a s t n y z) = booked-quiet same x
+  step q (aborts a s t y d) = booked-quiet same x
+  step q (passes a s n m y) = booked-quiet same x
+
+pub booked-move : {sites : ℕ} {p q : Protocol} {b : List Fact} → sites ≤ 8 → Invariant sites p → (m : Move sites p q) → Booked sites b p → Booked sites (b ++ told m) q
+booked-move {q = q} h i m x = step i x q m
+
+regroup : {sites : ℕ} {p : Protocol} (b l f : List Fact) → Booked sites ((b ++ l) ++ f) p → Booked sites (b ++ (l ++ f)) p
+regroup b l f x = rw append-assoc at x
+
+pub booked-moves : {sites : ℕ} {p q : Protocol} {b : List Fact} → sites ≤ 8 → Invariant sites p → (ms : Moves sites p q) → Booked sites b p → Booked sites (b ++ toldAll ms) q
+booked-moves {b = b} h i stop x = booked-quiet same x
+booked-moves {b = b} h i (more ms m) x =
+    regroup b (toldAll ms) (told m) (booked-move h (invariant-moves h ms i) m (booked-moves h i ms x))
+
+-- the merger and the copies leave the sites as they are
+booked-step : {sites : ℕ} {v u : Stream} {b : List Fact} → sites ≤ 8 → Invariant sites (v .protocol) → (s : stream.Step sites v u) → Booked sites b (v .protocol)
+    → Booked sites (b ++ toldStep s) (u .protocol)
+booked-step h i (stream.moves q m) x = booked-move h i m x
+booked-step h i (stream.merges n m) x = booked-quiet same x
+booked-step h i (stream.replays c l) x = booked-quiet same x
+
+pub booked-steps : {sites : ℕ} {v u : Stream} {b : List Fact} → sites ≤ 8 → Standing sites v → (ss : Steps sites v u) → Booked sites b (v .protocol)
+    → Booked sites (b ++ toldSteps ss) (u .protocol)
+booked-steps h z stream.stop x = booked-quiet same x
+booked-steps {b = b} h z (stream.more ss s) x =
+    regroup b (toldSteps ss) (toldStep s) (booked-step h (standing-steps h ss z .invariant) s (booked-steps h z ss x))
+
+-- an empty book of the fresh tables
+pub booked-fresh : (sites : ℕ) → Booked sites [] freshProtocol
+unfolding freshProtocol
+booked-fresh sites =
+    record {
+      commits = record { commit = λ t n c x. absurd (none-is x); committed = λ t z. absurd (omega arith) };
+      begins = record { began = λ s t x. absurd (none-is x); begun = λ s t x. absurd (true≢false (sym x)) };
+      writes = record { wrote = λ t k v x. absurd (none-is x); last = λ s t k x. absurd (true≢false (sym x)); used = λ t k x. absurd (none-is x) };
+      installs = record { installed = λ s n c x. absurd (none-is x); installs = λ s j n c x. absurd (omega arith) };
+      sees = record { seen = λ s t n c x. absurd (none-is (before-second x)); before = λ s t j n c x. absurd (true≢false (sym x)) };
+    }

@@ -1,0 +1,119 @@
+-- Demand 3 of a house and its book, from what holds of the machine and what the book has of its tables.
+use Prim.Native.Nat.{ℕ, _≤_, _<_}
+use mathlib.Core.Path.{_≡_, refl, sym, ap, _∙_}
+use mathlib.Core.Bool.{true}
+use mathlib.Core.Logic.{_⊎_, inl, inr, ⊎-elim}
+use mathlib.Core.List.{List}
+use native.Mathlib.Omega.{arith}
+use lib.ListN.{length}
+use Rattle.laws.specs.Pair.{precedes-rank}
+use Rattle.kinds.specs.Stage as stage
+use Rattle.rules.specs.House.{coordinatorOf}
+use Rattle.rules.specs.Keys.{dependent}
+use Rattle.rules.specs.KeysLaws.{conflict-dependent}
+use Rattle.rules.specs.World.{World}
+use Rattle.rules.specs.Book.{Fact}
+use Rattle.rules.specs.Claim.{Wrote, Used, Saw, Ordered, WritersInOrder, NoneHalfSeen, Holds}
+use Rattle.rules.proofs.Protocol.{Protocol, inst, AtStage}
+use Rattle.rules.proofs.Invariants.{at, Installed, Seen, Invariant}
+use Rattle.rules.proofs.Frames.{set-not}
+use Rattle.rules.proofs.Committed.{low-coordinator}
+use Rattle.rules.proofs.MachineClaims.{pair-once, later-saw, independent}
+use Rattle.rules.proofs.Stream.{Stream}
+use Rattle.rules.proofs.StreamReached.{Standing}
+use Rattle.rules.proofs.RefineMerger.{StreamIs}
+use Rattle.rules.proofs.RefineCopies.{copy-stands}
+use Rattle.rules.proofs.BookCopies.{BookIs, copy-holds}
+use Rattle.rules.proofs.BookReplays.{LastReplays}
+use Rattle.rules.proofs.Booked.{home, PairAt, Booked}
+
+module _ {sites : ℕ} {p : Protocol} {b : List Fact} (few : sites ≤ 8) (i : Invariant sites p) (x : Booked sites b p) where
+  -- a committed transaction has a part at its coordinator, which is a site
+  low : (t : ℕ) → 0 < p .num t → coordinatorOf t < 16
+  low t z = let l = low-coordinator few (i .parts) (coordinatorOf t) t (own (i .order .held t z)) in omega arith
+    where
+      own : AtStage p (coordinatorOf t) t stage.decided ⊎ Installed p (coordinatorOf t) t → p .has (coordinatorOf t) t ≡ true
+      own (inl a) = i .parts .has (coordinatorOf t) t (λ f. omega arith)
+      own (inr (j, (l, e))) = rw e at (i .parts .entry-has (coordinatorOf t) j l)
+
+  book-is : BookIs (record { sites = sites }) b p
+  book-is =
+      record {
+        commit = x .commits .commit;
+        committed = x .commits .committed;
+        wrote = λ t k z (v, w). x .writes .wrote t k v w;
+        last = λ t k z (h, w). x .writes .last (home sites k) t k h w .1;
+        low = low;
+      }
+
+  ordered : Ordered b
+  ordered =
+      record {
+        one = λ t u n c y z.
+            let (a, e, f) = x .commits .commit t n c y in
+            let (d, g, h) = x .commits .commit u n c z in
+            pair-once i t u a (e ∙ sym g) (f ∙ sym h);
+        once = λ t n c m d y z.
+            let (a, e, f) = x .commits .commit t n c y in
+            let (k, g, h) = x .commits .commit t m d z in
+            (sym e ∙ g, sym f ∙ h);
+      }
+
+  -- the pair of an install is that of its transaction
+  pair-at : (s j t n c : ℕ) → j < length (inst p s) → at p s j .tx ≡ t → p .num t ≡ n → coordinatorOf t ≡ c → PairAt p s j n c
+  pair-at s j t n c l e f g = (i .account .entry s j l .0 ∙ ap (p .num) e ∙ f, ap coordinatorOf e ∙ g)
+
+  writers : WritersInOrder (record { sites = sites }) b
+  writers t u k n c m d y z (v, f) (w, g) e =
+      let (nt, et, ct) = x .commits .commit t n c y in
+      let (nu, eu, cu) = x .commits .commit u m d z in
+      let (ht, wt) = x .writes .wrote t k v f in
+      let (hu, wu) = x .writes .wrote u k w g in
+      let r = precedes-rank n c m d (rw ct at (low t nt)) (rw cu at (low u nu)) e in
+      let s = home sites k in
+      let (j, (l, q), o) = later-saw i few s t u k nt nu (λ a. omega (arith, ap (p .num) a, ap coordinatorOf a)) ht hu wt wu (omega arith) in
+      x .sees .before s u j n c hu o (pair-at s j t n c l q et ct)
+
+  -- what the book saw, the machine saw
+  saw-seen : (s t u : ℕ) → p .has s t ≡ true → Saw b s t u → Seen p s t u
+  saw-seen s t u h (n, c, y, z) =
+      let (a, e, f) = x .commits .commit u n c y in
+      let (j, l, (g, k)) = x .sees .seen s t n c z in
+      let m : j < length (inst p s) = omega (arith, i .parts .low s t h) in
+      let (o, q, _, _) = i .account .entry s j m in
+      (j, (m, pair-once i (at p s j .tx) u q (sym o ∙ g ∙ sym e) (k ∙ sym f)), l)
+
+  seen-saw : (s t u : ℕ) → p .has s t ≡ true → Seen p s t u → Saw b s t u
+  seen-saw s t u h (j, (l, e), k) =
+      let z : 0 < p .num u = rw e at (i .account .entry s j l .1) in
+      (p .num u, coordinatorOf u, x .commits .committed u z, x .sees .before s t j (p .num u) (coordinatorOf u) h k (pair-at s j u (p .num u) (coordinatorOf u) l e refl refl))
+
+  -- one used a key that the other wrote: their parts at its site are dependent
+  dependent-at : (t u k : ℕ) → (Used b t k × Wrote b u k) ⊎ (Wrote b t k × Used b u k)
+      → (p .has (home sites k) t ≡ true) × (p .has (home sites k) u ≡ true) × (dependent (p .keys (home sites k) t) (p .keys (home sites k) u) ≡ true)
+  dependent-at t u k (inl (y, (v, z))) =
+      let (h, a) = x .writes .used t k y in
+      let (g, w) = x .writes .wrote u k v z in
+      (h, g, conflict-dependent _ _ (record { key = k; how = ⊎-elim (λ r. inr (inr (r, w))) (λ r. inl (r, w)) a }))
+  dependent-at t u k (inr ((v, y), z)) =
+      let (h, w) = x .writes .wrote t k v y in
+      let (g, a) = x .writes .used u k z in
+      (h, g, conflict-dependent _ _ (record { key = k; how = ⊎-elim (λ r. inr (inl (w, r))) (λ r. inl (w, r)) a }))
+
+  half-seen : NoneHalfSeen b
+  half-seen t u n c s r d y (k, z) (bs, _) saw (br, cr) missed =
+      let (nt, _, _) = x .commits .commit t n c y in
+      let (ht, hu, e) = dependent-at t u k z in
+      let has = x .begins .began in
+      let f = independent i s r t u nt d (saw-seen s t u (has s t bs) saw) (has r t br) (has r u cr) (λ v. missed (seen-saw r t u (has r t br) v)) (home sites k) ht hu in
+      set-not _ e f
+
+pub holds : {sites : ℕ} {w : World} {v : Stream} {b : List Fact} → 1 ≤ sites → sites ≤ 8 → Standing sites v → StreamIs sites w v → Booked sites b (v .protocol) → LastReplays b w
+    → Holds (record { sites = sites }) b w
+holds some few z x y r =
+    record {
+      copies = λ c k h. copy-holds (book-is few (z .invariant) y) (copy-stands x z c k h) (r c);
+      ordered = ordered few (z .invariant) y;
+      writers = writers few (z .invariant) y;
+      half-seen = half-seen few (z .invariant) y;
+    }

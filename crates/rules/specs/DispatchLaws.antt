@@ -1,0 +1,144 @@
+-- A message given to its kind's handler: what the rules say of each kind, and what a message that passed the checks is.
+use Prim.Native.Nat.{ℕ, _+_, _-_, _*_, _≤_, _<_}
+use mathlib.Core.Path.{_≡_, refl, sym, ap, _∙_}
+use mathlib.Core.List.{List, [], _∷_}
+use mathlib.Core.Bool.{Bool, true, false, not}
+use native.Mathlib.Omega.{arith}
+use lib.ListN.{length, getD}
+use lib.Dec.{ltb, eqb}
+use borrow.Author.Tests.{lt-ltb, le-ltb}
+use Rattle.laws.specs.Choice.{pick, by-test}
+use Rattle.kinds.specs.Sizes as sizes
+use Rattle.kinds.specs.Kind as kind
+use Rattle.kinds.specs.Stage as stage
+use Rattle.kinds.specs.State.{noSub}
+use Rattle.kinds.specs.declared.MessageHead.{MessageHead}
+use Rattle.kinds.specs.declared.Site.{Site}
+use Rattle.kinds.specs.declared.Turn.{Turn}
+use Rattle.rules.specs.Message.{messageOk, messageHead, messageEntries, mostEntries}
+use Rattle.rules.specs.MessageLaws.{site-clear, head-clear, passed-good}
+use Rattle.rules.specs.Valid.{siteOk}
+use Rattle.rules.specs.ValidLaws.{valid-site}
+use Rattle.rules.specs.Effect.{Effect}
+use Rattle.rules.specs.Course.{quietly, raise, withCourseOf, withSubOf, withReply, withDecision}
+use Rattle.rules.specs.CallLaws.{next-clear}
+use Rattle.rules.specs.Deliver.{Arriving, arrivalCode, nextCode, arrived, passed, replyCode, joinedInTurn, stepUnless, takeJoin, takeJoined, takePrepare, passPrepare, takeConc, takeCert, takeVote, takeCommit, takeAbort, keeping, takeHeld, takeOther, takeKind}
+
+-- taken where the transaction is held, else only counted
+unfoldable pub orPassed : Site → MessageHead → ℕ → Effect → Effect
+orPassed s h place e = pick (ltb place sizes.live) e (passed s (h .from))
+
+-- a vote of 5 where it is not
+unfoldable pub preparedOr : Site → MessageHead → ℕ → Effect
+preparedOr s h place = pick (ltb place sizes.live) (takePrepare s h place) (passPrepare s h)
+
+module _ (s : Site) (h : MessageHead) (es lists : List ℕ) (place : ℕ) where
+  abbrev Given : ℕ → Effect
+  Given k = takeKind k s h es lists place
+
+  pub kind-join : Given kind.join ≡ keeping lists (takeJoin s h place)
+  unfolding takeKind
+  kind-join = refl
+
+  pub kind-joined : Given kind.joined ≡ keeping lists (orPassed s h place (takeJoined s h place))
+  unfolding takeKind takeHeld takeOther orPassed
+  kind-joined = by-test (ltb place sizes.live) (λ e. rw e) (λ e. rw e)
+
+  pub kind-prepare : Given kind.prepare ≡ keeping lists (preparedOr s h place)
+  unfolding takeKind takeHeld takeOther preparedOr
+  kind-prepare = by-test (ltb place sizes.live) (λ e. rw e) (λ e. rw e)
+
+  pub kind-cert : Given kind.cert ≡ keeping lists (orPassed s h place (takeCert s h es place))
+  unfolding takeKind takeHeld takeOther orPassed
+  kind-cert = by-test (ltb place sizes.live) (λ e. rw e) (λ e. rw e)
+
+  pub kind-vote : Given kind.vote ≡ keeping lists (orPassed s h place (takeVote s h place))
+  unfolding takeKind takeHeld takeOther orPassed
+  kind-vote = by-test (ltb place sizes.live) (λ e. rw e) (λ e. rw e)
+
+  pub kind-commit : Given kind.commit ≡ keeping lists (orPassed s h place (takeCommit s h place))
+  unfolding takeKind takeHeld takeOther orPassed
+  kind-commit = by-test (ltb place sizes.live) (λ e. rw e) (λ e. rw e)
+
+  pub kind-abort : Given kind.abort ≡ keeping lists (orPassed s h place (takeAbort s h place))
+  unfolding takeKind takeHeld takeOther orPassed
+  kind-abort = by-test (ltb place sizes.live) (λ e. rw e) (λ e. rw e)
+
+  pub kind-conc-held : place < sizes.live → Given kind.conc ≡ takeConc s h es lists place
+  unfolding takeKind takeHeld
+  kind-conc-held l = rw (lt-ltb place sizes.live l)
+
+  pub kind-conc-other : sizes.live ≤ place → Given kind.conc ≡ keeping lists (passed s (h .from))
+  unfolding takeKind takeOther
+  kind-conc-other l = rw (le-ltb place sizes.live l)
+
+-- A JOINED, COMMIT or ABORT is answered by no message.
+quiet-step : (code : ℕ) (s : Site) (place : ℕ) (t : Turn) → stepUnless code s place (quietly t) .words ≡ []
+unfolding quietly
+quiet-step code s place t = by-test (eqb code 0) (λ e. rw e) (λ e. rw e)
+
+quiet-or : (s : Site) (h : MessageHead) (place : ℕ) (e : Effect) → e .words ≡ [] → orPassed s h place e .words ≡ []
+unfolding orPassed passed
+quiet-or s h place e q = by-test (ltb place sizes.live) (λ f. rw f q) (λ f. rw f)
+
+module _ (s : Site) (h : MessageHead) (place : ℕ) where
+  joined-quiet : takeJoined s h place .words ≡ []
+  unfolding takeJoined
+  joined-quiet =
+      let t = arrived s place (h .from) in
+      quiet-step (replyCode (joinedInTurn (t .sub .course) (h .from)) false) s place (withCourseOf t (withReply (t .sub .course) (h .from) (h .argument) 0))
+
+  pub quiet-joined : orPassed s h place (takeJoined s h place) .words ≡ []
+  quiet-joined = quiet-or s h place (takeJoined s h place) joined-quiet
+
+  commit-quiet : takeCommit s h place .words ≡ []
+  unfolding takeCommit
+  commit-quiet =
+      let t = raise (arrived s place (h .from)) (h .clock) in
+      quiet-step (replyCode (eqb (t .sub .course .stage) stage.queued) false) s place (withCourseOf t (withDecision (t .sub .course) (h .clock)))
+
+  pub quiet-commit : orPassed s h place (takeCommit s h place) .words ≡ []
+  quiet-commit = quiet-or s h place (takeCommit s h place) commit-quiet
+
+  abort-quiet : takeAbort s h place .words ≡ []
+  unfolding takeAbort
+  abort-quiet =
+      let t = arrived s place (h .from) in
+      quiet-step (replyCode (not (eqb (t .sub .course .stage) stage.decided)) false) s place (withSubOf t noSub)
+
+  pub quiet-abort : orPassed s h place (takeAbort s h place) .words ≡ []
+  quiet-abort = quiet-or s h place (takeAbort s h place) abort-quiet
+
+-- The layout is looked at in a valid site only.
+pub arrival-valid : (ok : Bool) (room : ℕ) (given a b : Bool) → (ok ≡ true → a ≡ b) → arrivalCode ok room given a ≡ arrivalCode ok room given b
+unfolding arrivalCode
+arrival-valid true room given a b f = rw (f refl)
+arrival-valid false room given a b f = refl
+
+-- A message that passed the checks.
+pub record Incoming (s : Site) (h : MessageHead) (es : List ℕ) : Type 0 where
+  pub valid : siteOk s ≡ true
+  pub arriving : Arriving s (h .from)
+  pub apart : h .from ≡ s .counters .own → ⊥
+  pub few : h .count ≤ mostEntries (h .kind)
+  pub size : length es ≡ sizes.entry * h .count
+  pub low-kind : kind.join ≤ h .kind
+  pub high-kind : h .kind ≤ kind.abort
+
+pub incoming : (s : Site) (m : List ℕ) → siteOk s ≡ true → messageOk (s .house) m ≡ true → messageHead m .channel ≤ sizes.last
+    → nextCode (messageHead m .to) (s .counters .own) (messageHead m .channel) (getD (s .channels .taken) (messageHead m .from - 1) 0) ≡ 0
+    → Incoming s (messageHead m) (messageEntries m)
+incoming s m v ok low e =
+    let n = next-clear _ _ _ _ e in
+    let g = passed-good (s .house) m ok in
+    let c = head-clear (s .house) (messageHead m) (g .head) in
+    let f = site-clear (s .house) (messageHead m .from) (c .ends .from) in
+    record {
+      valid = v;
+      arriving = record { first = f .low; last = omega (arith, f .high, valid-site s v .house .few-sites); low = omega (arith, n .in-order) };
+      apart = λ z. c .ends .apart (z ∙ sym (n .here));
+      few = c .few;
+      size = g .size;
+      low-kind = c .ends .lowKind;
+      high-kind = c .ends .highKind;
+    }
