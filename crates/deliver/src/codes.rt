@@ -1,13 +1,11 @@
-// Causes of refusal of a message.
+// Causes of refusal of a message before its kind is looked at.
 use kinds::reason::ELSEWHERE;
 use kinds::reason::MALFORMED;
 use kinds::reason::NOT_NEXT;
 use kinds::reason::SHORT;
-use kinds::reason::SPENT;
-use kinds::reason::STAGE;
 use kinds::sizes::OUTGOING;
 ghost use mathlib.Core.Path.{_≡_};
-ghost use Rattle.rules.specs.Deliver.{arrivalCode, nextCode, replyCode};
+ghost use Rattle.rules.specs.Deliver.{arrivalCode, nextCode};
 
 pub fn arrival_code(ok: bool, room: usize, given: bool, fine: bool) -> u64
     ensures { λ r. ⌜ r ≡ arrivalCode ok room given fine ⌝ }
@@ -39,18 +37,6 @@ pub fn next_code(to: u64, own: u64, channel: u64, taken: u64) -> u64
     }
     if channel - 1 != taken {
         return NOT_NEXT;
-    }
-    0
-}
-
-pub fn reply_code(in_turn: bool, spent: bool) -> u64
-    ensures { λ r. ⌜ r ≡ replyCode in_turn spent ⌝ }
-{
-    if !in_turn {
-        return STAGE;
-    }
-    if spent {
-        return SPENT;
     }
     0
 }

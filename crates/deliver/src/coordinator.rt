@@ -1,126 +1,56 @@
-// Messages to the coordinator: JOINED, CONC, VOTE.
-use crate::codes::reply_code;
-use crate::settle::arrived;
-use crate::settle::refused;
-use crate::settle::settled;
-use kinds::Course;
+// Messages to the coordinator, whether it still holds the transaction or not.
 use kinds::MessageHead;
 use kinds::Out;
 use kinds::Site;
-use kinds::sizes::SITES;
-use kinds::stage::ACTIVE;
-use kinds::stage::PREPARED;
-use kinds::stage::QUEUED;
+use kinds::sizes::LIVE;
 ghost use mathlib.Core.Path.{_≡_};
-ghost use mathlib.Core.Bool.{not};
-ghost use mathlib.Core.List.{[], _∷_};
-ghost use Prim.Native.Nat.{_≤_, _<_};
+ghost use mathlib.Core.Bool.{true};
+ghost use Prim.Native.Nat.{_≤_};
 ghost use lib.ListN.{length};
 ghost use Rattle.laws.specs.Overlay.{overlay};
 ghost use Rattle.kinds.specs.Sizes as sizes;
-ghost use Rattle.laws.specs.Choice.{every};
-ghost use Rattle.rules.specs.Send.{countsLow};
+ghost use Rattle.kinds.specs.Kind as kind;
+ghost use Rattle.rules.specs.Valid.{siteOk};
 ghost use Rattle.rules.specs.Effect.{outOf};
-ghost use Rattle.rules.specs.Course.{voteDecides};
-ghost use Rattle.rules.specs.Deliver.{Arriving, joinedInTurn, takeJoined, concInTurn, voteInTurn, takeVote};
+ghost use Rattle.rules.specs.Deliver.{Arriving, takeJoined, takeVote, takeKind};
+ghost use Rattle.rules.specs.DispatchLaws.{Incoming, orPassed};
 
-fn joined_in_turn(c: Course, from: u64) -> bool
-    requires { ⌜ (1 ≤ from) × (from ≤ sizes.sites) ⌝ }
-    ensures { λ r. ⌜ r ≡ joinedInTurn c from ⌝ }
+pub fn on_joined(s: Site, h: MessageHead, place: usize) -> Out
+    requires { ⌜ Arriving s (h .from) ⌝ }
+    ensures { λ r. ⌜ r ≡ outOf (orPassed s h place (takeJoined s h place)) ⌝ }
 {
-    let wanted = course::turn::is_outstanding(c, from);
-    let stage = c.stage;
-    if stage != ACTIVE {
-        return false;
+    if LIVE <= place {
+        return handlers::settle::passed(s, h.from);
     }
-    wanted
+    handlers::coordinator::take_joined(s, h, place)
 }
 
-pub fn take_joined(s: Site, h: MessageHead, place: usize) -> Out
-    requires { ⌜ (place < sizes.live) × Arriving s (h .from) ⌝ }
-    ensures { λ r. ⌜ r ≡ outOf (takeJoined s h place) ⌝ }
+pub fn on_conc(
+    s: Site,
+    h: MessageHead,
+    es: &[u64],
+    place: usize,
+    lists: &mut [u64],
+    out: &mut [u64],
+) -> Out
+    requires { ⌜ Incoming s h (now es) × ((h .kind ≡ kind.conc) × ((length (now lists) ≡ sizes.lists) × (sizes.outgoing ≤ length (now out)))) ⌝ }
+    ensures { λ r. ⌜ r ≡ outOf (takeKind kind.conc s h (now (es .entry)) (now (lists .entry)) place) ⌝ }
+    ensures { λ _. ⌜ now (lists .exit) ≡ takeKind kind.conc s h (now (es .entry)) (now (lists .entry)) place .lent ⌝ }
+    ensures { λ _. ⌜ now (out .exit) ≡ overlay (now (out .entry)) (takeKind kind.conc s h (now (es .entry)) (now (lists .entry)) place .words) ⌝ }
 {
-    let t = arrived(s, place, h.from);
-    let c = t.sub.course;
-    let turn = joined_in_turn(c, h.from);
-    let code = reply_code(turn, false);
-    if code != 0 {
-        return refused(s, code);
+    if LIVE <= place {
+        return handlers::settle::passed(s, h.from);
     }
-    let d = course::turn::with_heard(c, h.from, h.argument);
-    let u = course::turn::with_course(t, d);
-    let a = course::turn::quietly(u);
-    settled(s, place, a)
+    handlers::gather::take_conc(s, h, es, place, lists, out)
 }
 
-fn vote_in_turn(c: Course, from: u64, vote: u64) -> bool
-    requires { ⌜ (1 ≤ from) × (from ≤ sizes.sites) ⌝ }
-    ensures { λ r. ⌜ r ≡ voteInTurn c from vote ⌝ }
+pub fn on_vote(s: Site, h: MessageHead, place: usize, out: &mut [u64]) -> Out
+    requires { ⌜ (siteOk s ≡ true) × (Arriving s (h .from) × (sizes.outgoing ≤ length (now out))) ⌝ }
+    ensures { λ r. ⌜ r ≡ outOf (orPassed s h place (takeVote s h place)) ⌝ }
+    ensures { λ _. ⌜ now (out .exit) ≡ overlay (now (out .entry)) (orPassed s h place (takeVote s h place) .words) ⌝ }
 {
-    let wanted = course::turn::is_outstanding(c, from);
-    let stage = c.stage;
-    if stage == QUEUED {
-        return wanted;
+    if LIVE <= place {
+        return handlers::settle::passed(s, h.from);
     }
-    if stage != PREPARED {
-        return false;
-    }
-    if vote == 0 {
-        return false;
-    }
-    wanted
-}
-
-fn vote_decides(c: Course, from: u64, vote: u64) -> bool
-    requires { ⌜ (1 ≤ from) × (from ≤ sizes.sites) ⌝ }
-    ensures { λ r. ⌜ r ≡ voteDecides c from vote ⌝ }
-{
-    let d = course::turn::with_heard(c, from, 0);
-    if vote != 0 {
-        return true;
-    }
-    live::all_heard(d.heard, c.mask)
-}
-
-// Whether a message to each other participant is due and cannot be counted.
-pub fn all_spent(due: bool, sent: [u64; SITES], mask: u64, own: u64) -> bool
-    ensures { λ r. ⌜ r ≡ every (due ∷ not (countsLow sent mask own) ∷ []) ⌝ }
-{
-    if !due {
-        return false;
-    }
-    !messages::counts_low(sent, mask, own)
-}
-
-pub fn take_vote(s: Site, h: MessageHead, place: usize, out: &mut [u64]) -> Out
-    requires { ⌜ (place < sizes.live) × (Arriving s (h .from) × ((sizes.outgoing ≤ length (now out)) × ((1 ≤ s .counters .own) × (s .counters .own ≤ sizes.sites)))) ⌝ }
-    ensures { λ r. ⌜ r ≡ outOf (takeVote s h place) ⌝ }
-    ensures { λ _. ⌜ now (out .exit) ≡ overlay (now (out .entry)) (takeVote s h place .words) ⌝ }
-{
-    let first = arrived(s, place, h.from);
-    let t = course::turn::raise(first, h.clock);
-    let c = t.sub.course;
-    let turn = vote_in_turn(c, h.from, h.argument);
-    let due = vote_decides(c, h.from, h.argument);
-    let channels = s.channels;
-    let sent = channels.sent;
-    let spent = all_spent(due, sent, c.mask, s.counters.own);
-    let code = reply_code(turn, spent);
-    if code != 0 {
-        return refused(s, code);
-    }
-    let a = course::coordinator::vote_step(t, h.from, h.argument, out);
-    settled(s, place, a)
-}
-
-pub fn conc_in_turn(c: Course, from: u64) -> bool
-    requires { ⌜ (1 ≤ from) × (from ≤ sizes.sites) ⌝ }
-    ensures { λ r. ⌜ r ≡ concInTurn c from ⌝ }
-{
-    let wanted = course::turn::is_outstanding(c, from);
-    let stage = c.stage;
-    if stage != PREPARED {
-        return false;
-    }
-    wanted
+    handlers::coordinator::take_vote(s, h, place, out)
 }

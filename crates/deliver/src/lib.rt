@@ -1,6 +1,6 @@
-// The call of a site that takes a message.
+// The call of a site that takes a message: checked, then given to the handler of its kind.
 mod codes;
 mod coordinator;
-mod gather;
+mod dispatch;
+pub mod message;
 mod participant;
-mod settle;

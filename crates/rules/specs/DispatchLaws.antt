@@ -6,8 +6,8 @@ use mathlib.Core.Bool.{Bool, true, false, not}
 use native.Mathlib.Omega.{arith}
 use lib.ListN.{length, getD}
 use lib.Dec.{ltb, eqb}
-use borrow.Author.Tests.{lt-ltb, le-ltb}
-use Rattle.laws.specs.Choice.{pick, by-test}
+use borrow.Author.Tests.{lt-ltb, le-ltb, eqb-true, eq-eqb, ne-eqb}
+use Rattle.laws.specs.Choice.{pick, by-test, every-at}
 use Rattle.kinds.specs.Sizes as sizes
 use Rattle.kinds.specs.Kind as kind
 use Rattle.kinds.specs.Stage as stage
@@ -15,14 +15,15 @@ use Rattle.kinds.specs.State.{noSub}
 use Rattle.kinds.specs.declared.MessageHead.{MessageHead}
 use Rattle.kinds.specs.declared.Site.{Site}
 use Rattle.kinds.specs.declared.Turn.{Turn}
-use Rattle.rules.specs.Message.{messageOk, messageHead, messageEntries, mostEntries}
-use Rattle.rules.specs.MessageLaws.{site-clear, head-clear, passed-good}
+use Rattle.rules.specs.Message.{messageOk, messageTests, messageHead, messageEntries, mostEntries}
+use Rattle.rules.specs.MessageLaws.{site-clear, head-clear, shape-clear, passed-good}
+use Rattle.rules.specs.Live.{placeOf}
 use Rattle.rules.specs.Valid.{siteOk}
 use Rattle.rules.specs.ValidLaws.{valid-site}
-use Rattle.rules.specs.Effect.{Effect}
+use Rattle.rules.specs.Effect.{Effect, refused}
 use Rattle.rules.specs.Course.{quietly, raise, withCourseOf, withSubOf, withReply, withDecision}
-use Rattle.rules.specs.CallLaws.{next-clear}
-use Rattle.rules.specs.Deliver.{Arriving, arrivalCode, nextCode, arrived, passed, replyCode, joinedInTurn, stepUnless, takeJoin, takeJoined, takePrepare, passPrepare, takeConc, takeCert, takeVote, takeCommit, takeAbort, keeping, takeHeld, takeOther, takeKind}
+use Rattle.rules.specs.CallLaws.{arrival-clear, next-clear}
+use Rattle.rules.specs.Deliver.{Arriving, arrivalCode, nextCode, messageAt, messageOf, arrived, passed, replyCode, joinedInTurn, stepUnless, takeJoin, takeJoined, takePrepare, passPrepare, takeConc, takeCert, takeVote, takeCommit, takeAbort, keeping, takeHeld, takeOther, takeKind}
 
 -- taken where the transaction is held, else only counted
 unfoldable pub orPassed : Site → MessageHead → ℕ → Effect → Effect
@@ -35,6 +36,10 @@ preparedOr s h place = pick (ltb place sizes.live) (takePrepare s h place) (pass
 module _ (s : Site) (h : MessageHead) (es lists : List ℕ) (place : ℕ) where
   abbrev Given : ℕ → Effect
   Given k = takeKind k s h es lists place
+
+  -- of the kind that its header names
+  pub given-kind : {n : ℕ} → h .kind ≡ n → Given (h .kind) ≡ Given n
+  given-kind e = ap Given e
 
   pub kind-join : Given kind.join ≡ keeping lists (takeJoin s h place)
   unfolding takeKind
@@ -115,6 +120,65 @@ unfolding arrivalCode
 arrival-valid true room given a b f = rw (f refl)
 arrival-valid false room given a b f = refl
 
+-- Past the first causes: the site is valid, the buffers are long enough, and the words are a message of the house.
+pub record Checked (s : Site) (room : ℕ) (lists m : List ℕ) : Type 0 where
+  pub valid : siteOk s ≡ true
+  pub long : sizes.outgoing ≤ room
+  pub whole : length lists ≡ sizes.lists
+  pub formed : messageOk (s .house) m ≡ true
+  pub header : sizes.messageHeader ≤ length m
+  pub from-low : 1 ≤ messageHead m .from
+  pub from-high : messageHead m .from ≤ sizes.sites
+
+pub checked : (s : Site) (room : ℕ) (lists m : List ℕ) (ok fine : Bool) → ok ≡ siteOk s → (ok ≡ true → fine ≡ messageOk (s .house) m)
+    → arrivalCode ok room (eqb (length lists) sizes.lists) fine ≡ 0 → Checked s room lists m
+unfolding messageOk
+checked s room lists m ok fine v f e =
+    let a = arrival-clear ok room (eqb (length lists) sizes.lists) fine e in
+    let w = sym v ∙ a .valid in
+    let g = sym (f (a .valid)) ∙ a .formed in
+    let c = head-clear (s .house) (messageHead m) (passed-good (s .house) m g .head) in
+    let b = site-clear (s .house) (messageHead m .from) (c .ends .from) in
+    record {
+      valid = w;
+      long = a .long;
+      whole = eqb-true _ _ (a .lists);
+      formed = g;
+      header = shape-clear m (every-at (messageTests (s .house) m) 0 g) .long;
+      from-low = b .low;
+      from-high = omega (arith, b .high, valid-site s w .house .few-sites);
+    }
+
+-- its refusal by its channel, and its handler
+unfoldable pub nextIn : Site → List ℕ → ℕ
+nextIn s m = nextCode (messageHead m .to) (s .counters .own) (messageHead m .channel) (getD (s .channels .taken) (messageHead m .from - 1) 0)
+
+module _ {s : Site} {room : ℕ} {lists m : List ℕ} (c : Checked s room lists m) where
+  past-arrival : arrivalCode (siteOk s) room (eqb (length lists) sizes.lists) (messageOk (s .house) m) ≡ 0
+  unfolding arrivalCode
+  past-arrival = rw (c .valid, c .formed, le-ltb room sizes.outgoing (c .long), eq-eqb (length lists) sizes.lists (c .whole))
+
+  pub message-refused : (nextIn s m ≡ 0 → ⊥) → messageOf s room lists m ≡ refused (nextIn s m) s lists
+  unfolding messageOf messageAt nextIn
+  message-refused n = rw (past-arrival, ne-eqb _ 0 n)
+
+  pub message-taken : nextIn s m ≡ 0
+      → messageOf s room lists m ≡ takeKind (messageHead m .kind) s (messageHead m) (messageEntries m) lists (placeOf (s .live) (messageHead m .tx))
+  unfolding messageOf messageAt nextIn
+  message-taken e = rw (past-arrival, e)
+
+above : (k n : ℕ) → n ≤ k → (k ≡ n → ⊥) → n + 1 ≤ k
+above k n l x = omega arith
+
+past-all : (k : ℕ) → 9 ≤ k → k ≤ kind.abort → ⊥
+past-all k l h = omega arith
+
+-- a kind from 1 to 8 is one of them
+pub some-kind : (k : ℕ) → kind.join ≤ k → k ≤ kind.abort → (k ≡ 1 → ⊥) → (k ≡ 2 → ⊥) → (k ≡ 3 → ⊥) → (k ≡ 4 → ⊥) → (k ≡ 5 → ⊥) → (k ≡ 6 → ⊥) → (k ≡ 7 → ⊥)
+    → (k ≡ 8 → ⊥) → ⊥
+some-kind k l h a b c d e f g i =
+    past-all k (above k 8 (above k 7 (above k 6 (above k 5 (above k 4 (above k 3 (above k 2 (above k 1 l a) b) c) d) e) f) g) i) h
+
 -- A message that passed the checks.
 pub record Incoming (s : Site) (h : MessageHead) (es : List ℕ) : Type 0 where
   pub valid : siteOk s ≡ true
@@ -125,9 +189,9 @@ pub record Incoming (s : Site) (h : MessageHead) (es : List ℕ) : Type 0 where
   pub low-kind : kind.join ≤ h .kind
   pub high-kind : h .kind ≤ kind.abort
 
-pub incoming : (s : Site) (m : List ℕ) → siteOk s ≡ true → messageOk (s .house) m ≡ true → messageHead m .channel ≤ sizes.last
-    → nextCode (messageHead m .to) (s .counters .own) (messageHead m .channel) (getD (s .channels .taken) (messageHead m .from - 1) 0) ≡ 0
+pub incoming : (s : Site) (m : List ℕ) → siteOk s ≡ true → messageOk (s .house) m ≡ true → messageHead m .channel ≤ sizes.last → nextIn s m ≡ 0
     → Incoming s (messageHead m) (messageEntries m)
+unfolding nextIn
 incoming s m v ok low e =
     let n = next-clear _ _ _ _ e in
     let g = passed-good (s .house) m ok in

@@ -45,5 +45,6 @@ pub mod MergerJoin
 pub mod MergerKept
 pub mod DeliverLaws
 pub mod DispatchLaws
+pub mod CopyLaws
 pub mod ListLaws
 pub mod InstallLaws

@@ -1,10 +1,9 @@
+-- Each return is the first cause, or none.
 use borrow.Author.Tests.{le-ltb, lt-ltb, not-false, not-true}
 use Rattle.rules.specs.Deliver.{arrivalCode}
 use Rattle.kinds.specs.Sizes as sizes
 use Rattle.deliver.proofs.codes.arrival_code.Statement.{statement}
 use Rattle.deliver.proofs.codes.arrival_code.Tie as tie
-use Rattle.deliver.proofs.codes.arrival_code.Reads as reads
-use Rattle.deliver.proofs.codes.arrival_code.Lts as lts
 
 returns : tie.Need-returns
 unfolding arrivalCode

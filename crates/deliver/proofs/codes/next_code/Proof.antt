@@ -1,3 +1,4 @@
+-- Each return is the first cause, or none.
 use Prim.Native.Nat.{_+_}
 use borrow.Author.Needs.{needs}
 use borrow.Author.Tests.{eq-eqb, ne-eqb}
@@ -7,8 +8,6 @@ use Rattle.rules.specs.CallLaws.{pred-is}
 use Rattle.rules.specs.Deliver.{nextCode}
 use Rattle.deliver.proofs.codes.next_code.Statement.{statement}
 use Rattle.deliver.proofs.codes.next_code.Tie as tie
-use Rattle.deliver.proofs.codes.next_code.Reads as reads
-use Rattle.deliver.proofs.codes.next_code.Lts as lts
 
 returns : tie.Need-returns
 unfolding nextCode

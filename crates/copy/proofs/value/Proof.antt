@@ -1,0 +1,48 @@
+-- Refused by the code, else the value and the pair are read where they stand.
+use borrow.Author.Needs.{needs}
+use borrow.Author.Tests.{eq-eqb, ne-eqb}
+use mathlib.Core.Path.{_∙_, refl, sym}
+use native.Mathlib.Omega.{arith}
+use Rattle.rules.specs.Copy.{valueOf}
+use Rattle.rules.specs.CopyLaws.{ValueReady, value-ready}
+use Rattle.copy.proofs.value.Statement.{statement}
+use Rattle.copy.proofs.value.Tie as tie
+
+-- what the code has let through
+ready : (c : tie.Else1) → ValueReady (c .before .before .before .args .copy .now) (c .before .before .before .args .key)
+ready c = value-ready _ _ (sym (c .before .value-code .ensures) ∙ c .if1 .left)
+
+value-code-requires : tie.Need-value-code-requires
+value-code-requires c κs = search needs
+
+returns : tie.Need-returns
+unfolding valueOf
+returns c = rw (← c .before .value-code .ensures, ne-eqb _ 0 (c .if1 .taken)) refl
+
+value-at-requires : tie.Need-value-at-requires
+value-at-requires c κs = (ready c .size, ready c .low)
+
+shared-slice-read-t7 : tie.Need-shared-slice-read-t7
+shared-slice-read-t7 c = omega (arith, ready (c .before .before) .size)
+
+shared-slice-read-t9 : tie.Need-shared-slice-read-t9
+shared-slice-read-t9 c = omega (arith, ready (c .before .before .before) .size)
+
+returns-2 : tie.Need-returns-2
+unfolding valueOf
+returns-2 c =
+    let value-at = c .before .before .value-at in
+    let if1 = c .before .before .before .if1 in
+    let value-code = c .before .before .before .before .value-code in
+    rw (← value-code .ensures, eq-eqb _ 0 (if1 .left), ← value-at .ensures) refl
+
+pub value-spec : {M : Type 1} → statement M
+value-spec =
+    tie.close
+    (tie.spec
+    value-code-requires
+    returns
+    value-at-requires
+    shared-slice-read-t7
+    shared-slice-read-t9
+    returns-2)
