@@ -47,6 +47,12 @@ module _ {sites : ℕ} {b : List Fact} {p q : Protocol} {s t : ℕ} (c : BeganAs
   a : OfKind 0 l
   a = all-one refl
 
+  -- it had not begun before
+  once : (j u : ℕ) → Before (book.began j u) (book.began j u) b ⊎ ((Is (book.began j u) b × Is (book.began j u) l) ⊎ Before (book.began j u) (book.began j u) l) → ⊥
+  once j u (inl x) = i .begins .once j u x
+  once j u (inr (inl (x, y))) = let (d, e) = is-began y in c .none (rw (d, e) at (i .begins .began j u x))
+  once j u (inr (inr x)) = not-alone x
+
   begins : Begins (b ++ l) q
   begins =
       record {
@@ -58,6 +64,7 @@ module _ {sites : ℕ} {b : List Fact} {p q : Protocol} {s t : ℕ} (c : BeganAs
             (λ y. rw (y .0, y .1) (is-last b))
             (λ y. is-kept l (i .begins .begun j u y))
             (was₂ (p .has) s t j u (rw (c .has) at x));
+        once = λ j u x. once j u (before-append b l x);
       }
 
   -- the keys of a part that had begun

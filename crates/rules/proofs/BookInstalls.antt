@@ -13,12 +13,13 @@ use Rattle.rules.specs.House.{coordinatorOf}
 use Rattle.rules.specs.World.{Is, here, upd}
 use Rattle.rules.specs.Book as book
 use Rattle.rules.specs.Book.{Fact}
+use Rattle.rules.specs.Claim.{Before}
 use Rattle.rules.proofs.Tables.{upd-same, upd-cases, all-one}
 use Rattle.rules.proofs.Protocol.{Protocol, rPart, inst}
 use Rattle.rules.proofs.Invariants.{at}
 use Rattle.rules.proofs.StepParts.{parts-append, last-cases, inst-cases}
 use Rattle.rules.proofs.BookReplays.{is-append}
-use Rattle.rules.proofs.BookLists.{is-kept, is-last, OfKind}
+use Rattle.rules.proofs.BookLists.{is-kept, is-last, before-append, not-alone, OfKind}
 use Rattle.rules.proofs.Booked.{PairAt, Booked}
 use Rattle.rules.proofs.BookKept.{commits-kept, begins-kept, writes-kept, installs-kept, sees-kept, at-same}
 
@@ -69,6 +70,7 @@ module _ {sites : ℕ} {b : List Fact} {p q : Protocol} {t n : ℕ} (c : Decided
 -- entry e is installed at s
 pub record InstalledAs (p q : Protocol) (s : ℕ) (e : Entry) : Type 0 where
   pub low : (j u : ℕ) → p .has j u ≡ true → p .snap j u ≤ length (inst p j)
+  pub new : (m : ℕ) → m < length (inst p s) → PairAt p s m (e .number) (coordinatorOf (e .tx)) → ⊥
   pub has : q .has ≡ p .has
   pub snap : q .snap ≡ p .snap
   pub keys : q .keys ≡ p .keys
@@ -115,12 +117,21 @@ module _ {sites : ℕ} {b : List Fact} {p q : Protocol} {s : ℕ} {e : Entry} (c
       (λ m h y. is-kept fact (i .installs .installs s m n d h y)) (λ y. rw (← y .0, ← y .1) (is-last b)))
       (λ j m h y. is-kept fact (i .installs .installs j m n d h y)))
 
+  -- its pair was not installed here before
+  once : (j n d : ℕ) → Before (book.installed j n d) (book.installed j n d) b ⊎ ((Is (book.installed j n d) b × Is (book.installed j n d) fact) ⊎ Before (book.installed j n d) (book.installed j n d) fact) → ⊥
+  once j n d (inl x) = i .installs .once j n d x
+  once j n d (inr (inl (x, y))) =
+      let (f, g, h) = is-installed y in
+      let (m, o, z) = rw (f, g, h) at (i .installs .installed j n d x) in
+      c .new m o z
+  once j n d (inr (inr x)) = not-alone x
+
   pub booked-installed : Booked sites (b ++ (book.installed s (e .number) (coordinatorOf (e .tx)) ∷ [])) q
   booked-installed =
       record {
         commits = commits-kept installed-kind (λ z. omega arith) (c .num) (i .commits);
         begins = begins-kept installed-kind (λ z. omega arith) (c .has) (i .begins);
         writes = writes-kept installed-kind (λ z. omega arith) (c .has) (c .keys) (i .writes);
-        installs = record { installed = λ j n d x. installed j n d (is-append b fact x); installs = λ j m n d. installs n d j m };
+        installs = record { installed = λ j n d x. installed j n d (is-append b fact x); installs = λ j m n d. installs n d j m; once = λ j n d x. once j n d (before-append b fact x) };
         sees = sees-kept installed-kind (λ z. omega arith) (c .has) (c .snap) (λ j u m x d. stays m j (omega (arith, c .low j u x))) (i .begins) (i .sees);
       }

@@ -29,6 +29,7 @@ module _ {b l : List Fact} {p q : Protocol} {k : ℕ} (a : OfKind k l) where
       record {
         began = λ s t x. rw e (i .began s t (old b l a n x));
         begun = λ s t x. is-kept l (i .begun s t (rw e at x));
+        once = λ s t x. i .once s t (before-old b l (λ z. n (all-is a z)) x);
       }
 
   pub writes-kept : {sites : ℕ} → (1 ≡ k → ⊥) → q .has ≡ p .has → q .keys ≡ p .keys → Writes sites b p → Writes sites (b ++ l) q
@@ -46,6 +47,7 @@ module _ {b l : List Fact} {p q : Protocol} {k : ℕ} (a : OfKind k l) where
       record {
         installed = λ s m c x. rw (e s) (i .installed s m c (old b l a n x));
         installs = λ s j m c x y. is-kept l (i .installs s j m c (rw (e s) at x) (rw (e s) at y));
+        once = λ s m c x. i .once s m c (before-old b l (λ z. n (all-is a z)) x);
       }
 
   -- the installs that a part saw stay

@@ -1,25 +1,25 @@
 -- The book after any moves: each tells what it did to the tables that the book is about.
-use Prim.Native.Nat.{ℕ, _+_, _≤_}
-use mathlib.Core.Path.{_≡_, refl, sym}
+use Prim.Native.Nat.{ℕ, _+_, _≤_, _<_}
+use mathlib.Core.Path.{_≡_, refl, sym, _∙_}
 use mathlib.Core.Bool.{true, false, true≢false}
 use mathlib.Core.List.{List, [], _∷_, _++_, append-assoc}
 use native.Mathlib.Omega.{arith}
+use lib.ListN.{length}
 use Rattle.kinds.specs.Stage as stage
 use Rattle.rules.specs.House.{coordinatorOf}
 use Rattle.rules.specs.Install.{entryOf}
 use Rattle.rules.specs.Book as book
 use Rattle.rules.specs.Book.{Fact}
-use Rattle.rules.proofs.Protocol.{Protocol, AtStage, courseAt, Move, Moves, stop, more, begin, enlist, access, request, abort, cast, decide, install, report, joins, full, joined, prepared, lost, unknown, gathers, certified, rejects, votes, commits, aborts, passes, freshProtocol}
-use Rattle.rules.proofs.Told.{told, toldAll, toldStep, toldSteps}
-use Rattle.rules.proofs.Invariants.{Held, Invariant}
+use Rattle.rules.proofs.Protocol.{Protocol, inst, AtStage, courseAt, Move, begin, enlist, access, request, abort, cast, decide, install, report, joins, full, joined, prepared, lost, unknown, gathers, certified, rejects, votes, commits, aborts, passes, freshProtocol}
+use Rattle.rules.proofs.Told.{told, toldStep, toldSteps}
+use Rattle.rules.proofs.Invariants.{at, Held, Invariant}
 use Rattle.rules.proofs.Frames.{new-tx, new-join}
 use Rattle.rules.proofs.StepParts.{inst-report}
-use Rattle.rules.proofs.Reached.{invariant-moves}
 use Rattle.rules.proofs.Stream as stream
 use Rattle.rules.proofs.Stream.{Stream, Steps}
 use Rattle.rules.proofs.StreamReached.{Standing, standing-steps}
 use Rattle.rules.proofs.BookLists.{none-is, before-second}
-use Rattle.rules.proofs.Booked.{Booked}
+use Rattle.rules.proofs.Booked.{PairAt, Booked}
 use Rattle.rules.proofs.BookKept.{same, booked-quiet}
 use Rattle.rules.proofs.BookBegins.{booked-began}
 use Rattle.rules.proofs.BookAccess.{tells, booked-accessed}
@@ -31,6 +31,19 @@ module _ {sites : ℕ} {p : Protocol} {b : List Fact} (i : Invariant sites p) (x
       → AtStage p s t stage.decided → Booked sites (b ++ (book.installed s (courseAt p s t .number) (coordinatorOf t) ∷ [])) q
   unfolding entryOf
   installed q s t y a = rw (i .parts .tx s t (λ f. omega arith)) at y
+
+  -- an entry with its pair would be its own, and it is held
+  not-twice : (s t m : ℕ) → AtStage p s t stage.decided → m < length (inst p s) → PairAt p s m (courseAt p s t .number) (coordinatorOf t) → ⊥
+  not-twice s t m a h (e, f) =
+      let (g, z, _, _) = i .account .entry s m h in
+      let (_, n, _) = i .courses .decided s t a in
+      let u = i .clocks .once (at p s m .tx) t z (sym g ∙ e ∙ n) f in
+      omega (arith, a, rw u at (i .parts .entry-gone s m h))
+
+  new : (s t : ℕ) → AtStage p s t stage.decided → (m : ℕ) → m < length (inst p s)
+      → PairAt p s m (entryOf (p .live s t) .number) (coordinatorOf (entryOf (p .live s t) .tx)) → ⊥
+  unfolding entryOf
+  new s t a m h x = not-twice s t m a h (rw (i .parts .tx s t (λ f. omega arith)) at x)
 
   -- a coordinator that decides had not
   undecided : (s t : ℕ) → coordinatorOf t ≡ s → AtStage p s t stage.queued → p .num t ≡ 0
@@ -51,7 +64,7 @@ module _ {sites : ℕ} {p : Protocol} {b : List Fact} (i : Invariant sites p) (x
   step q (decide s t c a l) =
       booked-decided (record { undecided = undecided s t c a; positive = omega arith; has = refl; snap = refl; keys = refl; num = refl; parts = λ j. refl }) x
   step q (install s t a l) =
-      installed q s t (booked-installed (record { low = i .parts .low; has = refl; snap = refl; keys = refl; num = refl; log = refl }) x) a
+      installed q s t (booked-installed (record { low = i .parts .low; new = new s t a; has = refl; snap = refl; keys = refl; num = refl; log = refl }) x) a
   step q (report s n a) = booked-quiet (refl, refl, refl, refl, inst-report p s n) x
   step q (joins a s t n f) =
       booked-began (record { none = new-join sites p a s t (i .posts) n; has = refl; snap = refl; keys = refl; num = refl; parts = λ j. refl }) x
@@ -74,11 +87,6 @@ booked-move {q = q} h i m x = step i x q m
 regroup : {sites : ℕ} {p : Protocol} (b l f : List Fact) → Booked sites ((b ++ l) ++ f) p → Booked sites (b ++ (l ++ f)) p
 regroup b l f x = rw append-assoc at x
 
-pub booked-moves : {sites : ℕ} {p q : Protocol} {b : List Fact} → sites ≤ 8 → Invariant sites p → (ms : Moves sites p q) → Booked sites b p → Booked sites (b ++ toldAll ms) q
-booked-moves {b = b} h i stop x = booked-quiet same x
-booked-moves {b = b} h i (more ms m) x =
-    regroup b (toldAll ms) (told m) (booked-move h (invariant-moves h ms i) m (booked-moves h i ms x))
-
 -- the merger and the copies leave the sites as they are
 booked-step : {sites : ℕ} {v u : Stream} {b : List Fact} → sites ≤ 8 → Invariant sites (v .protocol) → (s : stream.Step sites v u) → Booked sites b (v .protocol)
     → Booked sites (b ++ toldStep s) (u .protocol)
@@ -98,8 +106,8 @@ unfolding freshProtocol
 booked-fresh sites =
     record {
       commits = record { commit = λ t n c x. absurd (none-is x); committed = λ t z. absurd (omega arith) };
-      begins = record { began = λ s t x. absurd (none-is x); begun = λ s t x. absurd (true≢false (sym x)) };
+      begins = record { began = λ s t x. absurd (none-is x); begun = λ s t x. absurd (true≢false (sym x)); once = λ s t x. absurd (none-is (before-second x)) };
       writes = record { wrote = λ t k v x. absurd (none-is x); last = λ s t k x. absurd (true≢false (sym x)); used = λ t k x. absurd (none-is x) };
-      installs = record { installed = λ s n c x. absurd (none-is x); installs = λ s j n c x. absurd (omega arith) };
+      installs = record { installed = λ s n c x. absurd (none-is x); installs = λ s j n c x. absurd (omega arith); once = λ s n c x. absurd (none-is (before-second x)) };
       sees = record { seen = λ s t n c x. absurd (none-is (before-second x)); before = λ s t j n c x. absurd (true≢false (sym x)) };
     }

@@ -12,6 +12,7 @@ use Rattle.laws.specs.Choice.{pick, every}
 use Rattle.kinds.specs.Sizes as sizes
 use Rattle.kinds.specs.Word as word
 use Rattle.kinds.specs.Kind as kind
+use Rattle.kinds.specs.Reason as reason
 use Rattle.kinds.specs.State.{Value}
 use Rattle.kinds.specs.declared.Answer.{Answer}
 use Rattle.kinds.specs.declared.Answer.the-variants.{Refused, Done, Begun, Found, Committed, Aborted, Installed, Reported, Emitted, Standing}
@@ -115,7 +116,7 @@ began-none true s t = all-one refl
 began-none false s t = a-nil
 
 joins-none : (s : ℕ) (m words : List ℕ) (a : Answer) → NoReplay (book.joins s m words a)
-joins-none s m words a = on-done NoReplay a-nil (began-none (every (eqb (messageHead m .kind) kind.join ∷ eqb (getD words word.argument 0) 0 ∷ [])) s (messageHead m .tx)) a
+joins-none s m words a = on-done NoReplay a-nil (began-none (every (eqb (messageHead m .kind) kind.join ∷ eqb (getD words word.argument reason.full) 0 ∷ [])) s (messageHead m .tx)) a
 
 uses-none : (t k : ℕ) (a : Answer) → NoReplay (book.uses t k a)
 uses-none t k a = on-found NoReplay a-nil (λ n. all-one refl) a

@@ -36,6 +36,7 @@ pub record Commits (b : List Fact) (p : Protocol) : Type 0 where
 pub record Begins (b : List Fact) (p : Protocol) : Type 0 where
   pub began : (s t : ℕ) → Is (book.began s t) b → p .has s t ≡ true
   pub begun : (s t : ℕ) → p .has s t ≡ true → Is (book.began s t) b
+  pub once : (s t : ℕ) → Before (book.began s t) (book.began s t) b → ⊥
 
 pub record Writes (sites : ℕ) (b : List Fact) (p : Protocol) : Type 0 where
   pub wrote : (t k : ℕ) (v : Value) → Is (book.wrote t k v) b → (p .has (home sites k) t ≡ true) × (wroteKey (p .keys (home sites k) t) k ≡ true)
@@ -45,6 +46,7 @@ pub record Writes (sites : ℕ) (b : List Fact) (p : Protocol) : Type 0 where
 pub record Installs (b : List Fact) (p : Protocol) : Type 0 where
   pub installed : (s n c : ℕ) → Is (book.installed s n c) b → (i : ℕ) × (i < length (inst p s)) × PairAt p s i n c
   pub installs : (s i n c : ℕ) → i < length (inst p s) → PairAt p s i n c → Is (book.installed s n c) b
+  pub once : (s n c : ℕ) → Before (book.installed s n c) (book.installed s n c) b → ⊥
 
 pub record Sees (b : List Fact) (p : Protocol) : Type 0 where
   pub seen : (s t n c : ℕ) → Before (book.installed s n c) (book.began s t) b → (i : ℕ) × (i < p .snap s t) × PairAt p s i n c

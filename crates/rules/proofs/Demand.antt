@@ -113,6 +113,7 @@ pub holds : {sites : ℕ} {w : World} {v : Stream} {b : List Fact} → 1 ≤ sit
 holds some few z x y r =
     record {
       copies = λ c k h. copy-holds (book-is few (z .invariant) y) (copy-stands x z c k h) (r c);
+      once = record { began = y .begins .once; installed = y .installs .once };
       ordered = ordered few (z .invariant) y;
       writers = writers few (z .invariant) y;
       half-seen = half-seen few (z .invariant) y;

@@ -58,7 +58,7 @@ headIn a s n m = headOf (kindOf m) a s n (txIn m) (clockIn m) (argumentIn m) (en
 
 -- what the book notes of a message taken at s, by its kind and transaction
 abbrev pub begunBy : ℕ → ℕ → ℕ → List ℕ → Answer → List Fact
-begunBy s k t words = onDone [] (pick (every (eqb k kind.join ∷ eqb (getD words word.argument 0) 0 ∷ [])) (book.began s t ∷ []) [])
+begunBy s k t words = onDone [] (pick (every (eqb k kind.join ∷ eqb (getD words word.argument reason.full) 0 ∷ [])) (book.began s t ∷ []) [])
 
 abbrev pub toldTaken : ℕ → ℕ → ℕ → List ℕ → Answer → List Fact
 toldTaken s k t words a = begunBy s k t words a ++ book.commits t a

@@ -7,6 +7,7 @@ use lib.ListN.{getD}
 use lib.Dec.{eqb}
 use Rattle.laws.specs.Choice.{pick, every}
 use Rattle.kinds.specs.Kind as kind
+use Rattle.kinds.specs.Reason as reason
 use Rattle.kinds.specs.Word as word
 use Rattle.kinds.specs.State.{Value}
 use Rattle.kinds.specs.declared.Answer.{Answer}
@@ -36,7 +37,7 @@ begins s = onBegun [] (λ tx. began s tx ∷ [])
 abbrev pub joins : ℕ → List ℕ → List ℕ → Answer → List Fact
 joins s m words =
     onDone []
-    (pick (every (eqb (messageHead m .kind) kind.join ∷ eqb (getD words word.argument 0) 0 ∷ [])) (began s (messageHead m .tx) ∷ []) [])
+    (pick (every (eqb (messageHead m .kind) kind.join ∷ eqb (getD words word.argument reason.full) 0 ∷ [])) (began s (messageHead m .tx) ∷ []) [])
 
 -- reads and writes use their key; a write sets its transaction's value for it
 abbrev pub uses : ℕ → ℕ → Answer → List Fact

@@ -15,6 +15,7 @@ use Rattle.kinds.specs.declared.Answer.the-variants.{Standing}
 use Rattle.rules.specs.House.{siteOf}
 use Rattle.rules.specs.Copy.{valueOf}
 use Rattle.rules.specs.World.{Call, World, Is, Lawful, freshWorld, run}
+use Rattle.rules.specs.Book as book
 use Rattle.rules.specs.Book.{Fact, began, used, wrote, committed, installed, replayed, bookFrom}
 
 -- f stands in the book before g
@@ -62,6 +63,11 @@ pub record CopyHolds (b : List Fact) (w : World) (copy key : ℕ) : Type 0 where
   pub up-to : ((number ≡ 0) × (coordinator ≡ 0)) ⊎ ((tx : ℕ) × Committed b tx number coordinator)
   pub left : LeftBy b number coordinator key value
 
+-- a part begins once at a site, and a pair is installed once there, so that before and after have one meaning
+pub record Once (b : List Fact) : Type 0 where
+  pub began : (s tx : ℕ) → Before (book.began s tx) (book.began s tx) b → ⊥
+  pub installed : (s n c : ℕ) → Before (book.installed s n c) (book.installed s n c) b → ⊥
+
 -- commit order: a pair is one transaction's, and a transaction has one pair
 pub record Ordered (b : List Fact) : Type 0 where
   pub one : (tx ux n c : ℕ) → Committed b tx n c → Committed b ux n c → tx ≡ ux
@@ -91,6 +97,7 @@ NoneHalfSeen b =
 
 pub record Holds (o : House) (b : List Fact) (w : World) : Type 0 where
   pub copies : (copy key : ℕ) → key < sizes.keys → CopyHolds b w copy key
+  pub once : Once b
   pub ordered : Ordered b
   pub writers : WritersInOrder o b
   pub half-seen : NoneHalfSeen b

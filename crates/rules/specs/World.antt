@@ -193,6 +193,7 @@ copyStep w c e n =
       words = [];
     }
 
+-- every record of a log names its site, so the count is that of the log it came from
 unfoldable pub mergeStep : World → List ℕ → Merging → Result
 mergeStep w m e =
     let s = recordHead m .site in
