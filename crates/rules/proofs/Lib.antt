@@ -78,3 +78,13 @@ pub mod BookInstalls
 pub mod BookMove
 pub mod Demand
 pub mod Theorem
+pub mod Pending
+pub mod Phases
+pub mod PhaseTurns
+pub mod PhaseParts
+pub mod StepPhases
+pub mod InTurn
+pub mod Spoken
+pub mod GoesOn
+pub mod KnownWords
+pub mod Progress

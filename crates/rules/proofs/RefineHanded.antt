@@ -80,7 +80,7 @@ next-is p a b s k e f l =
 
 module _ {sites : ℕ} {p : Protocol} (i : Invariant sites p) (s : ℕ) {x : Site} {base lists : List ℕ} (y : SiteIs sites s x base lists (sliceOf p s)) (ws : List ℕ) where
   -- it is the next one, if its number is
-  arrives : Posted (p .post) ws → messageHead ws .to ≡ x .counters .own → messageHead ws .channel ≡ getD (x .channels .taken) (messageHead ws .from - 1) 0 + 1 → Arrival sites p s ws
+  pub arrives : Posted (p .post) ws → messageHead ws .to ≡ x .counters .own → messageHead ws .channel ≡ getD (x .channels .taken) (messageHead ws .from - 1) 0 + 1 → Arrival sites p s ws
   unfolding headOf
   arrives m to channel =
       let a = m .from in
@@ -117,7 +117,7 @@ module _ {sites : ℕ} {w : World} {p : Protocol} (r : Refines sites w p) (i : I
   Goal e = Follows sites p (siteStep w s e (w .base s) (e .lent) .world) (toldTaken s (head .kind) (head .tx) (e .words) (e .answer))
 
   -- words that pass are a posted message
-  posted : Handed w (world.message s out m) → messageOk (site .house) m ≡ true → Posted (p .post) m
+  pub posted : Handed w (world.message s out m) → messageOk (site .house) m ≡ true → Posted (p .post) m
   posted (inl h) e = all-is (r .sent) h
   posted (inr (inl (j, h))) e = let l : All IsRecord (w .log j) = rw (r .log j) (log-all j (p .log j)) in let (a, b) = all-is l h in absurd (set-not _ e (record-no-message (site .house) m a b))
   posted (inr (inr h)) e = let (a, b) = all-is (r .stream) h in absurd (set-not _ e (record-no-message (site .house) m a b))

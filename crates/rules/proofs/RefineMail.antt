@@ -48,7 +48,7 @@ pub made-in : {P : List ℕ → Type 0} {vs : List ℕ} → Made P vs → All P 
 unfolding messagesIn
 made-in {vs = vs} k = made-split k (length vs)
 
-made-append : {P : List ℕ → Type 0} {us vs : List ℕ} → Made P us → Made P vs → Made P (us ++ vs)
+pub made-append : {P : List ℕ → Type 0} {us vs : List ℕ} → Made P us → Made P vs → Made P (us ++ vs)
 made-append none b = b
 made-append {vs = vs} (one {m = m} {ws = ws} e l q p k) b = one (ap (λ z. z ++ vs) e ∙ append-assoc m ws vs) l q p (made-append k b)
 

@@ -48,3 +48,4 @@ pub mod DispatchLaws
 pub mod CopyLaws
 pub mod ListLaws
 pub mod InstallLaws
+pub mod Progress

@@ -1,0 +1,120 @@
+-- What the calls write: none but a message call can write a VOTE.
+use Prim.Native.Nat.{ℕ}
+use mathlib.Core.Path.{_≡_, refl}
+use mathlib.Core.Bool.{true}
+use mathlib.Core.List.{List, []}
+use lib.Dec.{eqb}
+use lib.ListN.{length}
+use Rattle.laws.specs.Choice.{by-test}
+use Rattle.kinds.specs.Sizes as sizes
+use Rattle.kinds.specs.Reason as reason
+use Rattle.kinds.specs.State.{Value, subAt}
+use Rattle.kinds.specs.declared.Site.{Site}
+use Rattle.rules.specs.House.{coordinatorOf, isSite, inMask}
+use Rattle.rules.specs.Message.{entryCount}
+use Rattle.rules.specs.Send.{countsLow}
+use Rattle.rules.specs.Keys.{wroteKey, readKey}
+use Rattle.rules.specs.Live.{placeOf, freePlace, stageAt, allHeard}
+use Rattle.rules.specs.History.{isForgotten}
+use Rattle.rules.specs.Join.{joined}
+use Rattle.rules.specs.Certify.{concurrent}
+use Rattle.rules.specs.Valid.{siteOk}
+use Rattle.rules.specs.Effect.{Change, Effect, turnAt, changed, unless}
+use Rattle.rules.specs.Course.{quietly, channelSpent}
+use Rattle.rules.specs.Begin.{beginCode, begun, beginOf}
+use Rattle.rules.specs.Access.{accessCode, readCode, readVersion, readAt, readOf, writeCodeAt, written, writeAt, writeOf}
+use Rattle.rules.specs.Enlist.{enlistCode, joinerCode, enlistAt, enlistOf}
+use Rattle.rules.specs.Commit.{requestCode, commitCode, abandonCode, isFull, isLost, isMine, requestChange, commitChange, commitLists, commitOf, abandonOf}
+use Rattle.rules.proofs.RefineStep.{by-code}
+use Rattle.rules.proofs.RefineCertify.{join-whole}
+use Rattle.rules.proofs.RefineMail.{Made, none}
+use Rattle.rules.proofs.Spoken.{Known, Speaks, enlist-speaks, abort-speaks, prepare-speaks, cast-speaks}
+
+-- the messages of an effect
+pub record Writes (e : Effect) : Type 0 where
+  pub known : Made Known (e .words)
+
+nothing : (e : Effect) → e .words ≡ [] → Writes e
+nothing e z = record { known = rw z none }
+
+-- a refusal writes nothing
+or-refused : (code : ℕ) (s : Site) (lent : List ℕ) (e : Effect) → Writes e → Writes (unless code s lent e)
+or-refused code s lent e x = by-code Writes code s lent e (λ z. x) (nothing _ refl)
+
+change-writes : (s : Site) (place : ℕ) (c : Change) (lent : List ℕ) → Speaks c → Writes (changed s place c lent)
+change-writes s place c lent x = record { known = x .known }
+
+pub begin-writes : (s : Site) → Writes (beginOf s)
+unfolding beginOf begun
+begin-writes s = or-refused (beginCode (siteOk s) (s .counters) (freePlace (s .live))) s [] _ (nothing _ refl)
+
+read-at : (s : Site) (base : List Value) (place key : ℕ) → Writes (readAt s base place key)
+unfolding readAt readVersion
+read-at s base place key =
+    let b = subAt s place in
+    by-test (wroteKey (b .keys) key)
+    (λ e. rw e (nothing _ refl))
+    (λ e. rw e (or-refused (readCode (isForgotten (s .counters .installs) (b .snapshot)) (readKey (b .keys) key) (b .keys .read)) s [] _ (nothing _ refl)))
+
+pub read-writes : (s : Site) (base : List Value) (tx key : ℕ) → Writes (readOf s base tx key)
+unfolding readOf
+read-writes s base tx key =
+    let place = placeOf (s .live) tx in
+    or-refused (accessCode (siteOk s) (length base) (s .house) (s .counters .own) key place (stageAt (s .live) place)) s [] _ (read-at s base place key)
+
+write-at : (s : Site) (place key : ℕ) (v : Value) → Writes (writeAt s place key v)
+unfolding writeAt written quietly
+write-at s place key v =
+    by-test (wroteKey (subAt s place .keys) key)
+    (λ e. rw e (nothing _ refl))
+    (λ e. rw e (or-refused (writeCodeAt s place key) s [] _ (nothing _ refl)))
+
+pub write-writes : (s : Site) (tx key : ℕ) (v : Value) → Writes (writeOf s tx key v)
+unfolding writeOf
+write-writes s tx key v =
+    let place = placeOf (s .live) tx in
+    or-refused (accessCode (siteOk s) sizes.keys (s .house) (s .counters .own) key place (stageAt (s .live) place)) s [] _ (write-at s place key v)
+
+pub enlist-writes : (s : Site) (room tx site : ℕ) → Writes (enlistOf s room tx site)
+unfolding enlistOf enlistAt
+enlist-writes s room tx site =
+    let place = placeOf (s .live) tx in
+    let c = subAt s place .course in
+    or-refused (enlistCode (siteOk s) room (isSite (s .house) site) place (eqb (coordinatorOf tx) (s .counters .own))) s [] _
+    (or-refused (joinerCode (c .stage) (eqb site (s .counters .own)) (inMask (c .mask) site) (channelSpent (s .channels) site)) s [] _
+    (change-writes s place _ [] (enlist-speaks (turnAt s place) site)))
+
+pub abandon-writes : (s : Site) (room tx : ℕ) → Writes (abandonOf s room tx)
+unfolding abandonOf
+abandon-writes s room tx =
+    let place = placeOf (s .live) tx in
+    let c = subAt s place .course in
+    or-refused (requestCode (siteOk s) room true place (isMine s tx)) s [] _
+    (or-refused (abandonCode (c .stage) (countsLow (s .channels .sent) (c .mask) (s .counters .own))) s [] _
+    (change-writes s place _ [] (abort-speaks (turnAt s place) reason.abandoned)))
+
+-- a commit request: PREPARE, or what a lone participant's vote brings, or ABORT
+request-speaks : (s : Site) (place : ℕ) (own : List ℕ) → Speaks (requestChange s place own)
+unfolding requestChange
+request-speaks s place own =
+    by-test (allHeard 0 (subAt s place .course .mask))
+    (λ e. rw e (cast-speaks _ _ (joined own (entryCount own)) (join-whole own (entryCount own))))
+    (λ e. rw e (prepare-speaks _))
+
+commit-speaks : (s : Site) (place : ℕ) → Speaks (commitChange s place)
+unfolding commitChange
+commit-speaks s place =
+    by-test (isFull s place)
+    (λ e. rw e (abort-speaks (turnAt s place) reason.full))
+    (λ e. by-test (isLost s place)
+    (λ f. rw (e, f) (abort-speaks (turnAt s place) reason.uncertain))
+    (λ f. rw (e, f) (request-speaks s place (concurrent s place))))
+
+pub commit-writes : (s : Site) (room : ℕ) (lists : List ℕ) (tx : ℕ) → Writes (commitOf s room lists tx)
+unfolding commitOf
+commit-writes s room lists tx =
+    let place = placeOf (s .live) tx in
+    let c = subAt s place .course in
+    or-refused (requestCode (siteOk s) room (eqb (length lists) sizes.lists) place (isMine s tx)) s lists _
+    (or-refused (commitCode (c .stage) (allHeard (c .heard) (c .mask)) (countsLow (s .channels .sent) (c .mask) (s .counters .own))) s lists _
+    (change-writes s place _ (commitLists s lists place) (commit-speaks s place)))
