@@ -1,0 +1,38 @@
+// Demand 3 speaks of lists that there are: each script is a lawful list, its calls answer what it tells, and the copies hold what is said here.
+ghost use mathlib.Core.Path.{_≡_};
+ghost use Prim.Native.Nat.{ℕ};
+ghost use Rattle.kinds.specs.declared.Answer.the-variants.{Standing};
+ghost use Rattle.rules.specs.Copy.{valueOf};
+ghost use Rattle.rules.specs.World.{Lawful, freshWorld, run};
+ghost use Rattle.rules.specs.Book.{bookFrom};
+ghost use Rattle.rules.specs.Claim.{Committed};
+ghost use Rattle.played.specs.Script.{answersFrom, answersOf};
+ghost use Rattle.played.specs.First.{firstScript, firstCalls};
+ghost use Rattle.played.specs.Second.{secondScript, secondCalls, secondMail, secondBook, spanning, halfSeeing, later};
+ghost use Rattle.played.specs.Seen.{SawBoth, SawHalf};
+
+// 01's worked script.
+pub fn first_script_plays()
+    ensures { λ _. ⌜ Lawful (freshWorld 1) firstCalls
+        × (answersFrom (freshWorld 1) firstCalls ≡ answersOf firstScript)
+        × (valueOf (run (freshWorld 1) firstCalls .copy 1) 5 ≡ Standing 700 1 1) ⌝ }
+{}
+
+// Commits at two sites, an abort 18, messages and records handed in twice, and two copies.
+pub fn second_script_plays()
+    ensures { λ _. ⌜ Lawful (freshWorld 2) secondCalls
+        × (answersFrom (freshWorld 2) secondCalls ≡ answersOf secondScript)
+        × (run (freshWorld 2) secondCalls .sent ≡ secondMail)
+        × (bookFrom (freshWorld 2) secondCalls ≡ secondBook)
+        × (valueOf (run (freshWorld 2) secondCalls .copy 1) 5 ≡ Standing 700 3 2)
+        × (valueOf (run (freshWorld 2) secondCalls .copy 1) 6 ≡ Standing 600 3 2)
+        × (valueOf (run (freshWorld 2) secondCalls .copy 1) 7 ≡ Standing 0 3 2)
+        × (valueOf (run (freshWorld 2) secondCalls .copy 1) 261 ≡ Standing 901 3 2)
+        × (valueOf (run (freshWorld 2) secondCalls .copy 2) 261 ≡ Standing 900 1 1) ⌝ }
+{}
+
+// In its book one saw `spanning` at both sites and committed; one saw it at site 1 only and did not.
+pub fn half_seeing_did_not_commit()
+    ensures { λ _. ⌜ SawBoth secondBook later spanning 1 2 × Committed secondBook later 3 2
+        × SawHalf secondBook halfSeeing spanning 1 2 × ((n c : ℕ) → Committed secondBook halfSeeing n c → ⊥) ⌝ }
+{}
