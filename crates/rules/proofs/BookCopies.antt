@@ -27,7 +27,7 @@ pub record BookIs (o : House) (b : List Fact) (p : Protocol) : Type 0 where
   pub last : (t k : ℕ) → 0 < p .num t → WroteIn p o t k → LastWrite b t k (wroteValue (p .keys (siteOf o k) t) k)
   pub low : (t : ℕ) → 0 < p .num t → coordinatorOf t < 16
 
-up-to : (n c m d : ℕ) → c < 16 → d < 16 → rank m d ≤ rank n c → UpTo n c m d
+pub up-to : (n c m d : ℕ) → c < 16 → d < 16 → rank m d ≤ rank n c → UpTo n c m d
 up-to n c m d x y h = unset (precedes n c m d) (λ e. omega (arith, precedes-rank n c m d x y e))
 
 module _ {o : House} {b : List Fact} {p : Protocol} (i : BookIs o b p) (n c k : ℕ) (v : Value) (l : c < 16) where

@@ -29,7 +29,7 @@ use Rattle.rules.proofs.Booked.{home, PairAt, Booked}
 
 module _ {sites : ℕ} {p : Protocol} {b : List Fact} (few : sites ≤ 8) (i : Invariant sites p) (x : Booked sites b p) where
   -- a committed transaction has a part at its coordinator, which is a site
-  low : (t : ℕ) → 0 < p .num t → coordinatorOf t < 16
+  pub low : (t : ℕ) → 0 < p .num t → coordinatorOf t < 16
   low t z = let l = low-coordinator few (i .parts) (coordinatorOf t) t (own (i .order .held t z)) in omega arith
     where
       own : AtStage p (coordinatorOf t) t stage.decided ⊎ Installed p (coordinatorOf t) t → p .has (coordinatorOf t) t ≡ true
@@ -75,7 +75,7 @@ module _ {sites : ℕ} {p : Protocol} {b : List Fact} (few : sites ≤ 8) (i : I
       x .sees .before s u j n c hu o (pair-at s j t n c l q et ct)
 
   -- what the book saw, the machine saw
-  saw-seen : (s t u : ℕ) → p .has s t ≡ true → Saw b s t u → Seen p s t u
+  pub saw-seen : (s t u : ℕ) → p .has s t ≡ true → Saw b s t u → Seen p s t u
   saw-seen s t u h (n, c, y, z) =
       let (a, e, f) = x .commits .commit u n c y in
       let (j, l, (g, k)) = x .sees .seen s t n c z in
@@ -83,7 +83,7 @@ module _ {sites : ℕ} {p : Protocol} {b : List Fact} (few : sites ≤ 8) (i : I
       let (o, q, _, _) = i .account .entry s j m in
       (j, (m, pair-once i (at p s j .tx) u q (sym o ∙ g ∙ sym e) (k ∙ sym f)), l)
 
-  seen-saw : (s t u : ℕ) → p .has s t ≡ true → Seen p s t u → Saw b s t u
+  pub seen-saw : (s t u : ℕ) → p .has s t ≡ true → Seen p s t u → Saw b s t u
   seen-saw s t u h (j, (l, e), k) =
       let z : 0 < p .num u = rw e at (i .account .entry s j l .1) in
       (p .num u, coordinatorOf u, x .commits .committed u z, x .sees .before s t j (p .num u) (coordinatorOf u) h k (pair-at s j u (p .num u) (coordinatorOf u) l e refl refl))

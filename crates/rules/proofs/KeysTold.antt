@@ -74,11 +74,11 @@ pub record Sets (b new : Keys) (k : ℕ) (v : Value) : Type 0 where
   pub others : (j : ℕ) → (j ≡ k → ⊥) → (wroteKey new j ≡ wroteKey b j) × (wroteKey b j ≡ true → wroteValue new j ≡ wroteValue b j)
 
 -- the place of a written key
-place-low : (b : Keys) (k : ℕ) → wroteKey b k ≡ true → keyPlace (b .writes) (b .wrote) k < b .wrote
+pub place-low : (b : Keys) (k : ℕ) → wroteKey b k ≡ true → keyPlace (b .writes) (b .wrote) k < b .wrote
 unfolding wroteKey
 place-low b k t = ltb-true _ _ t
 
-place-is : (keys : List ℕ) (n k : ℕ) → keyPlace keys n k < n → getD keys (keyPlace keys n k) 0 ≡ k
+pub place-is : (keys : List ℕ) (n k : ℕ) → keyPlace keys n k < n → getD keys (keyPlace keys n k) 0 ≡ k
 unfolding keyPlace
 place-is keys n k h = eqb-true _ _ (at-first (λ i. eqb (getD keys i 0) k) n h)
 

@@ -127,7 +127,7 @@ module _ {sites : ℕ} {w : World} {p : Protocol} (r : Refines sites w p) (s t k
     pub history : HistoryIs (here .history) (inst p s)
     pub live : LiveIs (here .live) (p .live s)
 
-  reaches : (room : ℕ) → accessCode (siteOk here) room (here .house) (here .counters .own) k spot (stageAt (here .live) spot) ≡ 0 → Reaches
+  pub reaches : (room : ℕ) → accessCode (siteOk here) room (here .house) (here .counters .own) k spot (stageAt (here .live) spot) ≡ 0 → Reaches
   reaches room e =
       let c = access-clear (siteOk here) room (here .house) (here .counters .own) k spot (stageAt (here .live) spot) e in
       let (l, h) = inside r s (c .valid) in

@@ -115,7 +115,7 @@ module _ {sites : ℕ} {w : World} {v : Stream} (x : StreamIs sites w v) (z : St
 
   -- the head of a site, as the merger reads it
   module _ (i : ℕ) (l : i < sites) (e : Entry) (r : List Entry) (q : m .queue (i + 1) ≡ e ∷ r) where
-    some-queued : 0 < sourceAt g i .queued
+    pub some-queued : 0 < sourceAt g i .queued
     some-queued = omega (arith, x .merger .source i l .queued, ap length q)
 
     clear-head : queuedPart (w .queues) i 0 ≡ entryWords (i + 1) e
@@ -123,7 +123,7 @@ module _ {sites : ℕ} {w : World} {v : Stream} (x : StreamIs sites w v) (z : St
         let c = x .merger .source i l in
         rw q at (c .words 0 (omega (arith, ap length q)))
 
-    head-is : headIn (headsOf (w .queues) (g .house .sites)) i ≡ partHeadOf (i + 1) e
+    pub head-is : headIn (headsOf (w .queues) (g .house .sites)) i ≡ partHeadOf (i + 1) e
     head-is =
         let c = x .merger .holds .clear in
         let b : i < g .house .sites = rw (x .merger .house) l in
@@ -131,7 +131,7 @@ module _ {sites : ℕ} {w : World} {v : Stream} (x : StreamIs sites w v) (z : St
         ∙ head-part (g .house) (w .queues) i (c .parts i 0 b some-queued)
         ∙ ap recordHead clear-head ∙ part-head (i + 1) e
 
-    head-low : coordinatorOf (e .tx) ≤ 8
+    pub head-low : coordinatorOf (e .tx) ≤ 8
     head-low = low-coordinator few (z .invariant .parts) (i + 1) (e .tx) (head-real (z .invariant) (z .streamed) (i + 1) e r (omega arith) q .has)
 
   -- An emit.

@@ -158,7 +158,7 @@ history-more history es e x =
     }
 
 -- what is forgotten keeps the base values' number
-forget-length : (b : Keys) (n : ℕ) (base : List Value) → length (foldBelow (λ i l. set l (getD (b .writes) i 0) (getD (b .values) i fresh)) n base) ≡ length base
+pub forget-length : (b : Keys) (n : ℕ) (base : List Value) → length (foldBelow (λ i l. set l (getD (b .writes) i 0) (getD (b .values) i fresh)) n base) ≡ length base
 unfolding foldBelow
 forget-length b zero base = refl
 forget-length b (suc n) base = simp length-set (forget-length b n base)

@@ -80,7 +80,7 @@ module _ {sites : ℕ} {w : World} {v : Stream} (x : StreamIs sites w v) where
     below : place < length (p .log s)
     words : ws ≡ recWords s (getD (p .log s) place (rState 0))
 
-  logged : (s i : ℕ) → i < length (w .log s) → (i < length (p .log s)) × (getD (w .log s) i [] ≡ recWords s (getD (p .log s) i (rState 0)))
+  pub logged : (s i : ℕ) → i < length (w .log s) → (i < length (p .log s)) × (getD (w .log s) i [] ≡ recWords s (getD (p .log s) i (rState 0)))
   logged s i h = rw (x .refines .log s) (map-at (recWords s) (p .log s) (rState 0) i (rw (x .refines .log s) at h))
 
   site-in : (s : ℕ) (r : Rec) → recordHead (recWords s r) .site ≡ s

@@ -22,7 +22,7 @@ use Rattle.rules.proofs.News.{YesNow, NumNow}
 use Rattle.rules.proofs.Changes.{Change, change, snap-has, saw}
 use Rattle.rules.proofs.StepAccount.{part-had}
 
-low-more : (n m : ℕ) → n ≤ m → (r : Rec) → RecLow n r → RecLow m r
+pub low-more : (n m : ℕ) → n ≤ m → (r : Rec) → RecLow n r → RecLow m r
 low-more n m h (rPart e) l = omega arith
 low-more n m h (rState k) l = omega arith
 

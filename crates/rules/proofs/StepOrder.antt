@@ -29,14 +29,14 @@ use Rattle.rules.proofs.Committed.{low-coordinator}
 use Rattle.rules.proofs.StepClocks.{log-low}
 
 -- what a clock bounds is below the next number, for any coordinator
-below-next : {n : ℕ} {l : List Rec} (c : ℕ) → All (RecLow n) l → ((j : ℕ) → j < length (partsOf l) → coordinatorOf (getD (partsOf l) j pastEntry .tx) ≤ 8)
+pub below-next : {n : ℕ} {l : List Rec} (c : ℕ) → All (RecLow n) l → ((j : ℕ) → j < length (partsOf l) → coordinatorOf (getD (partsOf l) j pastEntry .tx) ≤ 8)
     → All (RecBelow (n + 1) c) l
 below-next c a-nil h = a-nil
 below-next c (a-cons {x = rPart e} p ps) h = a-cons {x = rPart e} (omega (arith, h 0 (omega arith))) (below-next c ps (λ j l. h (suc j) (omega arith)))
 below-next c (a-cons {x = rState k} p ps) h = a-cons {x = rState k} (omega arith) (below-next c ps h)
 
 -- two logs, one behind the other
-own-append : (c : ℕ) (before l m : List Rec) → OwnAbove c before l → OwnAbove c (before ++ l) m → OwnAbove c before (l ++ m)
+pub own-append : (c : ℕ) (before l m : List Rec) → OwnAbove c before l → OwnAbove c (before ++ l) m → OwnAbove c before (l ++ m)
 own-append c before [] m o h = rw append-nil at h
 own-append c before (rPart e ∷ l) m (a, o) h = (a, own-append c (before ++ (rPart e ∷ [])) l m o (rw append-assoc h))
 own-append c before (rState k ∷ l) m o h = own-append c (before ++ (rState k ∷ [])) l m o (rw append-assoc h)
@@ -46,7 +46,7 @@ unfolding coordinatorOf
 coordinator-order x t h = omega arith
 
 -- not behind in the queue, and no pair twice: below
-not-behind : (n m x t : ℕ) → precedes m t n x ≡ false → coordinatorOf x ≤ 8 → (n ≡ m → coordinatorOf x ≡ coordinatorOf t → ⊥)
+pub not-behind : (n m x t : ℕ) → precedes m t n x ≡ false → coordinatorOf x ≤ 8 → (n ≡ m → coordinatorOf x ≡ coordinatorOf t → ⊥)
     → rank n (coordinatorOf x) < rank m (coordinatorOf t)
 unfolding precedes
 not-behind n m x t e h f =
@@ -56,7 +56,7 @@ not-behind n m x t e h f =
     (λ b. let k = eqb-true m n b in omega (arith, f (sym k), coordinator-order x t (ltb-false t x (rw (a, b) at e))))
     (λ b. let k = eqb-false m n b in omega (arith, ltb-false m n a)))
 
-decided-queued : (b : Sub) → b .course .stage ≡ stage.decided → isQueued b ≡ true
+pub decided-queued : (b : Sub) → b .course .stage ≡ stage.decided → isQueued b ≡ true
 unfolding isQueued
 decided-queued b e = rw e
 
@@ -75,7 +75,7 @@ module _ {sites : ℕ} (h : sites ≤ 8) {p : Protocol} (i : Invariant sites p) 
       rw (x, m .1) (not-behind (p .num u) (p .num t) u t b (low-coordinator h (i .parts) s u (i .parts .has s u (λ f. omega arith))) (λ e o. n (i .clocks .once u t (m .2) e o)))
 
   -- an installed part is free
-  gone : (s t : ℕ) → Installed q s t → AtStage q s t stage.decided → ⊥
+  pub gone : (s t : ℕ) → Installed q s t → AtStage q s t stage.decided → ⊥
   gone s t (j, (l, e)) d = let f = rw e at (c .parts .entry-gone s j l) in omega arith
 
   decided : (t : ℕ) → OwnStage q t stage.decided → All (RecBelow (q .num t) (coordinatorOf t)) (q .log (coordinatorOf t))

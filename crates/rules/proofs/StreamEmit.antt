@@ -35,43 +35,43 @@ all-right : {A : Type 0} {P : A → Type 0} (l m : List A) → All P (l ++ m) �
 all-right [] m h = h
 all-right (x ∷ l) m (a-cons p ps) = all-right l m ps
 
-all-take : {A : Type 0} {P : A → Type 0} (n : ℕ) (l : List A) → All P l → All P (take n l)
+pub all-take : {A : Type 0} {P : A → Type 0} (n : ℕ) (l : List A) → All P l → All P (take n l)
 all-take n l h = all-left (take n l) (drop n l) (rw (take-append-drop n l) h)
 
 all-head : {A : Type 0} {P : A → Type 0} {x : A} {l : List A} → All P (x ∷ l) → P x
 all-head (a-cons p ps) = p
 
-all-parts : {P : Rec → Type 0} {l : List Rec} → All P l → (i : ℕ) → i < length (partsOf l) → P (rPart (getD (partsOf l) i pastEntry))
+pub all-parts : {P : Rec → Type 0} {l : List Rec} → All P l → (i : ℕ) → i < length (partsOf l) → P (rPart (getD (partsOf l) i pastEntry))
 all-parts a-nil i h = absurd (omega arith)
 all-parts (a-cons {x = rPart e} p ps) zero h = p
 all-parts (a-cons {x = rPart e} p ps) (suc i) h = all-parts ps i (omega arith)
 all-parts (a-cons {x = rState n} p ps) i h = all-parts ps i h
 
 -- the last state number is bounded as all are
-end-below : {n c : ℕ} (k : ℕ) {l : List Rec} → All (RecBelow n c) l → k < n → endState k l < n
+pub end-below : {n c : ℕ} (k : ℕ) {l : List Rec} → All (RecBelow n c) l → k < n → endState k l < n
 end-below k a-nil h = h
 end-below k (a-cons {x = rPart e} p ps) h = end-below k ps h
 end-below k (a-cons {x = rState i} p ps) h = end-below i ps p
 
-end-low : {n : ℕ} (k : ℕ) {l : List Rec} → All (RecLow n) l → k ≤ n → endState k l ≤ n
+pub end-low : {n : ℕ} (k : ℕ) {l : List Rec} → All (RecLow n) l → k ≤ n → endState k l ≤ n
 end-low k a-nil h = h
 end-low k (a-cons {x = rPart e} p ps) h = end-low k ps h
 end-low k (a-cons {x = rState i} p ps) h = end-low i ps p
 
 -- A part of the log's own site: what stands before it is below it.
-own-before : (c : ℕ) (before l : List Rec) → OwnAbove c before l → (i : ℕ) → i < length (partsOf l) → coordinatorOf (getD (partsOf l) i pastEntry .tx) ≡ c
+pub own-before : (c : ℕ) (before l : List Rec) → OwnAbove c before l → (i : ℕ) → i < length (partsOf l) → coordinatorOf (getD (partsOf l) i pastEntry .tx) ≡ c
     → All (RecBelow (getD (partsOf l) i pastEntry .number) c) before
 own-before c before [] o i h e = absurd (omega arith)
 own-before c before (rPart x ∷ l) (a, o) zero h e = a e
 own-before c before (rPart x ∷ l) (a, o) (suc i) h e = all-left before (rPart x ∷ []) (own-before c (before ++ (rPart x ∷ [])) l o i (omega arith) e)
 own-before c before (rState k ∷ l) o i h e = all-left before (rState k ∷ []) (own-before c (before ++ (rState k ∷ [])) l o i h e)
 
-own-behind : (c : ℕ) (before l m : List Rec) → OwnAbove c before (l ++ m) → OwnAbove c (before ++ l) m
+pub own-behind : (c : ℕ) (before l m : List Rec) → OwnAbove c before (l ++ m) → OwnAbove c (before ++ l) m
 own-behind c before [] m o = rw append-nil o
 own-behind c before (rPart x ∷ l) m (a, o) = rw append-assoc at (own-behind c (before ++ (rPart x ∷ [])) l m o)
 own-behind c before (rState k ∷ l) m o = rw append-assoc at (own-behind c (before ++ (rState k ∷ [])) l m o)
 
-own-parts : (c : ℕ) (before l : List Rec) → OwnAbove c before l → (j i : ℕ) → j < i → i < length (partsOf l) → coordinatorOf (getD (partsOf l) i pastEntry .tx) ≡ c
+pub own-parts : (c : ℕ) (before l : List Rec) → OwnAbove c before l → (j i : ℕ) → j < i → i < length (partsOf l) → coordinatorOf (getD (partsOf l) i pastEntry .tx) ≡ c
     → rankOf (getD (partsOf l) j pastEntry) < rank (getD (partsOf l) i pastEntry .number) c
 own-parts c before [] o j i x h e = absurd (omega arith)
 own-parts c before (rPart y ∷ l) (a, o) j zero x h e = absurd (omega arith)

@@ -35,7 +35,7 @@ not-above a b n k x y (rPart e) h = omega arith
 not-above a b n k x y (rState i) h = omega arith
 
 module _ {out : List Item} {s : ℕ} {log : List Rec} {took : ℕ} {queue : List Entry} {state last : ℕ} (i : Source out s log took queue state last) (l : took < length log) where
-  taken-more : (r : Rec) → getD log took r ≡ r → take (took + 1) log ≡ take took log ++ (r ∷ [])
+  pub taken-more : (r : Rec) → getD log took r ≡ r → take (took + 1) log ≡ take took log ++ (r ∷ [])
   taken-more r e = rw (add-one, take-suc log took r l, e)
 
   more-part : (e : Entry) → getD log took (rPart e) ≡ rPart e → last < rankOf e → Source out s log (took + 1) (queue ++ (e ∷ [])) state (rankOf e)
@@ -87,7 +87,7 @@ module _ {sites : ℕ} {p : Protocol} {m : Merger} (i : Streamed sites p m) wher
       (λ t. rw t (i .source j)))
 
 -- A move of the sites: a log may have one record more, clocks never fall, and a new number is above the clock.
-grown : (p : Protocol) (s : ℕ) (l : List Rec) → Logged p s l → (r : List Rec) × (l ≡ p .log s ++ r)
+pub grown : (p : Protocol) (s : ℕ) (l : List Rec) → Logged p s l → (r : List Rec) × (l ≡ p .log s ++ r)
 grown p s l (l-same e) = ([], e ∙ sym (append-nil (p .log s)))
 grown p s l (l-part t d f e) = (_, e)
 grown p s l (l-state n a e) = (_, e)

@@ -21,7 +21,7 @@ use Rattle.rules.proofs.BookReplays.{on-installed, book-replays}
 use Rattle.rules.proofs.Demand.{holds}
 
 -- a replay tells the book, and nothing of the sites
-told-facts : {sites : ℕ} {p : Protocol} (b : List Fact) (c : Call) (a : Answer) (ws : List ℕ) → Booked sites (b ++ toldBy c a ws) p → Booked sites (b ++ factsOf c a ws) p
+pub told-facts : {sites : ℕ} {p : Protocol} (b : List Fact) (c : Call) (a : Answer) (ws : List ℕ) → Booked sites (b ++ toldBy c a ws) p → Booked sites (b ++ factsOf c a ws) p
 told-facts b (world.begin s) a ws x = x
 told-facts b (world.enlist s out t n) a ws x = x
 told-facts b (world.read s t k) a ws x = x

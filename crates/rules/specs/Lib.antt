@@ -49,3 +49,4 @@ pub mod CopyLaws
 pub mod ListLaws
 pub mod InstallLaws
 pub mod Progress
+pub mod Reads

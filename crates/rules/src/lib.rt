@@ -1,13 +1,24 @@
 // What a reader must believe: the rules of 01 as definitions (specs), and what holds of these very definitions after any list of calls.
 ghost use Rattle.rules.specs.Claim.{Demand3};
-ghost use Rattle.rules.specs.Progress.{MessagesProgress};
+ghost use Rattle.rules.specs.Progress.{MessagesProgress, RecordsProgress};
+ghost use Rattle.rules.specs.Reads.{ReadsRight};
 
 // Demand 3: any list of the thirteen calls, from a fresh house.
 pub fn demand3_holds()
     ensures { λ _. ⌜ Demand3 ⌝ }
 {}
 
+// In such a list each accepted read answers the own last write, else what the installs that its part saw left.
+pub fn reads_right()
+    ensures { λ _. ⌜ ReadsRight ⌝ }
+{}
+
 // In such a list no message is refused 6, and none is voted 5.
 pub fn messages_progress()
     ensures { λ _. ⌜ MessagesProgress ⌝ }
+{}
+
+// In such a list every log ascends, its next record is taken, a due record is whole, and a drained house emits.
+pub fn records_progress()
+    ensures { λ _. ⌜ RecordsProgress ⌝ }
 {}

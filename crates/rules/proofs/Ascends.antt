@@ -1,0 +1,170 @@
+-- Every log ascends, at every site: an open mark is at or above all that its site's log has, a decided pair above it, and each part above
+-- what stands before it. For the queue's least is installed, and a mark is the clock of its day and below the number that follows.
+use Prim.Native.Nat.{ℕ, _+_, _-_, _≤_}
+use mathlib.Core.Path.{_≡_, refl, sym, _∙_}
+use mathlib.Core.Bool.{true, false}
+use mathlib.Core.Logic.{_⊎_, inl, inr, ⊎-elim}
+use mathlib.Core.List.{[]}
+use native.Mathlib.Omega.{arith}
+use borrow.Author.Tests.{ltb-false}
+use lib.Dec.{ltb}
+use Rattle.laws.specs.Choice.{by-test}
+use Rattle.laws.specs.Pair.{precedes}
+use Rattle.kinds.specs.Stage as stage
+use Rattle.kinds.specs.declared.Sub.{Sub}
+use Rattle.kinds.specs.State.{noSub}
+use Rattle.rules.specs.House.{coordinatorOf}
+use Rattle.rules.specs.Live.{isQueued}
+use Rattle.rules.specs.Queue.{queuedBefore}
+use Rattle.rules.specs.Install.{entryOf}
+use Rattle.rules.proofs.Tables.{All, all-map, all-append, all-one}
+use Rattle.rules.proofs.Protocol.{Protocol, rPart, AtStage, courseAt, LeastQueued, Move, freshProtocol}
+use Rattle.rules.proofs.Invariants.{Held, RecLow, RecBelow, OwnAbove, Courses, Account, Invariant}
+use Rattle.rules.proofs.Frames.{set-not}
+use Rattle.rules.proofs.Turns.{Turn, t-stays, t-moves, t-reads, t-aborts, t-installs, t-begins, Logged, l-same, l-part, l-state, installed-last}
+use Rattle.rules.proofs.News.{YesNow}
+use Rattle.rules.proofs.Changes.{Change, change}
+use Rattle.rules.proofs.Committed.{low-coordinator, committed-yes}
+use Rattle.rules.proofs.StepAccount.{account-step}
+use Rattle.rules.proofs.StepClocks.{low-more, log-low}
+use Rattle.rules.proofs.StepOrder.{below-next, own-append, not-behind, decided-queued, gone}
+use Rattle.rules.proofs.PhaseParts.{by-eq}
+use Rattle.rules.proofs.Stream.{Stream, Steps, stop, more, moves, merges, replays}
+use Rattle.rules.proofs.StreamReached.{Standing, standing-steps}
+
+-- `above`: whatever a part's coordinator, what stands before it is below it
+pub record Ascends (p : Protocol) : Type 0 where
+  pub queued : (s t : ℕ) → AtStage p s t stage.queued → All (RecLow (courseAt p s t .number)) (p .log s)
+  pub decided : (s t : ℕ) → AtStage p s t stage.decided → All (RecBelow (p .num t) (coordinatorOf t)) (p .log s)
+  pub above : (s c : ℕ) → OwnAbove c [] (p .log s)
+
+-- who voted yes and is held stands in the queue
+pub yes-queued : {p : Protocol} → Courses p → (s t : ℕ) → Held p s t → p .yes s t ≡ true → AtStage p s t stage.queued ⊎ AtStage p s t stage.decided
+yes-queued {p} c s t h y =
+    by-eq (courseAt p s t .stage) stage.queued (λ e. inl e)
+    (λ n. by-eq (courseAt p s t .stage) stage.decided (λ e. inr e)
+    (λ m. by-eq (courseAt p s t .stage) stage.active
+    (λ e. absurd (set-not _ y (c .active s t e .1)))
+    (λ k. by-eq (courseAt p s t .stage) stage.prepared
+    (λ e. absurd (set-not _ y (c .prepared s t e .1)))
+    (λ l. absurd (set-not _ y (c .rejected s t (omega (arith, c .stages s t, h))))))))
+
+yes-open : {p : Protocol} → Courses p → (s t : ℕ) → Held p s t → (AtStage p s t stage.decided → ⊥) → p .yes s t ≡ true → AtStage p s t stage.queued
+yes-open {p} c s t h n y = ⊎-elim (λ (e : AtStage p s t stage.queued). e) (λ (e : AtStage p s t stage.decided). absurd (n e)) (yes-queued c s t h y)
+
+-- not before in the queue, by number alone
+not-lower : (n m x t : ℕ) → precedes m t n x ≡ false → n ≤ m
+unfolding precedes
+not-lower n m x t e = by-test (ltb m n) (λ a. absurd (set-not true refl (rw a at e))) (λ a. ltb-false m n a)
+
+open-queued : (b : Sub) → b .course .stage ≡ stage.queued → isQueued b ≡ true
+unfolding isQueued
+open-queued b e = rw e
+
+module _ {sites : ℕ} (few : sites ≤ 8) {p : Protocol} (i : Invariant sites p) (a : Ascends p) {q : Protocol} (c : Change sites p q) (k : Account q) where
+  -- an open mark stays above what is written
+  open-kept : (s t : ℕ) → AtStage p s t stage.queued → All (RecLow (courseAt p s t .number)) (q .log s)
+  unfolding entryOf queuedBefore
+  open-kept s t x = go (c .logs s)
+    where
+      go : Logged p s (q .log s) → All (RecLow (courseAt p s t .number)) (q .log s)
+      go (l-same e) = rw e (a .queued s t x)
+      go (l-part u d l e) =
+          rw e (all-append (a .queued s t x) (all-one (not-lower _ _ (p .live s u .tx) (p .live s t .tx) (l t (open-queued (p .live s t) x)))))
+      go (l-state n st e) = rw e (all-append (a .queued s t x) (all-one (st .marks t x)))
+
+  -- the mark of a yes: the clock of this move, or that of a part which was open
+  marked : (s t : ℕ) → q .yes s t ≡ true → (p .yes s t ≡ true → AtStage p s t stage.queued) → All (RecLow (q .mark s t)) (q .log s)
+  marked s t y x = go (c .news .yes s t y)
+    where
+      go : (p .yes s t ≡ true) ⊎ YesNow p q s t (q .mark s t) → All (RecLow (q .mark s t)) (q .log s)
+      go (inl e) = rw (c .later .yes s t e .1, ← i .courses .queued s t (x e) .1) (open-kept s t (x e))
+      go (inr (u, v, e, z, m)) = rw e (log-low i c s)
+
+  queued : (s t : ℕ) → AtStage q s t stage.queued → All (RecLow (courseAt q s t .number)) (q .log s)
+  queued s t x = let (y, n) = c .courses .queued s t x in rw n (marked s t y (was (c .turns s t)))
+    where
+      was : Turn p q s t (q .live s t) → p .yes s t ≡ true → AtStage p s t stage.queued
+      was (t-stays e d f) y = sym d ∙ x
+      was (t-moves e d f g u v) y = yes-open (i .courses) s t d f y
+      was (t-reads e d f g u v) y = absurd (omega arith)
+      was (t-aborts e d f g) y = absurd (omega arith)
+      was (t-installs e d f g) y = absurd (omega arith)
+      was (t-begins d e f g) y = absurd (omega arith)
+
+  -- the queue's least is below every other that is decided there
+  least-below : (s u t : ℕ) → AtStage p s u stage.decided → LeastQueued p s u → AtStage p s t stage.decided → (u ≡ t → ⊥)
+      → RecBelow (p .num t) (coordinatorOf t) (rPart (entryOf (p .live s u)))
+  unfolding entryOf queuedBefore
+  least-below s u t d l x n =
+      let e : p .live s u .tx ≡ u = i .parts .tx s u (λ f. omega arith) in
+      let f : p .live s t .tx ≡ t = i .parts .tx s t (λ f. omega arith) in
+      let (y, m, g) = i .courses .decided s u d in
+      let b : precedes (p .num t) t (p .num u) u ≡ false = rw (i .courses .decided s t x .1, m, e, f) at (l t (decided-queued (p .live s t) x)) in
+      rw (e, m) (not-behind (p .num u) (p .num t) u t b (low-coordinator few (i .parts) s u (i .parts .has s u (λ f. omega arith))) (λ z o. n (i .clocks .once u t g z o)))
+
+  -- a decided pair stays above what is written
+  decided-kept : (s t : ℕ) → AtStage p s t stage.decided → AtStage q s t stage.decided → All (RecBelow (p .num t) (coordinatorOf t)) (q .log s)
+  unfolding entryOf
+  decided-kept s t x y = go (c .logs s)
+    where
+      go : Logged p s (q .log s) → All (RecBelow (p .num t) (coordinatorOf t)) (q .log s)
+      go (l-same e) = rw e (a .decided s t x)
+      go (l-part u d l e) = rw e (all-append (a .decided s t x) (all-one (least-below s u t d l x other)))
+        where
+          other : u ≡ t → ⊥
+          other z = gone few i c s t (rw z at (installed-last p s u _ (i .parts .tx s u (λ f. omega arith)) e)) y
+      go (l-state n st e) =
+          let z = i .courses .decided s t x in
+          rw e (all-append (a .decided s t x) (all-one (omega (arith, st .numbers t x, z .1, z .2))))
+
+  -- a number is above the mark, and the mark at or above the log
+  decided-now : (s t : ℕ) → AtStage q s t stage.decided → (p .yes s t ≡ true → AtStage p s t stage.queued) → All (RecBelow (q .num t) (coordinatorOf t)) (q .log s)
+  decided-now s t x w =
+      let (y, e, n) = c .courses .decided s t x in
+      let l = committed-yes (c .parts) k t n s (c .parts .has s t (λ f. omega arith)) .1 in
+      let z : q .num t - 1 + 1 ≡ q .num t = omega arith in
+      rw z at (below-next (coordinatorOf t) (all-map (low-more (q .mark s t) (q .num t - 1) (omega arith)) (marked s t y w))
+      (λ j b. low-coordinator few (c .parts) s _ (c .parts .entry-has s j b)))
+
+  decided : (s t : ℕ) → AtStage q s t stage.decided → All (RecBelow (q .num t) (coordinatorOf t)) (q .log s)
+  decided s t x = go (c .turns s t)
+    where
+      before : AtStage p s t stage.decided → All (RecBelow (q .num t) (coordinatorOf t)) (q .log s)
+      before y = rw (c .later .num t (i .courses .decided s t y .2)) (decided-kept s t y x)
+
+      go : Turn p q s t (q .live s t) → All (RecBelow (q .num t) (coordinatorOf t)) (q .log s)
+      go (t-stays e d f) = before (sym d ∙ x)
+      go (t-moves e d f g u v) = decided-now s t x (yes-open (i .courses) s t d f)
+      go (t-reads e d f g u v) = absurd (omega arith)
+      go (t-aborts e d f g) = absurd (omega arith)
+      go (t-installs e d f g) = absurd (omega arith)
+      go (t-begins d e f g) = absurd (omega arith)
+
+  above : (s r : ℕ) → OwnAbove r [] (q .log s)
+  unfolding entryOf
+  above s r = go (c .logs s)
+    where
+      go : Logged p s (q .log s) → OwnAbove r [] (q .log s)
+      go (l-same e) = rw e (a .above s r)
+      go (l-part u x l e) =
+          let (y, n, z) = i .courses .decided s u x in
+          let f = i .parts .tx s u (λ f. omega arith) in
+          rw e (own-append r [] (p .log s) _ (a .above s r) ((λ (g : coordinatorOf (p .live s u .tx) ≡ r). rw (← g, n, f) (a .decided s u x)), tt))
+      go (l-state n x e) = rw e (own-append r [] (p .log s) _ (a .above s r) tt)
+
+pub ascends-step : {sites : ℕ} {p q : Protocol} → sites ≤ 8 → Move sites p q → Invariant sites p → Ascends p → Ascends q
+ascends-step {sites} {p} {q} few m i a =
+    let c = change sites p q few m i in
+    let k = account-step sites p q few m i in
+    record { queued = queued few i a c k; decided = decided few i a c k; above = above few i a c k }
+
+pub ascends-fresh : Ascends freshProtocol
+unfolding freshProtocol noSub
+ascends-fresh = record { queued = λ s t h. absurd (omega arith); decided = λ s t h. absurd (omega arith); above = λ s c. tt }
+
+pub ascends-steps : {sites : ℕ} {v w : Stream} → sites ≤ 8 → Steps sites v w → Standing sites v → Ascends (v .protocol) → Ascends (w .protocol)
+ascends-steps few stop z a = a
+ascends-steps few (more ss (moves q m)) z a = ascends-step few m (standing-steps few ss z .invariant) (ascends-steps few ss z a)
+ascends-steps few (more ss (merges n m)) z a = ascends-steps few ss z a
+ascends-steps few (more ss (replays c l)) z a = ascends-steps few ss z a
