@@ -1,0 +1,208 @@
+// What stands around a call: a line is read and what it hands in fetched; what the call wrote is kept, and its outcome printed.
+mod post;
+pub mod route;
+
+use kinds::Answer;
+use kinds::House;
+use kinds::reason::NOTHING;
+use kinds::sizes::OUTGOING;
+use kinds::sizes::SITES;
+use lines::Command;
+use pages::PAGE;
+use pages::say;
+use post::STREAM;
+use post::log;
+use post::send_all;
+use route::MERGER;
+use route::NOWHERE;
+use route::routed;
+use script::Input;
+use script::LINE;
+use script::TEXT;
+use script::next_line;
+use spool::First;
+use spool::ITEM;
+use spool::QUEUES;
+use spool::STORE;
+
+// Why a script ends, where `found` of its input does not say it: the temporary file or the output fails.
+pub const LOST: u64 = 4;
+
+pub const UNWRITTEN: u64 = 5;
+
+// A script under way: `state` is LINE until it ends, and then says why.
+pub struct Desk {
+    pub house: House,
+    pub input: Input,
+    pub event: u64,
+    pub used: usize,
+    pub state: u64,
+}
+
+// A line and its place, with what it hands in: the queue, its first item's words and the address behind it.
+pub struct Ask {
+    pub desk: Desk,
+    pub command: Command,
+    pub place: usize,
+    pub queue: usize,
+    pub words: usize,
+    pub next: u64,
+}
+
+pub fn ended(d: Desk, state: u64) -> Desk {
+    let mut e = d;
+    e.state = state;
+    e
+}
+
+// Prints a line's outcome.
+pub fn answered(d: Desk, page: &mut [u8; PAGE], a: Answer) -> Desk {
+    let said = say(page, d.used, d.event, a);
+    let mut e = d;
+    e.used = said.used;
+    if !said.ok {
+        return ended(e, UNWRITTEN);
+    }
+    e
+}
+
+pub fn idle(d: Desk) -> Ask {
+    Ask {
+        desk: d,
+        command: Command::Bad,
+        place: NOWHERE,
+        queue: QUEUES,
+        words: 0,
+        next: 0,
+    }
+}
+
+// Fetches the first item of a queue; none gives 17.
+fn fetched(
+    d: Desk,
+    c: Command,
+    place: usize,
+    queue: usize,
+    fd: i32,
+    store: &mut [u64; STORE],
+    item: &mut [u64; ITEM],
+    page: &mut [u8; PAGE],
+) -> Ask {
+    if QUEUES <= queue {
+        return Ask {
+            desk: d,
+            command: c,
+            place,
+            queue,
+            words: 0,
+            next: 0,
+        };
+    }
+    let first = spool::front(fd, store, queue, item);
+    match first {
+        First::Found(words, next) => Ask {
+            desk: d,
+            command: c,
+            place,
+            queue,
+            words,
+            next,
+        },
+        First::Nothing => idle(answered(d, page, Answer::Refused(NOTHING))),
+        First::Lost => idle(ended(d, LOST)),
+    }
+}
+
+// Reads a line. Its place is NOWHERE where it is answered already, or the script is at its end.
+pub fn next_ask(
+    d: Desk,
+    text: &mut [u8; TEXT],
+    fd: i32,
+    store: &mut [u64; STORE],
+    item: &mut [u64; ITEM],
+    page: &mut [u8; PAGE],
+) -> Ask {
+    let before = d.input;
+    let line = next_line(text, before);
+    let input = line.input;
+    let c = line.command;
+    let mut e = d;
+    e.input = input;
+    e.event = std::num::wrapping_add_u64(d.event, 1);
+    if line.found != LINE {
+        return idle(ended(e, line.found));
+    }
+    let house = e.house;
+    let r = routed(house, c);
+    if NOWHERE <= r.place {
+        return idle(answered(e, page, Answer::Refused(r.code)));
+    }
+    fetched(e, c, r.place, r.queue, fd, store, item, page)
+}
+
+fn is_refused(a: Answer) -> bool {
+    if let Answer::Refused(_) = a {
+        true
+    } else {
+        false
+    }
+}
+
+// Takes the item that was handed in from its queue.
+fn dropped(a: Ask, fd: i32, store: &mut [u64; STORE]) -> bool {
+    let queue = a.queue;
+    if QUEUES <= queue {
+        return true;
+    }
+    spool::drop_front(fd, store, queue, a.words, a.next)
+}
+
+// Keeps what a call wrote: records in the site's log or the stream, messages on their channels.
+fn kept(a: Ask, fd: i32, store: &mut [u64; STORE], words: &[u64]) -> bool {
+    if words.len() == 0 {
+        return true;
+    }
+    let place = a.place;
+    if place == MERGER {
+        return spool::push(fd, store, STREAM, words);
+    }
+    if SITES <= place {
+        return false;
+    }
+    let c = a.command;
+    match c {
+        Command::Install(_) => spool::push(fd, store, log(place), words),
+        Command::Report(_) => spool::push(fd, store, log(place), words),
+        _ => send_all(fd, store, words),
+    }
+}
+
+fn kept_front(a: Ask, fd: i32, store: &mut [u64; STORE], out: &[u64], n: usize) -> bool {
+    if out.len() < n {
+        return false;
+    }
+    kept(a, fd, store, &out[0..n])
+}
+
+// Ends an asked line: a refused one leaves what was handed in as the next, and wrote nothing.
+pub fn settled(
+    a: Ask,
+    answer: Answer,
+    n: usize,
+    out: &[u64; OUTGOING],
+    fd: i32,
+    store: &mut [u64; STORE],
+    page: &mut [u8; PAGE],
+) -> Desk {
+    let d = a.desk;
+    if is_refused(answer) {
+        return answered(d, page, answer);
+    }
+    if !dropped(a, fd, store) {
+        return ended(d, LOST);
+    }
+    if !kept_front(a, fd, store, out, n) {
+        return ended(d, LOST);
+    }
+    answered(d, page, answer)
+}

@@ -1,0 +1,100 @@
+-- A count bounds the turns; the tables keep their lengths.
+use borrow.Author.Needs.{needs}
+use lib.ListN.{length, length-set}
+use mathlib.Core.Path.{_≡_}
+use native.Mathlib.Omega.{arith}
+use Rattle.house.proofs.run.rest.Statement.{statement}
+use Rattle.house.proofs.run.rest.Tie as tie
+
+abbrev Inv-loop : tie.InvT-loop
+Inv-loop fd text₀ store₀ page₀ base₀ lists₀ queues₀ out₀ item₀ sites₀ w₀ left₀ text store page base lists queues out item sites w left = (length base ≡ 16384) × (length lists ≡ 144384) × (length sites ≡ 8)
+
+abbrev μ-loop : tie.MeasureT-loop
+μ-loop fd text₀ store₀ page₀ base₀ lists₀ queues₀ out₀ item₀ sites₀ w₀ left₀ text store page base lists queues out item sites w left = left
+
+slice-aggregate-start-sites : tie.Need-slice-aggregate-start-sites Inv-loop μ-loop
+slice-aggregate-start-sites c = search needs
+
+slice-aggregate-start-sites-2 : tie.Need-slice-aggregate-start-sites-2 Inv-loop μ-loop
+slice-aggregate-start-sites-2 c = search needs
+
+start-sites-requires : tie.Need-start-sites-requires Inv-loop μ-loop
+start-sites-requires c κs = search needs
+
+start-merger-requires : tie.Need-start-merger-requires Inv-loop μ-loop
+start-merger-requires c κs = search needs
+
+idle-requires : tie.Need-idle-requires Inv-loop μ-loop
+idle-requires c κs = search needs
+
+loop-holds : tie.Need-loop-holds Inv-loop μ-loop
+loop-holds c = search needs
+
+sub-left : tie.Need-sub-left Inv-loop μ-loop
+sub-left c = search needs
+
+next-of-site-requires : tie.Need-next-of-site-requires Inv-loop μ-loop
+next-of-site-requires c κs = search needs
+
+mul-s : tie.Need-mul-s Inv-loop μ-loop
+mul-s c = search needs
+
+array-copy-out-s : tie.Need-array-copy-out-s Inv-loop μ-loop
+array-copy-out-s c = search needs
+
+slice-aggregate-at-place : tie.Need-slice-aggregate-at-place Inv-loop μ-loop
+slice-aggregate-at-place c = search needs
+
+slice-aggregate-at-place-2 : tie.Need-slice-aggregate-at-place-2 Inv-loop μ-loop
+slice-aggregate-at-place-2 c = search needs
+
+at-place-requires : tie.Need-at-place-requires Inv-loop μ-loop
+at-place-requires c κs = search needs
+
+mul-sites : tie.Need-mul-sites Inv-loop μ-loop
+mul-sites c = search needs
+
+array-set-from-sites : tie.Need-array-set-from-sites Inv-loop μ-loop
+array-set-from-sites c = search needs
+
+settled-requires : tie.Need-settled-requires Inv-loop μ-loop
+settled-requires c κs = search needs
+
+idle-requires-2 : tie.Need-idle-requires-2 Inv-loop μ-loop
+idle-requires-2 c κs = search needs
+
+loop-less : tie.Need-loop-less Inv-loop μ-loop
+loop-less c = omega (arith, c .before .before .before .before .before .before .before .before .before .before .before .before .before .before .before .before .before .before .before .before .before .before .before .before .loop-test .taken)
+
+loop-again : tie.Need-loop-again Inv-loop μ-loop
+loop-again c = (search needs, search needs, simp length-set (c .before .before .before .before .before .before .before .before .before .before .before .before .before .before .before .before .before .before .before .before .before .before .before .before .before .loop .inv .2))
+
+returns : tie.Need-returns Inv-loop μ-loop
+returns c = search needs
+
+pub rest-spec : {M : Type 1} → statement M
+rest-spec =
+    tie.close
+    (tie.spec
+    Inv-loop
+    μ-loop
+    slice-aggregate-start-sites
+    slice-aggregate-start-sites-2
+    start-sites-requires
+    start-merger-requires
+    idle-requires
+    loop-holds
+    sub-left
+    next-of-site-requires
+    mul-s
+    array-copy-out-s
+    slice-aggregate-at-place
+    slice-aggregate-at-place-2
+    at-place-requires
+    mul-sites
+    array-set-from-sites
+    settled-requires
+    idle-requires-2
+    loop-less
+    loop-again
+    returns)

@@ -1,0 +1,81 @@
+// A line as a call of a site. A site is in a place, which is its number less 1.
+use kinds::Answer;
+use kinds::Out;
+use kinds::Site;
+use kinds::reason::MALFORMED;
+use kinds::sizes::KEYS;
+use kinds::sizes::LISTS;
+use kinds::sizes::OUTGOING;
+use kinds::sizes::SITES;
+use lines::Command;
+use spool::ITEM;
+ghost use mathlib.Core.Path.{_≡_};
+ghost use Prim.Native.Nat.{_<_};
+ghost use lib.ListN.{length};
+
+// Base values, and gathered lists, of all sites, one behind the other.
+pub const BASES: usize = SITES * KEYS;
+
+pub const GATHERINGS: usize = SITES * LISTS;
+
+// The first n words.
+fn front(m: &[u64], n: usize) -> &[u64] {
+    if n < m.len() {
+        return &m[0..n];
+    }
+    m
+}
+
+// A call of the site in a place. The first n words of m are the message to take.
+pub fn at_place(
+    s: Site,
+    c: Command,
+    place: usize,
+    base: &mut [u64],
+    lists: &mut [u64],
+    m: &[u64; ITEM],
+    n: usize,
+    out: &mut [u64; OUTGOING],
+) -> Out
+    requires { ⌜ (place < 8) × (length (now base) ≡ 16384) × (length (now lists) ≡ 144384) ⌝ }
+{
+    let a = place * KEYS;
+    let b = place * LISTS;
+    match c {
+        Command::Begin(_) => site::begin::begin(s),
+        Command::Enlist(tx, to) => site::enlist::enlist(s, tx, to, out),
+        Command::Read(_, tx, key) => site::access::read(s, &base[a..a + KEYS], tx, key),
+        Command::Write(_, tx, key, value) => site::access::write(s, tx, key, value),
+        Command::Commit(tx) => saves::commit::commit(s, tx, &mut lists[b..b + LISTS], out),
+        Command::Abandon(tx) => saves::abandon::abandon(s, tx, out),
+        Command::Take(_, _) => deliver::message::message(
+            s,
+            front(m, n),
+            &mut lists[b..b + LISTS],
+            out,
+        ),
+        Command::Install(_) => installs::install(s, &mut base[a..a + KEYS], out),
+        Command::Report(_) => installs::report(s, out),
+        _ => Out {
+            answer: Answer::Refused(MALFORMED),
+            words: 0,
+            site: s,
+        },
+    }
+}
+
+// A fresh site of a house of n.
+pub fn start_at(n: u64, place: usize, base: &mut [u64], lists: &mut [u64]) -> Site
+    requires { ⌜ (place < 8) × (length (now base) ≡ 16384) × (length (now lists) ≡ 144384) ⌝ }
+{
+    let a = place * KEYS;
+    let b = place * LISTS;
+    let o = site::start::start(
+        n,
+        place as u64 + 1,
+        &mut base[a..a + KEYS],
+        &mut lists[b..b + LISTS],
+    );
+    let s = o.site;
+    s
+}

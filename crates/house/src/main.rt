@@ -1,0 +1,102 @@
+// The program `house` (01, "Fixed points"): plays the script on standard input, or each file that is named as a house of its own.
+mod calls;
+mod merging;
+mod run;
+
+use desk::LOST;
+use desk::UNWRITTEN;
+use libc::STDERR_FILENO;
+use pages::PAGE;
+use pages::flush;
+use run::play;
+use script::TEXT;
+use script::UNREADABLE;
+
+fn fail(what: &[u8]) {
+    io::write_all(STDERR_FILENO, b"house: ");
+    os::fail(what);
+}
+
+// Says why a script ended before its end, and whether all went well.
+fn reported(state: u64, name: &[u8]) -> bool {
+    if state == UNREADABLE {
+        fail(name);
+        return false;
+    }
+    if state == UNWRITTEN {
+        fail(b"standard output");
+        return false;
+    }
+    if state == LOST {
+        fail(b"a temporary file, for messages and records that do not fit into memory");
+        return false;
+    }
+    true
+}
+
+// Plays a script, and answers whether all went well. What it printed before a failure is written out too.
+fn play_all(fd: i32, spare: i32, name: &[u8]) -> bool {
+    let mut text = [0u8; TEXT];
+    let mut page = [0u8; PAGE];
+    let d = play(fd, spare, &mut text, &mut page);
+    let ok = reported(d.state, name);
+    if flush(&page, d.used) {
+        return ok;
+    }
+    if ok {
+        fail(b"standard output");
+    }
+    false
+}
+
+fn play_file(i: usize, spare: i32) -> bool {
+    let mut path = io::buffer();
+    let n = os::arg(i, &mut path);
+    if os::errno() != 0 {
+        fail(b"the name of a script");
+        return false;
+    }
+    let fd = os::open_read(&path[..n]);
+    if fd < 0 {
+        fail(&path[..n]);
+        return false;
+    }
+    let ok = play_all(fd, spare, &path[..n]);
+    libc::close(fd);
+    ok
+}
+
+fn play_files(count: usize, spare: i32) {
+    let mut i: usize = 1;
+    while i < count {
+        if !play_file(i, spare) {
+            return;
+        }
+        i += 1;
+    }
+}
+
+// A file that is opened takes the number of a standard one that is closed.
+fn is_standard(fd: i32) -> bool {
+    if fd < 0 {
+        return false;
+    }
+    fd <= STDERR_FILENO
+}
+
+fn main() {
+    let spare = spool::open();
+    if is_standard(spare) {
+        io::write_all(
+            STDERR_FILENO,
+            b"house: standard input or output is closed\n",
+        );
+        return;
+    }
+    let count = os::arg_count();
+    if count < 2 {
+        play_all(libc::STDIN_FILENO, spare, b"standard input");
+        return;
+    }
+    play_files(count, spare);
+}

@@ -1,0 +1,53 @@
+-- The scan has read the bytes from `from` to `i`, and none of them is a newline.
+use Prim.Native.Nat.{_+_, _-_, _<_, _≤_, ℕ}
+use borrow.Author.Needs.{needs}
+use lib.ListN.{getD}
+use mathlib.Core.Path.{_≡_}
+use Rattle.lines.specs.Line.{no-newline-more, no-newline-none, read-more, read-none, readOn}
+use Rattle.lines.proofs.read.Statement.{statement}
+use Rattle.lines.proofs.read.Tie as tie
+
+abbrev Inv-loop : tie.InvT-loop
+Inv-loop text from to t₀ i₀ t i = (from ≤ i) × (i ≤ to) × (t ≡ readOn text from (i - from) t₀) × ((k : ℕ) → k < i - from → getD text (from + k) 0 ≡ 10 → ⊥)
+
+abbrev μ-loop : tie.MeasureT-loop
+μ-loop text from to t₀ i₀ t i = to - i
+
+loop-holds : tie.Need-loop-holds Inv-loop μ-loop
+loop-holds c = let a = c .before .args in (search needs, search needs, read-none (a .text .now) (a .from) (a .s), no-newline-none (a .text .now) (a .from))
+
+shared-slice-read-b : tie.Need-shared-slice-read-b Inv-loop μ-loop
+shared-slice-read-b c = search needs
+
+returns : tie.Need-returns Inv-loop μ-loop
+returns c = search needs
+
+step-requires : tie.Need-step-requires Inv-loop μ-loop
+step-requires c κs = search needs
+
+add-i : tie.Need-add-i Inv-loop μ-loop
+add-i c = search needs
+
+loop-less : tie.Need-loop-less Inv-loop μ-loop
+loop-less c = search needs
+
+loop-again : tie.Need-loop-again Inv-loop μ-loop
+loop-again c = let a = c .before .before .before .before .before .before .args in let l = c .before .before .before .before .loop in (search needs, search needs, read-more (a .text .now) (a .from) (l .i) (a .s) (l .t) (c .step .result) (l .inv .0) (l .inv .2) (c .step .ensures), no-newline-more (a .text .now) (a .from) (l .i) (l .inv .0) (l .inv .3) (c .before .if1 .left))
+
+returns-2 : tie.Need-returns-2 Inv-loop μ-loop
+returns-2 c = search needs
+
+pub read-spec : {M : Type 1} → statement M
+read-spec =
+    tie.close
+    (tie.spec
+    Inv-loop
+    μ-loop
+    loop-holds
+    shared-slice-read-b
+    returns
+    step-requires
+    add-i
+    loop-less
+    loop-again
+    returns-2)

@@ -1,0 +1,16 @@
+-- The arm is the pick of its verb; what is left has another.
+use borrow.Author.Tests.{ne-eqb}
+use Rattle.lines.specs.Line.{threeOf}
+use Rattle.lines.proofs.verb.three.Statement.{statement}
+use Rattle.lines.proofs.verb.three.Tie as tie
+
+returns : tie.Need-returns
+unfolding threeOf
+returns c = rw (c .match .keys1)
+
+returns-2 : tie.Need-returns-2
+unfolding threeOf
+returns-2 c = simp (ne-eqb _ 1919246692 (c .match .rest .1))
+
+pub three-spec : {M : Type 1} → statement M
+three-spec = tie.close (tie.spec returns returns-2)
