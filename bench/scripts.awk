@@ -1,0 +1,37 @@
+# Prints one of the bench's scripts: awk -v what=NAME -v n=COUNT -f scripts.awk
+function tx(site, serial) { return sprintf("%.0f", site * 4294967296 + serial) }
+
+# n saves over the first k sites, coordinated by site 1, with one write at each: JOIN and JOINED, PREPARE and CONC, CERT and VOTE,
+# COMMIT
+function saves(k,    i, s, t) {
+    print "sites " k
+    for (i = 1; i <= n; i++) {
+        t = tx(1, i)
+        print "begin 1"
+        for (s = 2; s <= k; s++) print "enlist " t " " s
+        for (s = 2; s <= k; s++) { print "take 1 " s; print "take " s " 1" }
+        for (s = 1; s <= k; s++) print "write " s " " t " " ((s - 1) * 256 + i % 200) " " i
+        print "commit " t
+        for (s = 2; s <= k; s++) { print "take 1 " s; print "take " s " 1" }
+        for (s = 2; s <= k; s++) { print "take 1 " s; print "take " s " 1" }
+        for (s = 2; s <= k; s++) print "take 1 " s
+        for (s = 1; s <= k; s++) print "install " s
+    }
+}
+
+# one call, again and again
+function again(line,    i) { for (i = 1; i <= n; i++) print line }
+
+BEGIN {
+    if (what == "lone") saves(1)
+    if (what == "two") saves(2)
+    if (what == "eight") saves(8)
+    if (what == "front") again("nonsense")
+    if (what == "read") { print "sites 1"; print "begin 1"; again("read 1 " tx(1, 1) " 5") }
+    if (what == "write") { print "sites 1"; print "begin 1"; again("write 1 " tx(1, 1) " 5 700") }
+    if (what == "report") { print "sites 1"; again("report 1") }
+    if (what == "value") { print "sites 1"; again("value 1 5") }
+    if (what == "begin") { print "sites 1"; for (i = 1; i <= n / 2; i++) { print "begin 1"; print "abandon " tx(1, i) } }
+    if (what == "emit") { print "sites 1"; again("emit") }
+    if (what == "merge") { print "sites 1"; for (i = 1; i <= n / 2; i++) { print "report 1"; print "merge 1" } }
+}
