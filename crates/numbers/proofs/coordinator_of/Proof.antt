@@ -1,10 +1,9 @@
+-- The upper half of the number.
 use borrow.Author.Tests.{lt-ltb, le-ltb, le-leb, lt-leb, eq-eqb, ne-eqb}
 use Rattle.rules.specs.House.{coordinatorOf}
 use borrow.Author.Needs.{needs}
 use Rattle.numbers.proofs.coordinator_of.Statement.{statement}
 use Rattle.numbers.proofs.coordinator_of.Tie as tie
-use Rattle.numbers.proofs.coordinator_of.Reads as reads
-use Rattle.numbers.proofs.coordinator_of.Lts as lts
 
 -- src/lib.rt:51:1
 returns : tie.Need-returns

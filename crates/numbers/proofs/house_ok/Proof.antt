@@ -1,11 +1,10 @@
+-- 1 to 8 sites.
 use borrow.Author.Tests.{lt-ltb, le-ltb, le-leb, lt-leb, eq-eqb, ne-eqb}
 use Rattle.rules.specs.House.{houseOk}
 use Rattle.laws.specs.Choice.{pick-self}
 use borrow.Author.Needs.{needs}
 use Rattle.numbers.proofs.house_ok.Statement.{statement}
 use Rattle.numbers.proofs.house_ok.Tie as tie
-use Rattle.numbers.proofs.house_ok.Reads as reads
-use Rattle.numbers.proofs.house_ok.Lts as lts
 
 -- src/lib.rt:14:9
 returns : tie.Need-returns

@@ -1,11 +1,10 @@
+-- The site's bit.
 use borrow.Author.Tests.{lt-ltb, le-ltb, le-leb, lt-leb, eq-eqb, ne-eqb}
 use Rattle.rules.specs.House.{inMask}
 use Rattle.laws.specs.Choice.{pick-self}
 use borrow.Author.Needs.{needs}
 use Rattle.numbers.proofs.in_mask.Statement.{statement}
 use Rattle.numbers.proofs.in_mask.Tie as tie
-use Rattle.numbers.proofs.in_mask.Reads as reads
-use Rattle.numbers.proofs.in_mask.Lts as lts
 
 -- src/lib.rt:86:15
 sub-result : tie.Need-sub-result

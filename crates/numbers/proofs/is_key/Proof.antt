@@ -1,10 +1,8 @@
+-- The test of the site.
 use Rattle.rules.specs.House.{isKey}
 use borrow.Author.Needs.{needs}
 use Rattle.numbers.proofs.is_key.Statement.{statement}
 use Rattle.numbers.proofs.is_key.Tie as tie
-use Rattle.numbers.proofs.is_key.Reads as reads
-use Rattle.numbers.proofs.is_key.Lts as lts
-use Rattle.numbers.proofs.site_of.Reads as site-of-reads
 
 -- src/lib.rt:39:9
 site-of-requires : tie.Need-site-of-requires

@@ -1,3 +1,4 @@
+-- Below the house's sites.
 use native.Mathlib.Omega.{arith}
 use Rattle.laws.specs.Digits.{one-shifted}
 use borrow.Author.Tests.{lt-ltb, le-ltb, le-leb, lt-leb, eq-eqb, ne-eqb}
@@ -6,8 +7,6 @@ use Rattle.laws.specs.Choice.{pick-self}
 use borrow.Author.Needs.{needs}
 use Rattle.numbers.proofs.is_mask.Statement.{statement}
 use Rattle.numbers.proofs.is_mask.Tie as tie
-use Rattle.numbers.proofs.is_mask.Reads as reads
-use Rattle.numbers.proofs.is_mask.Lts as lts
 
 -- src/lib.rt:94:12
 shl-result : tie.Need-shl-result

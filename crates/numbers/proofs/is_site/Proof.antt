@@ -1,11 +1,10 @@
+-- From 1 to the house's sites.
 use borrow.Author.Tests.{lt-ltb, le-ltb, le-leb, lt-leb, eq-eqb, ne-eqb}
 use Rattle.rules.specs.House.{isSite}
 use Rattle.laws.specs.Choice.{pick-self}
 use borrow.Author.Needs.{needs}
 use Rattle.numbers.proofs.is_site.Statement.{statement}
 use Rattle.numbers.proofs.is_site.Tie as tie
-use Rattle.numbers.proofs.is_site.Reads as reads
-use Rattle.numbers.proofs.is_site.Lts as lts
 
 -- src/lib.rt:24:9
 returns : tie.Need-returns

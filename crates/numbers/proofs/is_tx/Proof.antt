@@ -1,14 +1,10 @@
+-- A site of the house, and a serial.
 use borrow.Author.Tests.{not-true, not-false}
 use Rattle.laws.specs.Choice.{pick-self}
 use Rattle.rules.specs.House.{isTx}
 use borrow.Author.Needs.{needs}
 use Rattle.numbers.proofs.is_tx.Statement.{statement}
 use Rattle.numbers.proofs.is_tx.Tie as tie
-use Rattle.numbers.proofs.is_tx.Reads as reads
-use Rattle.numbers.proofs.is_tx.Lts as lts
-use Rattle.numbers.proofs.coordinator_of.Reads as coordinator-of-reads
-use Rattle.numbers.proofs.is_site.Reads as is-site-reads
-use Rattle.numbers.proofs.serial_of.Reads as serial-of-reads
 
 -- src/lib.rt:66:9
 coordinator-of-requires : tie.Need-coordinator-of-requires

@@ -1,3 +1,4 @@
+-- One bit.
 use Prim.Native.Nat.{_-_}
 use native.Mathlib.Omega.{arith}
 use Rattle.laws.specs.Digits.{one-shifted}
@@ -6,8 +7,6 @@ use Rattle.rules.specs.House.{maskOf}
 use borrow.Author.Needs.{needs}
 use Rattle.numbers.proofs.mask_of.Statement.{statement}
 use Rattle.numbers.proofs.mask_of.Tie as tie
-use Rattle.numbers.proofs.mask_of.Reads as reads
-use Rattle.numbers.proofs.mask_of.Lts as lts
 
 -- src/lib.rt:79:11
 sub-result : tie.Need-sub-result

@@ -1,3 +1,4 @@
+-- The ones of the mask.
 use native.Mathlib.Omega.{arith}
 use lib.Count.{ones-le}
 use borrow.Author.Tests.{lt-ltb, le-ltb, le-leb, lt-leb, eq-eqb, ne-eqb}
@@ -5,8 +6,6 @@ use Rattle.rules.specs.House.{participants}
 use borrow.Author.Needs.{needs}
 use Rattle.numbers.proofs.participants.Statement.{statement}
 use Rattle.numbers.proofs.participants.Tie as tie
-use Rattle.numbers.proofs.participants.Reads as reads
-use Rattle.numbers.proofs.participants.Lts as lts
 
 -- src/lib.rt:100:5
 cast-result : tie.Need-cast-result

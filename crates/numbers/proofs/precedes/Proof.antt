@@ -1,10 +1,9 @@
+-- By number, then by coordinator.
 use borrow.Author.Tests.{lt-ltb, le-ltb, le-leb, lt-leb, eq-eqb, ne-eqb}
 use Rattle.laws.specs.Pair.{precedes}
 use borrow.Author.Needs.{needs}
 use Rattle.numbers.proofs.precedes.Statement.{statement}
 use Rattle.numbers.proofs.precedes.Tie as tie
-use Rattle.numbers.proofs.precedes.Reads as reads
-use Rattle.numbers.proofs.precedes.Lts as lts
 
 -- src/lib.rt:118:9
 returns : tie.Need-returns

@@ -1,11 +1,9 @@
+-- One fewer than the participants.
 use native.Mathlib.Omega.{arith}
 use Rattle.rules.specs.House.{repliesWanted}
 use borrow.Author.Needs.{needs}
 use Rattle.numbers.proofs.replies_wanted.Statement.{statement}
 use Rattle.numbers.proofs.replies_wanted.Tie as tie
-use Rattle.numbers.proofs.replies_wanted.Reads as reads
-use Rattle.numbers.proofs.replies_wanted.Lts as lts
-use Rattle.numbers.proofs.participants.Reads as participants-reads
 
 -- src/lib.rt:106:9
 participants-requires : tie.Need-participants-requires

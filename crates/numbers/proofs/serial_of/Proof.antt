@@ -1,10 +1,9 @@
+-- The lower half of the number.
 use borrow.Author.Tests.{lt-ltb, le-ltb, le-leb, lt-leb, eq-eqb, ne-eqb}
 use Rattle.rules.specs.House.{serialOf}
 use borrow.Author.Needs.{needs}
 use Rattle.numbers.proofs.serial_of.Statement.{statement}
 use Rattle.numbers.proofs.serial_of.Tie as tie
-use Rattle.numbers.proofs.serial_of.Reads as reads
-use Rattle.numbers.proofs.serial_of.Lts as lts
 
 -- src/lib.rt:57:1
 returns : tie.Need-returns

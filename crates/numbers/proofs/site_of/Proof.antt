@@ -1,10 +1,9 @@
+-- 256 keys a site.
 use borrow.Author.Tests.{lt-ltb, le-ltb, le-leb, lt-leb, eq-eqb, ne-eqb}
 use Rattle.rules.specs.House.{siteOf}
 use borrow.Author.Needs.{needs}
 use Rattle.numbers.proofs.site_of.Statement.{statement}
 use Rattle.numbers.proofs.site_of.Tie as tie
-use Rattle.numbers.proofs.site_of.Reads as reads
-use Rattle.numbers.proofs.site_of.Lts as lts
 
 -- src/lib.rt:33:5
 add-result : tie.Need-add-result

@@ -1,10 +1,9 @@
+-- Both halves.
 use borrow.Author.Tests.{lt-ltb, le-ltb, le-leb, lt-leb, eq-eqb, ne-eqb}
 use Rattle.rules.specs.House.{txOf}
 use borrow.Author.Needs.{needs}
 use Rattle.numbers.proofs.tx_of.Statement.{statement}
 use Rattle.numbers.proofs.tx_of.Tie as tie
-use Rattle.numbers.proofs.tx_of.Reads as reads
-use Rattle.numbers.proofs.tx_of.Lts as lts
 
 -- src/lib.rt:48:5
 mul-result : tie.Need-mul-result

@@ -1,13 +1,10 @@
+-- The place freed, and ABORT sent to the others.
 use borrow.Author.Needs.{needs}
 use Rattle.rules.specs.Course.{abortStep}
 use Rattle.rules.specs.CourseLaws.{no-entries}
 use Rattle.rules.specs.Effect.{takenOf}
 use Rattle.course.proofs.coordinator.abort_step.Statement.{statement}
 use Rattle.course.proofs.coordinator.abort_step.Tie as tie
-use Rattle.course.proofs.coordinator.abort_step.Reads as reads
-use Rattle.course.proofs.coordinator.abort_step.Lts as lts
-use Rattle.course.proofs.send.send_all.Reads as send-all-reads
-use Rattle.course.proofs.turn.no_sub.Reads as no-sub-reads
 
 slice-aggregate-send-all : tie.Need-slice-aggregate-send-all
 slice-aggregate-send-all c = search needs

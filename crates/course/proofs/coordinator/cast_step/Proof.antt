@@ -1,12 +1,9 @@
+-- Its vote: yes, or the abort.
 use borrow.Author.Needs.{needs}
 use borrow.Author.Tests.{ne-eqb}
 use Rattle.rules.specs.Course.{castStep}
 use Rattle.course.proofs.coordinator.cast_step.Statement.{statement}
 use Rattle.course.proofs.coordinator.cast_step.Tie as tie
-use Rattle.course.proofs.coordinator.cast_step.Reads as reads
-use Rattle.course.proofs.coordinator.cast_step.Lts as lts
-use Rattle.course.proofs.coordinator.abort_step.Reads as abort-step-reads
-use Rattle.course.proofs.coordinator.cast_yes.Reads as cast-yes-reads
 
 cast-yes-requires : tie.Need-cast-yes-requires
 cast-yes-requires c κs = search needs

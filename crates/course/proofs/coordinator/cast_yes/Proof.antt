@@ -1,3 +1,4 @@
+-- Alone it decides; else CERT goes out.
 use borrow.Author.Needs.{needs}
 use mathlib.Core.Path.{_∙_, _≡_, ap, sym}
 use Rattle.kinds.specs.declared.Course.{Course}
@@ -5,13 +6,6 @@ use Rattle.rules.specs.Course.{castStep, withMark}
 use Rattle.rules.specs.CourseLaws.{all-course}
 use Rattle.course.proofs.coordinator.cast_yes.Statement.{statement}
 use Rattle.course.proofs.coordinator.cast_yes.Tie as tie
-use Rattle.course.proofs.coordinator.cast_yes.Reads as reads
-use Rattle.course.proofs.coordinator.cast_yes.Lts as lts
-use Rattle.live.proofs.all_heard.Reads as all-heard-reads
-use Rattle.course.proofs.coordinator.decide_step.Reads as decide-step-reads
-use Rattle.course.proofs.send.send_all.Reads as send-all-reads
-use Rattle.course.proofs.turn.with_course.Reads as with-course-reads
-use Rattle.course.proofs.turn.with_mark.Reads as with-mark-reads
 
 with-mark-requires : tie.Need-with-mark-requires
 with-mark-requires c κs = search needs

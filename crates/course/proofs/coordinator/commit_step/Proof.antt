@@ -1,3 +1,4 @@
+-- Decided, and COMMIT sent to the others.
 use borrow.Author.Needs.{needs}
 use mathlib.Core.Path.{_≡_, ap}
 use Rattle.kinds.specs.declared.Course.{Course}
@@ -5,11 +6,6 @@ use Rattle.rules.specs.Course.{commitStep, withDecision}
 use Rattle.rules.specs.CourseLaws.{all-course, no-entries}
 use Rattle.course.proofs.coordinator.commit_step.Statement.{statement}
 use Rattle.course.proofs.coordinator.commit_step.Tie as tie
-use Rattle.course.proofs.coordinator.commit_step.Reads as reads
-use Rattle.course.proofs.coordinator.commit_step.Lts as lts
-use Rattle.course.proofs.send.send_all.Reads as send-all-reads
-use Rattle.course.proofs.turn.with_course.Reads as with-course-reads
-use Rattle.course.proofs.turn.with_decision.Reads as with-decision-reads
 
 with-decision-requires : tie.Need-with-decision-requires
 with-decision-requires c κs = search needs

@@ -1,13 +1,10 @@
+-- At the last clock the abort, else the commit.
 use borrow.Author.Needs.{needs}
 use borrow.Author.Tests.{le-leb, lt-leb}
 use Rattle.rules.specs.Course.{decideStep}
 use Rattle.kinds.specs.Sizes as sizes
 use Rattle.course.proofs.coordinator.decide_step.Statement.{statement}
 use Rattle.course.proofs.coordinator.decide_step.Tie as tie
-use Rattle.course.proofs.coordinator.decide_step.Reads as reads
-use Rattle.course.proofs.coordinator.decide_step.Lts as lts
-use Rattle.course.proofs.coordinator.abort_step.Reads as abort-step-reads
-use Rattle.course.proofs.coordinator.commit_step.Reads as commit-step-reads
 
 abort-step-requires : tie.Need-abort-step-requires
 abort-step-requires c κs = search needs

@@ -1,13 +1,9 @@
+-- The site joined to the mask, and JOIN sent.
 use borrow.Author.Needs.{needs}
 use Rattle.rules.specs.Course.{enlistStep}
 use Rattle.rules.specs.CourseLaws.{no-entries, to-course}
 use Rattle.course.proofs.coordinator.enlist_step.Statement.{statement}
 use Rattle.course.proofs.coordinator.enlist_step.Tie as tie
-use Rattle.course.proofs.coordinator.enlist_step.Reads as reads
-use Rattle.course.proofs.coordinator.enlist_step.Lts as lts
-use Rattle.course.proofs.send.send_to.Reads as send-to-reads
-use Rattle.course.proofs.turn.with_course.Reads as with-course-reads
-use Rattle.course.proofs.turn.with_participant.Reads as with-participant-reads
 
 with-participant-requires : tie.Need-with-participant-requires
 with-participant-requires c κs = search needs

@@ -1,11 +1,9 @@
+-- PREPARE sent to the others.
 use borrow.Author.Needs.{needs}
 use Rattle.rules.specs.Course.{prepareStep}
 use Rattle.rules.specs.CourseLaws.{no-entries}
 use Rattle.course.proofs.coordinator.prepare_step.Statement.{statement}
 use Rattle.course.proofs.coordinator.prepare_step.Tie as tie
-use Rattle.course.proofs.coordinator.prepare_step.Reads as reads
-use Rattle.course.proofs.coordinator.prepare_step.Lts as lts
-use Rattle.course.proofs.send.send_all.Reads as send-all-reads
 
 slice-aggregate-send-all : tie.Need-slice-aggregate-send-all
 slice-aggregate-send-all c = search needs

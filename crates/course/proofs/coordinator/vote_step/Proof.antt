@@ -1,3 +1,4 @@
+-- A no aborts; a yes is counted, and the last one decides.
 use borrow.Author.Needs.{needs}
 use borrow.Author.Tests.{eq-eqb, ne-eqb}
 use mathlib.Core.Path.{_∙_, _≡_, ap, sym}
@@ -8,14 +9,6 @@ use Rattle.rules.specs.Course.{quietly, voteDecides, voteStep, withReply}
 use Rattle.rules.specs.CourseLaws.{all-course}
 use Rattle.course.proofs.coordinator.vote_step.Statement.{statement}
 use Rattle.course.proofs.coordinator.vote_step.Tie as tie
-use Rattle.course.proofs.coordinator.vote_step.Reads as reads
-use Rattle.course.proofs.coordinator.vote_step.Lts as lts
-use Rattle.course.proofs.coordinator.abort_step.Reads as abort-step-reads
-use Rattle.live.proofs.all_heard.Reads as all-heard-reads
-use Rattle.course.proofs.coordinator.decide_step.Reads as decide-step-reads
-use Rattle.course.proofs.turn.quietly.Reads as quietly-reads
-use Rattle.course.proofs.turn.with_course.Reads as with-course-reads
-use Rattle.course.proofs.turn.with_heard.Reads as with-heard-reads
 
 abort-step-requires : tie.Need-abort-step-requires
 unfolding voteDecides

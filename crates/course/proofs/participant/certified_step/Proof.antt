@@ -1,15 +1,10 @@
+-- Yes enters the queue; a no keeps the part.
 use borrow.Author.Needs.{needs}
 use borrow.Author.Tests.{ne-eqb}
 use Rattle.rules.specs.Course.{certifiedStep}
 use Rattle.rules.specs.CourseLaws.{no-entries, to-course}
 use Rattle.course.proofs.participant.certified_step.Statement.{statement}
 use Rattle.course.proofs.participant.certified_step.Tie as tie
-use Rattle.course.proofs.participant.certified_step.Reads as reads
-use Rattle.course.proofs.participant.certified_step.Lts as lts
-use Rattle.course.proofs.send.send_to.Reads as send-to-reads
-use Rattle.course.proofs.turn.with_course.Reads as with-course-reads
-use Rattle.course.proofs.turn.with_mark.Reads as with-mark-reads
-use Rattle.course.proofs.turn.with_stage.Reads as with-stage-reads
 
 with-mark-requires : tie.Need-with-mark-requires
 with-mark-requires c κs = search needs

@@ -1,13 +1,9 @@
+-- CONC, or the vote of 19.
 use borrow.Author.Needs.{needs}
 use Rattle.rules.specs.Course.{preparedStep}
 use Rattle.rules.specs.CourseLaws.{no-entries, to-course}
 use Rattle.course.proofs.participant.prepared_step.Statement.{statement}
 use Rattle.course.proofs.participant.prepared_step.Tie as tie
-use Rattle.course.proofs.participant.prepared_step.Reads as reads
-use Rattle.course.proofs.participant.prepared_step.Lts as lts
-use Rattle.course.proofs.send.send_to.Reads as send-to-reads
-use Rattle.course.proofs.turn.with_course.Reads as with-course-reads
-use Rattle.course.proofs.turn.with_stage.Reads as with-stage-reads
 
 with-stage-requires : tie.Need-with-stage-requires
 with-stage-requires c κs = search needs

@@ -1,9 +1,8 @@
+-- The header, field by field.
 use mathlib.Core.Path.{refl}
 use Rattle.rules.specs.Course.{headOf}
 use Rattle.course.proofs.send.head_of.Statement.{statement}
 use Rattle.course.proofs.send.head_of.Tie as tie
-use Rattle.course.proofs.send.head_of.Reads as reads
-use Rattle.course.proofs.send.head_of.Lts as lts
 
 returns : tie.Need-returns
 unfolding headOf

@@ -1,3 +1,4 @@
+-- A message to each other participant, and their counts.
 use Prim.Native.Nat.{_/_}
 use borrow.Author.Needs.{needs}
 use lib.ListN.{length}
@@ -10,11 +11,6 @@ use Rattle.rules.specs.Message.{entryCount}
 use Rattle.kinds.specs.Sizes as sizes
 use Rattle.course.proofs.send.send_all.Statement.{statement}
 use Rattle.course.proofs.send.send_all.Tie as tie
-use Rattle.course.proofs.send.send_all.Reads as reads
-use Rattle.course.proofs.send.send_all.Lts as lts
-use Rattle.course.proofs.send.head_of.Reads as head-of-reads
-use Rattle.messages.proofs.broadcast.Reads as broadcast-reads
-use Rattle.messages.proofs.step_recipients.Reads as step-recipients-reads
 
 head-of-requires : tie.Need-head-of-requires
 head-of-requires c κs = search needs

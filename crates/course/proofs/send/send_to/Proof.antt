@@ -1,3 +1,4 @@
+-- One message, and its count.
 use Prim.Native.Nat.{_/_}
 use borrow.Author.Needs.{needs}
 use lib.ListN.{length}
@@ -10,11 +11,6 @@ use Rattle.rules.specs.Message.{entryCount}
 use Rattle.kinds.specs.Sizes as sizes
 use Rattle.course.proofs.send.send_to.Statement.{statement}
 use Rattle.course.proofs.send.send_to.Tie as tie
-use Rattle.course.proofs.send.send_to.Reads as reads
-use Rattle.course.proofs.send.send_to.Lts as lts
-use Rattle.course.proofs.send.head_of.Reads as head-of-reads
-use Rattle.course.proofs.send.sent_to.Reads as sent-to-reads
-use Rattle.messages.proofs.write_message.Reads as write-message-reads
 
 sub-i : tie.Need-sub-i
 sub-i c = search needs

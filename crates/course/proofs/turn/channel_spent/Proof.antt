@@ -1,10 +1,9 @@
+-- The test of the count.
 use borrow.Author.Needs.{needs}
 use mathlib.Core.Path.{refl}
 use Rattle.rules.specs.Course.{channelSpent}
 use Rattle.course.proofs.turn.channel_spent.Statement.{statement}
 use Rattle.course.proofs.turn.channel_spent.Tie as tie
-use Rattle.course.proofs.turn.channel_spent.Reads as reads
-use Rattle.course.proofs.turn.channel_spent.Lts as lts
 
 sub-i : tie.Need-sub-i
 sub-i c = search needs

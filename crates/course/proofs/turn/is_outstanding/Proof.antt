@@ -1,12 +1,10 @@
+-- Named by the mask, and not heard.
 use borrow.Author.Needs.{needs}
 use borrow.Author.Tests.{not-false, not-true}
 use Rattle.laws.specs.Choice.{pick-self}
 use Rattle.rules.specs.Course.{isOutstanding}
 use Rattle.course.proofs.turn.is_outstanding.Statement.{statement}
 use Rattle.course.proofs.turn.is_outstanding.Tie as tie
-use Rattle.course.proofs.turn.is_outstanding.Reads as reads
-use Rattle.course.proofs.turn.is_outstanding.Lts as lts
-use Rattle.numbers.proofs.in_mask.Reads as in-mask-reads
 
 in-mask-requires : tie.Need-in-mask-requires
 in-mask-requires c κs = search needs

@@ -1,10 +1,8 @@
+-- An active part with nothing used.
 use borrow.Author.Needs.{needs}
 use Rattle.rules.specs.Course.{newSub}
 use Rattle.course.proofs.turn.new_sub.Statement.{statement}
 use Rattle.course.proofs.turn.new_sub.Tie as tie
-use Rattle.course.proofs.turn.new_sub.Reads as reads
-use Rattle.course.proofs.turn.new_sub.Lts as lts
-use Rattle.course.proofs.turn.no_keys.Reads as no-keys-reads
 
 no-keys-requires : tie.Need-no-keys-requires
 no-keys-requires c κs = search needs

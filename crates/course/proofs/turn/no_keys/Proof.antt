@@ -1,9 +1,8 @@
+-- All zeros.
 use mathlib.Core.Path.{refl}
 use Rattle.kinds.specs.State.{noKeys}
 use Rattle.course.proofs.turn.no_keys.Statement.{statement}
 use Rattle.course.proofs.turn.no_keys.Tie as tie
-use Rattle.course.proofs.turn.no_keys.Reads as reads
-use Rattle.course.proofs.turn.no_keys.Lts as lts
 
 returns : tie.Need-returns
 unfolding noKeys

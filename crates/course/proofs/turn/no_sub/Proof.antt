@@ -1,10 +1,8 @@
+-- All zeros.
 use borrow.Author.Needs.{needs}
 use Rattle.kinds.specs.State.{noSub}
 use Rattle.course.proofs.turn.no_sub.Statement.{statement}
 use Rattle.course.proofs.turn.no_sub.Tie as tie
-use Rattle.course.proofs.turn.no_sub.Reads as reads
-use Rattle.course.proofs.turn.no_sub.Lts as lts
-use Rattle.course.proofs.turn.no_keys.Reads as no-keys-reads
 
 no-keys-requires : tie.Need-no-keys-requires
 no-keys-requires c κs = search needs

@@ -1,10 +1,9 @@
+-- No words.
 use mathlib.Core.Path.{refl}
 use Rattle.rules.specs.Course.{quietly}
 use Rattle.rules.specs.Effect.{takenOf}
 use Rattle.course.proofs.turn.quietly.Statement.{statement}
 use Rattle.course.proofs.turn.quietly.Tie as tie
-use Rattle.course.proofs.turn.quietly.Reads as reads
-use Rattle.course.proofs.turn.quietly.Lts as lts
 
 returns : tie.Need-returns
 unfolding quietly takenOf

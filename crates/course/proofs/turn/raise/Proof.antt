@@ -1,10 +1,8 @@
+-- The larger clock.
 use borrow.Author.Needs.{needs}
 use Rattle.rules.specs.Course.{raise}
 use Rattle.course.proofs.turn.raise.Statement.{statement}
 use Rattle.course.proofs.turn.raise.Tie as tie
-use Rattle.course.proofs.turn.raise.Reads as reads
-use Rattle.course.proofs.turn.raise.Lts as lts
-use Rattle.course.proofs.turn.larger.Reads as larger-reads
 
 larger-requires : tie.Need-larger-requires
 larger-requires c κs = search needs

@@ -1,3 +1,4 @@
+-- The fields that change, and those that stay.
 use Prim.Native.Nat.{_+_}
 use borrow.Author.Needs.{needs}
 use mathlib.Core.Path.{_≡_}
@@ -5,10 +6,6 @@ use native.Mathlib.Omega.{arith}
 use Rattle.rules.specs.Course.{withReply}
 use Rattle.course.proofs.turn.with_heard.Statement.{statement}
 use Rattle.course.proofs.turn.with_heard.Tie as tie
-use Rattle.course.proofs.turn.with_heard.Reads as reads
-use Rattle.course.proofs.turn.with_heard.Lts as lts
-use Rattle.course.proofs.turn.larger.Reads as larger-reads
-use Rattle.numbers.proofs.mask_of.Reads as mask-of-reads
 
 mask-of-requires : tie.Need-mask-of-requires
 mask-of-requires c κs = search needs

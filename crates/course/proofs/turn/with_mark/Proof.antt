@@ -1,9 +1,8 @@
+-- The fields that change, and those that stay.
 use mathlib.Core.Path.{refl}
 use Rattle.rules.specs.Course.{withMark}
 use Rattle.course.proofs.turn.with_mark.Statement.{statement}
 use Rattle.course.proofs.turn.with_mark.Tie as tie
-use Rattle.course.proofs.turn.with_mark.Reads as reads
-use Rattle.course.proofs.turn.with_mark.Lts as lts
 
 returns : tie.Need-returns
 unfolding withMark

@@ -1,10 +1,8 @@
+-- The fields that change, and those that stay.
 use borrow.Author.Needs.{needs}
 use Rattle.rules.specs.Course.{withParticipant}
 use Rattle.course.proofs.turn.with_participant.Statement.{statement}
 use Rattle.course.proofs.turn.with_participant.Tie as tie
-use Rattle.course.proofs.turn.with_participant.Reads as reads
-use Rattle.course.proofs.turn.with_participant.Lts as lts
-use Rattle.numbers.proofs.mask_of.Reads as mask-of-reads
 
 mask-of-requires : tie.Need-mask-of-requires
 mask-of-requires c κs = search needs

@@ -1,10 +1,8 @@
+-- The fields that change, and those that stay.
 use borrow.Author.Needs.{needs}
 use Rattle.rules.specs.Course.{withReply}
 use Rattle.course.proofs.turn.with_reply.Statement.{statement}
 use Rattle.course.proofs.turn.with_reply.Tie as tie
-use Rattle.course.proofs.turn.with_reply.Reads as reads
-use Rattle.course.proofs.turn.with_reply.Lts as lts
-use Rattle.course.proofs.turn.with_heard.Reads as with-heard-reads
 
 with-heard-requires : tie.Need-with-heard-requires
 with-heard-requires c κs = search needs

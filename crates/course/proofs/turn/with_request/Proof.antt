@@ -1,9 +1,8 @@
+-- The fields that change, and those that stay.
 use mathlib.Core.Path.{refl}
 use Rattle.rules.specs.Course.{withRequest}
 use Rattle.course.proofs.turn.with_request.Statement.{statement}
 use Rattle.course.proofs.turn.with_request.Tie as tie
-use Rattle.course.proofs.turn.with_request.Reads as reads
-use Rattle.course.proofs.turn.with_request.Lts as lts
 
 returns : tie.Need-returns
 unfolding withRequest

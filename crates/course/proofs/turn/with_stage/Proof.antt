@@ -1,9 +1,8 @@
+-- The fields that change, and those that stay.
 use mathlib.Core.Path.{refl}
 use Rattle.rules.specs.Course.{withStage}
 use Rattle.course.proofs.turn.with_stage.Statement.{statement}
 use Rattle.course.proofs.turn.with_stage.Tie as tie
-use Rattle.course.proofs.turn.with_stage.Reads as reads
-use Rattle.course.proofs.turn.with_stage.Lts as lts
 
 returns : tie.Need-returns
 unfolding withStage

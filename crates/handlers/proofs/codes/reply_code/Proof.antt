@@ -1,9 +1,8 @@
+-- Each return is the first cause, or none.
 use borrow.Author.Tests.{not-false, not-true}
 use Rattle.rules.specs.Deliver.{replyCode}
 use Rattle.handlers.proofs.codes.reply_code.Statement.{statement}
 use Rattle.handlers.proofs.codes.reply_code.Tie as tie
-use Rattle.handlers.proofs.codes.reply_code.Reads as reads
-use Rattle.handlers.proofs.codes.reply_code.Lts as lts
 
 returns : tie.Need-returns
 unfolding replyCode

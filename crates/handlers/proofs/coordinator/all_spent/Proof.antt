@@ -1,11 +1,9 @@
+-- The test of the counts, where a message is due.
 use borrow.Author.Needs.{needs}
 use borrow.Author.Tests.{not-false, not-true}
 use Rattle.laws.specs.Choice.{pick-self}
 use Rattle.handlers.proofs.coordinator.all_spent.Statement.{statement}
 use Rattle.handlers.proofs.coordinator.all_spent.Tie as tie
-use Rattle.handlers.proofs.coordinator.all_spent.Reads as reads
-use Rattle.handlers.proofs.coordinator.all_spent.Lts as lts
-use Rattle.messages.proofs.counts_low.Reads as counts-low-reads
 
 returns : tie.Need-returns
 returns c = simp (not-true (c .before .args .due) (c .if1 .taken))

@@ -1,3 +1,4 @@
+-- The tests of the turn.
 use borrow.Author.Needs.{needs}
 use borrow.Author.Tests.{eq-eqb, ne-eqb}
 use Rattle.laws.specs.Choice.{pick-self}
@@ -5,9 +6,6 @@ use Rattle.rules.specs.Deliver.{joinedInTurn}
 use Rattle.kinds.specs.Stage as stage
 use Rattle.handlers.proofs.coordinator.joined_in_turn.Statement.{statement}
 use Rattle.handlers.proofs.coordinator.joined_in_turn.Tie as tie
-use Rattle.handlers.proofs.coordinator.joined_in_turn.Reads as reads
-use Rattle.handlers.proofs.coordinator.joined_in_turn.Lts as lts
-use Rattle.course.proofs.turn.is_outstanding.Reads as is-outstanding-reads
 
 is-outstanding-requires : tie.Need-is-outstanding-requires
 is-outstanding-requires c κs = search needs

@@ -1,3 +1,4 @@
+-- Refused, or the reply counted.
 use borrow.Author.Needs.{needs}
 use borrow.Author.Tests.{eq-eqb, ne-eqb}
 use Rattle.rules.specs.Course.{quietly}
@@ -5,16 +6,6 @@ use Rattle.rules.specs.Deliver.{takeJoined}
 use Rattle.rules.specs.Effect.{outOf, settledOf, takenOf}
 use Rattle.handlers.proofs.coordinator.take_joined.Statement.{statement}
 use Rattle.handlers.proofs.coordinator.take_joined.Tie as tie
-use Rattle.handlers.proofs.coordinator.take_joined.Reads as reads
-use Rattle.handlers.proofs.coordinator.take_joined.Lts as lts
-use Rattle.course.proofs.turn.quietly.Reads as quietly-reads
-use Rattle.course.proofs.turn.with_course.Reads as with-course-reads
-use Rattle.course.proofs.turn.with_heard.Reads as with-heard-reads
-use Rattle.handlers.proofs.codes.reply_code.Reads as reply-code-reads
-use Rattle.handlers.proofs.coordinator.joined_in_turn.Reads as joined-in-turn-reads
-use Rattle.handlers.proofs.settle.arrived.Reads as arrived-reads
-use Rattle.handlers.proofs.settle.refused.Reads as refused-reads
-use Rattle.handlers.proofs.settle.settled.Reads as settled-reads
 
 arrived-requires : tie.Need-arrived-requires
 arrived-requires c κs = search needs

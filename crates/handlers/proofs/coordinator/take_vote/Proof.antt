@@ -1,3 +1,4 @@
+-- Refused, or the vote's step settled at the place.
 use borrow.Author.Needs.{needs}
 use borrow.Author.Tests.{ne-eqb, not-false}
 use mathlib.Core.Path.{_∙_, ap, sym}
@@ -11,17 +12,6 @@ use Rattle.rules.specs.Effect.{outOf, settledOf, takenOf}
 use Rattle.rules.specs.Send.{counts-low}
 use Rattle.handlers.proofs.coordinator.take_vote.Statement.{statement}
 use Rattle.handlers.proofs.coordinator.take_vote.Tie as tie
-use Rattle.handlers.proofs.coordinator.take_vote.Reads as reads
-use Rattle.handlers.proofs.coordinator.take_vote.Lts as lts
-use Rattle.course.proofs.coordinator.vote_step.Reads as vote-step-reads
-use Rattle.course.proofs.turn.raise.Reads as raise-reads
-use Rattle.handlers.proofs.codes.reply_code.Reads as reply-code-reads
-use Rattle.handlers.proofs.coordinator.all_spent.Reads as all-spent-reads
-use Rattle.handlers.proofs.coordinator.vote_decides.Reads as vote-decides-reads
-use Rattle.handlers.proofs.coordinator.vote_in_turn.Reads as vote-in-turn-reads
-use Rattle.handlers.proofs.settle.arrived.Reads as arrived-reads
-use Rattle.handlers.proofs.settle.refused.Reads as refused-reads
-use Rattle.handlers.proofs.settle.settled.Reads as settled-reads
 
 arrived-requires : tie.Need-arrived-requires
 arrived-requires c κs = search needs

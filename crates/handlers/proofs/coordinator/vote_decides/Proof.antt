@@ -1,13 +1,10 @@
+-- A no, or the last yes.
 use borrow.Author.Needs.{needs}
 use borrow.Author.Tests.{eq-eqb, ne-eqb}
 use Rattle.laws.specs.Choice.{pick-self}
 use Rattle.rules.specs.Course.{voteDecides}
 use Rattle.handlers.proofs.coordinator.vote_decides.Statement.{statement}
 use Rattle.handlers.proofs.coordinator.vote_decides.Tie as tie
-use Rattle.handlers.proofs.coordinator.vote_decides.Reads as reads
-use Rattle.handlers.proofs.coordinator.vote_decides.Lts as lts
-use Rattle.course.proofs.turn.with_heard.Reads as with-heard-reads
-use Rattle.live.proofs.all_heard.Reads as all-heard-reads
 
 with-heard-requires : tie.Need-with-heard-requires
 with-heard-requires c κs = search needs

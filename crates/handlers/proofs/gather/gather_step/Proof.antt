@@ -1,3 +1,4 @@
+-- Not the last list, or the vote on the join.
 use borrow.Author.Needs.{needs}
 use borrow.Author.Tests.{not-false, not-true}
 use mathlib.Core.Path.{_∙_, sym}
@@ -9,14 +10,6 @@ use Rattle.rules.specs.DeliverLaws.{gather-last, gather-more}
 use Rattle.rules.specs.Effect.{takenOf, turnAt}
 use Rattle.handlers.proofs.gather.gather_step.Statement.{statement}
 use Rattle.handlers.proofs.gather.gather_step.Tie as tie
-use Rattle.handlers.proofs.gather.gather_step.Reads as reads
-use Rattle.handlers.proofs.gather.gather_step.Lts as lts
-use Rattle.course.proofs.turn.quietly.Reads as quietly-reads
-use Rattle.course.proofs.turn.with_course.Reads as with-course-reads
-use Rattle.course.proofs.turn.with_reply.Reads as with-reply-reads
-use Rattle.handlers.proofs.gather.joined_step.Reads as joined-step-reads
-use Rattle.handlers.proofs.settle.arrived.Reads as arrived-reads
-use Rattle.live.proofs.all_heard.Reads as all-heard-reads
 
 arrived-requires : tie.Need-arrived-requires
 arrived-requires c κs = (c .before .before .pre .0 .1 .0, c .before .before .pre .0 .1 .1 .0)

@@ -1,3 +1,4 @@
+-- The gathered lists joined in a local array, voted on and sent.
 use Prim.Native.Nat.{_*_}
 use borrow.Author.Needs.{needs}
 use lib.ListN.{drop, length}
@@ -8,11 +9,6 @@ use Rattle.rules.specs.JoinLaws.{join-back, length-join}
 use Rattle.kinds.specs.Sizes as sizes
 use Rattle.handlers.proofs.gather.joined_step.Statement.{statement}
 use Rattle.handlers.proofs.gather.joined_step.Tie as tie
-use Rattle.handlers.proofs.gather.joined_step.Reads as reads
-use Rattle.handlers.proofs.gather.joined_step.Lts as lts
-use Rattle.certify.proofs.vote_of.Reads as vote-of-reads
-use Rattle.course.proofs.coordinator.cast_step.Reads as cast-step-reads
-use Rattle.join.proofs.join.Reads as join-reads
 
 mul-at : tie.Need-mul-at
 mul-at c = search needs

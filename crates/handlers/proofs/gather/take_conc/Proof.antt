@@ -1,3 +1,4 @@
+-- Refused, or the list laid behind the others and the step settled.
 use Prim.Native.Nat.{_*_, _+_}
 use borrow.Author.Needs.{needs}
 use borrow.Author.Tests.{not-false}
@@ -17,17 +18,6 @@ use Rattle.rules.specs.ValidLaws.{valid-site}
 use Rattle.kinds.specs.Sizes as sizes
 use Rattle.handlers.proofs.gather.take_conc.Statement.{statement}
 use Rattle.handlers.proofs.gather.take_conc.Tie as tie
-use Rattle.handlers.proofs.gather.take_conc.Reads as reads
-use Rattle.handlers.proofs.gather.take_conc.Lts as lts
-use Rattle.course.proofs.turn.with_heard.Reads as with-heard-reads
-use Rattle.handlers.proofs.codes.reply_code.Reads as reply-code-reads
-use Rattle.handlers.proofs.coordinator.all_spent.Reads as all-spent-reads
-use Rattle.handlers.proofs.coordinator.conc_in_turn.Reads as conc-in-turn-reads
-use Rattle.handlers.proofs.gather.gather_step.Reads as gather-step-reads
-use Rattle.handlers.proofs.settle.refused.Reads as refused-reads
-use Rattle.handlers.proofs.settle.settled.Reads as settled-reads
-use Rattle.live.proofs.all_heard.Reads as all-heard-reads
-use Rattle.slices.proofs.copy_words.Reads as copy-words-reads
 
 mul-sub : tie.Need-mul-sub
 mul-sub c = omega (arith, c .before .before .before .before .pre .0 .1 .0)

@@ -1,3 +1,4 @@
+-- Refused, or the vote of 5 sent.
 use borrow.Author.Needs.{needs}
 use borrow.Author.Tests.{leb-false, ne-eqb}
 use mathlib.Core.List.{[]}
@@ -15,15 +16,6 @@ use Rattle.kinds.specs.Reason as reason
 use Rattle.kinds.specs.Sizes as sizes
 use Rattle.handlers.proofs.participant.pass_prepare.Statement.{statement}
 use Rattle.handlers.proofs.participant.pass_prepare.Tie as tie
-use Rattle.handlers.proofs.participant.pass_prepare.Reads as reads
-use Rattle.handlers.proofs.participant.pass_prepare.Lts as lts
-use Rattle.course.proofs.send.send_to.Reads as send-to-reads
-use Rattle.course.proofs.turn.channel_spent.Reads as channel-spent-reads
-use Rattle.course.proofs.turn.raise.Reads as raise-reads
-use Rattle.handlers.proofs.codes.reply_code.Reads as reply-code-reads
-use Rattle.handlers.proofs.settle.join_turn.Reads as join-turn-reads
-use Rattle.handlers.proofs.settle.refused.Reads as refused-reads
-use Rattle.handlers.proofs.settle.spoken.Reads as spoken-reads
 
 channel-spent-requires : tie.Need-channel-spent-requires
 channel-spent-requires c κs = let a = c .before .pre .0 in (a .first, a .last)

@@ -1,3 +1,4 @@
+-- The list is made in a local array, then written.
 use Prim.Native.Nat.{_*_}
 use borrow.Author.Needs.{needs}
 use lib.ListN.{length, take}
@@ -9,10 +10,6 @@ use Rattle.rules.specs.CertifyLaws.{concurrent-whole}
 use Rattle.kinds.specs.Sizes as sizes
 use Rattle.handlers.proofs.participant.prepare_taken.Statement.{statement}
 use Rattle.handlers.proofs.participant.prepare_taken.Tie as tie
-use Rattle.handlers.proofs.participant.prepare_taken.Reads as reads
-use Rattle.handlers.proofs.participant.prepare_taken.Lts as lts
-use Rattle.course.proofs.participant.prepared_step.Reads as prepared-step-reads
-use Rattle.history.proofs.is_forgotten.Reads as is-forgotten-reads
 
 is-forgotten-requires : tie.Need-is-forgotten-requires
 is-forgotten-requires c κs = search needs

@@ -1,3 +1,4 @@
+-- Refused, or the place freed.
 use borrow.Author.Needs.{needs}
 use borrow.Author.Tests.{eq-eqb, ne-eqb}
 use Rattle.rules.specs.Course.{quietly}
@@ -5,15 +6,6 @@ use Rattle.rules.specs.Deliver.{takeAbort}
 use Rattle.rules.specs.Effect.{outOf, settledOf, takenOf}
 use Rattle.handlers.proofs.participant.take_abort.Statement.{statement}
 use Rattle.handlers.proofs.participant.take_abort.Tie as tie
-use Rattle.handlers.proofs.participant.take_abort.Reads as reads
-use Rattle.handlers.proofs.participant.take_abort.Lts as lts
-use Rattle.course.proofs.turn.no_sub.Reads as no-sub-reads
-use Rattle.course.proofs.turn.quietly.Reads as quietly-reads
-use Rattle.course.proofs.turn.with_sub.Reads as with-sub-reads
-use Rattle.handlers.proofs.codes.reply_code.Reads as reply-code-reads
-use Rattle.handlers.proofs.settle.arrived.Reads as arrived-reads
-use Rattle.handlers.proofs.settle.refused.Reads as refused-reads
-use Rattle.handlers.proofs.settle.settled.Reads as settled-reads
 
 arrived-requires : tie.Need-arrived-requires
 arrived-requires c κs = search needs

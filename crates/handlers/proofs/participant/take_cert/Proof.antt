@@ -1,3 +1,4 @@
+-- Refused, or the vote's step settled.
 use borrow.Author.Needs.{needs}
 use borrow.Author.Tests.{leb-false, ne-eqb}
 use mathlib.Core.Path.{_∙_, sym}
@@ -11,14 +12,6 @@ use Rattle.rules.specs.Effect.{outOf, settledOf, takenOf}
 use Rattle.kinds.specs.Sizes as sizes
 use Rattle.handlers.proofs.participant.take_cert.Statement.{statement}
 use Rattle.handlers.proofs.participant.take_cert.Tie as tie
-use Rattle.handlers.proofs.participant.take_cert.Reads as reads
-use Rattle.handlers.proofs.participant.take_cert.Lts as lts
-use Rattle.course.proofs.participant.certified_step.Reads as certified-step-reads
-use Rattle.course.proofs.turn.channel_spent.Reads as channel-spent-reads
-use Rattle.handlers.proofs.codes.reply_code.Reads as reply-code-reads
-use Rattle.handlers.proofs.settle.arrived.Reads as arrived-reads
-use Rattle.handlers.proofs.settle.refused.Reads as refused-reads
-use Rattle.handlers.proofs.settle.settled.Reads as settled-reads
 
 arrived-requires : tie.Need-arrived-requires
 arrived-requires c κs = search needs

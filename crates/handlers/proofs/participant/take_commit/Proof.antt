@@ -1,3 +1,4 @@
+-- Refused, or the decision settled.
 use borrow.Author.Needs.{needs}
 use borrow.Author.Tests.{eq-eqb, ne-eqb}
 use Rattle.rules.specs.Course.{quietly}
@@ -5,16 +6,6 @@ use Rattle.rules.specs.Deliver.{takeCommit}
 use Rattle.rules.specs.Effect.{outOf, settledOf, takenOf}
 use Rattle.handlers.proofs.participant.take_commit.Statement.{statement}
 use Rattle.handlers.proofs.participant.take_commit.Tie as tie
-use Rattle.handlers.proofs.participant.take_commit.Reads as reads
-use Rattle.handlers.proofs.participant.take_commit.Lts as lts
-use Rattle.course.proofs.turn.quietly.Reads as quietly-reads
-use Rattle.course.proofs.turn.raise.Reads as raise-reads
-use Rattle.course.proofs.turn.with_course.Reads as with-course-reads
-use Rattle.course.proofs.turn.with_decision.Reads as with-decision-reads
-use Rattle.handlers.proofs.codes.reply_code.Reads as reply-code-reads
-use Rattle.handlers.proofs.settle.arrived.Reads as arrived-reads
-use Rattle.handlers.proofs.settle.refused.Reads as refused-reads
-use Rattle.handlers.proofs.settle.settled.Reads as settled-reads
 
 arrived-requires : tie.Need-arrived-requires
 arrived-requires c κs = search needs

@@ -1,3 +1,4 @@
+-- Refused, answered 12, or the part begun.
 use borrow.Author.Needs.{needs}
 use borrow.Author.Tests.{le-ltb, leb-false, lt-ltb, ne-eqb}
 use mathlib.Core.List.{[]}
@@ -13,16 +14,6 @@ use Rattle.rules.specs.Live.{freePlace}
 use Rattle.kinds.specs.Sizes as sizes
 use Rattle.handlers.proofs.participant.take_join.Statement.{statement}
 use Rattle.handlers.proofs.participant.take_join.Tie as tie
-use Rattle.handlers.proofs.participant.take_join.Reads as reads
-use Rattle.handlers.proofs.participant.take_join.Lts as lts
-use Rattle.course.proofs.send.send_to.Reads as send-to-reads
-use Rattle.course.proofs.turn.channel_spent.Reads as channel-spent-reads
-use Rattle.handlers.proofs.codes.reply_code.Reads as reply-code-reads
-use Rattle.handlers.proofs.settle.join_turn.Reads as join-turn-reads
-use Rattle.handlers.proofs.settle.refused.Reads as refused-reads
-use Rattle.handlers.proofs.settle.settled.Reads as settled-reads
-use Rattle.handlers.proofs.settle.spoken.Reads as spoken-reads
-use Rattle.live.proofs.free_place.Reads as free-place-reads
 
 channel-spent-requires : tie.Need-channel-spent-requires
 channel-spent-requires c κs = let a = c .before .pre .0 in (a .first, a .last)

@@ -1,3 +1,4 @@
+-- Refused, or the list sent and settled.
 use borrow.Author.Needs.{needs}
 use borrow.Author.Tests.{leb-false, ne-eqb}
 use mathlib.Core.Path.{_∙_, ap, sym}
@@ -13,15 +14,6 @@ use Rattle.rules.specs.History.{isForgotten}
 use Rattle.kinds.specs.Sizes as sizes
 use Rattle.handlers.proofs.participant.take_prepare.Statement.{statement}
 use Rattle.handlers.proofs.participant.take_prepare.Tie as tie
-use Rattle.handlers.proofs.participant.take_prepare.Reads as reads
-use Rattle.handlers.proofs.participant.take_prepare.Lts as lts
-use Rattle.course.proofs.turn.channel_spent.Reads as channel-spent-reads
-use Rattle.course.proofs.turn.raise.Reads as raise-reads
-use Rattle.handlers.proofs.codes.reply_code.Reads as reply-code-reads
-use Rattle.handlers.proofs.participant.prepare_taken.Reads as prepare-taken-reads
-use Rattle.handlers.proofs.settle.arrived.Reads as arrived-reads
-use Rattle.handlers.proofs.settle.refused.Reads as refused-reads
-use Rattle.handlers.proofs.settle.settled.Reads as settled-reads
 
 arrived-requires : tie.Need-arrived-requires
 arrived-requires c κs = search needs

@@ -1,10 +1,8 @@
+-- The part at the place, the count stepped.
 use borrow.Author.Needs.{needs}
 use Rattle.rules.specs.Deliver.{arrived}
 use Rattle.handlers.proofs.settle.arrived.Statement.{statement}
 use Rattle.handlers.proofs.settle.arrived.Tie as tie
-use Rattle.handlers.proofs.settle.arrived.Reads as reads
-use Rattle.handlers.proofs.settle.arrived.Lts as lts
-use Rattle.course.proofs.turn.taken_from.Reads as taken-from-reads
 
 taken-from-requires : tie.Need-taken-from-requires
 taken-from-requires c κs = let a = c .before .pre .1 in (a .first, (a .last, a .low))

@@ -1,11 +1,8 @@
+-- A new part, the count stepped.
 use borrow.Author.Needs.{needs}
 use Rattle.rules.specs.Deliver.{joinTurn}
 use Rattle.handlers.proofs.settle.join_turn.Statement.{statement}
 use Rattle.handlers.proofs.settle.join_turn.Tie as tie
-use Rattle.handlers.proofs.settle.join_turn.Reads as reads
-use Rattle.handlers.proofs.settle.join_turn.Lts as lts
-use Rattle.course.proofs.turn.new_sub.Reads as new-sub-reads
-use Rattle.course.proofs.turn.taken_from.Reads as taken-from-reads
 
 taken-from-requires : tie.Need-taken-from-requires
 taken-from-requires c κs = let a = c .before .pre in (a .first, (a .last, a .low))

@@ -1,9 +1,8 @@
+-- The site as it was.
 use mathlib.Core.Path.{refl}
 use Rattle.rules.specs.Effect.{outOf}
 use Rattle.handlers.proofs.settle.refused.Statement.{statement}
 use Rattle.handlers.proofs.settle.refused.Tie as tie
-use Rattle.handlers.proofs.settle.refused.Reads as reads
-use Rattle.handlers.proofs.settle.refused.Lts as lts
 
 returns : tie.Need-returns
 unfolding outOf

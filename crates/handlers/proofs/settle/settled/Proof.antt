@@ -1,10 +1,9 @@
+-- The site with the step's part, counters and channels.
 use borrow.Author.Needs.{needs}
 use mathlib.Core.Path.{refl}
 use Rattle.rules.specs.Effect.{settle, settledOf}
 use Rattle.handlers.proofs.settle.settled.Statement.{statement}
 use Rattle.handlers.proofs.settle.settled.Tie as tie
-use Rattle.handlers.proofs.settle.settled.Reads as reads
-use Rattle.handlers.proofs.settle.settled.Lts as lts
 
 mul-b : tie.Need-mul-b
 mul-b c = search needs

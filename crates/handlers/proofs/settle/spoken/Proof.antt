@@ -1,9 +1,8 @@
+-- The site with the counters and channels of the step.
 use mathlib.Core.Path.{refl}
 use Rattle.rules.specs.Deliver.{spokenOf}
 use Rattle.handlers.proofs.settle.spoken.Statement.{statement}
 use Rattle.handlers.proofs.settle.spoken.Tie as tie
-use Rattle.handlers.proofs.settle.spoken.Reads as reads
-use Rattle.handlers.proofs.settle.spoken.Lts as lts
 
 returns : tie.Need-returns
 unfolding spokenOf

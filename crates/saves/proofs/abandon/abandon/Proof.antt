@@ -1,3 +1,4 @@
+-- Refused, or the abort settled.
 use borrow.Author.Needs.{needs}
 use borrow.Author.Tests.{eq-eqb, ne-eqb}
 use mathlib.Core.Path.{_∙_, sym}
@@ -10,15 +11,6 @@ use Rattle.rules.specs.Send.{counts-low}
 use Rattle.rules.specs.ValidLaws.{valid-site}
 use Rattle.saves.proofs.abandon.abandon.Statement.{statement}
 use Rattle.saves.proofs.abandon.abandon.Tie as tie
-use Rattle.saves.proofs.abandon.abandon.Reads as reads
-use Rattle.saves.proofs.abandon.abandon.Lts as lts
-use Rattle.course.proofs.coordinator.abort_step.Reads as abort-step-reads
-use Rattle.live.proofs.place_of.Reads as place-of-reads
-use Rattle.messages.proofs.counts_low.Reads as counts-low-reads
-use Rattle.numbers.proofs.coordinator_of.Reads as coordinator-of-reads
-use Rattle.saves.proofs.abandon.abandon_code.Reads as abandon-code-reads
-use Rattle.saves.proofs.codes.request_code.Reads as request-code-reads
-use Rattle.valid.proofs.site_ok.Reads as site-ok-reads
 
 site-ok-requires : tie.Need-site-ok-requires
 site-ok-requires c κs = search needs

@@ -1,10 +1,9 @@
+-- Each return is the first cause, or none.
 use borrow.Author.Tests.{eq-eqb, ne-eqb, not-false, not-true}
 use Rattle.rules.specs.Commit.{abandonCode}
 use Rattle.kinds.specs.Stage as stage
 use Rattle.saves.proofs.abandon.abandon_code.Statement.{statement}
 use Rattle.saves.proofs.abandon.abandon_code.Tie as tie
-use Rattle.saves.proofs.abandon.abandon_code.Reads as reads
-use Rattle.saves.proofs.abandon.abandon_code.Lts as lts
 
 returns : tie.Need-returns
 unfolding abandonCode

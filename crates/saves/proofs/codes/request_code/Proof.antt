@@ -1,10 +1,9 @@
+-- Each return is the first cause, or none.
 use borrow.Author.Tests.{le-leb, le-ltb, lt-leb, lt-ltb, not-false, not-true}
 use Rattle.rules.specs.Commit.{requestCode}
 use Rattle.kinds.specs.Sizes as sizes
 use Rattle.saves.proofs.codes.request_code.Statement.{statement}
 use Rattle.saves.proofs.codes.request_code.Tie as tie
-use Rattle.saves.proofs.codes.request_code.Reads as reads
-use Rattle.saves.proofs.codes.request_code.Lts as lts
 
 returns : tie.Need-returns
 unfolding requestCode

@@ -1,3 +1,4 @@
+-- Refused by the call's causes, by the stage's, or the step settled.
 use borrow.Author.Needs.{needs}
 use borrow.Author.Tests.{eq-eqb, eqb-true, ne-eqb}
 use mathlib.Core.Path.{_∙_, sym}
@@ -11,16 +12,6 @@ use Rattle.rules.specs.ValidLaws.{valid-site}
 use Rattle.kinds.specs.Sizes as sizes
 use Rattle.saves.proofs.commit.commit.Statement.{statement}
 use Rattle.saves.proofs.commit.commit.Tie as tie
-use Rattle.saves.proofs.commit.commit.Reads as reads
-use Rattle.saves.proofs.commit.commit.Lts as lts
-use Rattle.live.proofs.all_heard.Reads as all-heard-reads
-use Rattle.live.proofs.place_of.Reads as place-of-reads
-use Rattle.messages.proofs.counts_low.Reads as counts-low-reads
-use Rattle.numbers.proofs.coordinator_of.Reads as coordinator-of-reads
-use Rattle.saves.proofs.codes.request_code.Reads as request-code-reads
-use Rattle.saves.proofs.commit.commit_code.Reads as commit-code-reads
-use Rattle.saves.proofs.commit.commit_step.Reads as commit-step-reads
-use Rattle.valid.proofs.site_ok.Reads as site-ok-reads
 
 site-ok-requires : tie.Need-site-ok-requires
 site-ok-requires c κs = search needs

@@ -1,10 +1,9 @@
+-- Each return is the first cause, or none.
 use borrow.Author.Tests.{eq-eqb, ne-eqb, not-false, not-true}
 use Rattle.rules.specs.Commit.{commitCode}
 use Rattle.kinds.specs.Stage as stage
 use Rattle.saves.proofs.commit.commit_code.Statement.{statement}
 use Rattle.saves.proofs.commit.commit_code.Tie as tie
-use Rattle.saves.proofs.commit.commit_code.Reads as reads
-use Rattle.saves.proofs.commit.commit_code.Lts as lts
 
 returns : tie.Need-returns
 unfolding commitCode

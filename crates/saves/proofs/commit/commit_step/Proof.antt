@@ -1,3 +1,4 @@
+-- The abort of 12 or 19, or the request with its list.
 use Prim.Native.Nat.{_*_}
 use borrow.Author.Needs.{needs}
 use borrow.Author.Tests.{eq-eqb, ne-eqb}
@@ -15,13 +16,6 @@ use Rattle.rules.specs.Effect.{turnAt}
 use Rattle.kinds.specs.Sizes as sizes
 use Rattle.saves.proofs.commit.commit_step.Statement.{statement}
 use Rattle.saves.proofs.commit.commit_step.Tie as tie
-use Rattle.saves.proofs.commit.commit_step.Reads as reads
-use Rattle.saves.proofs.commit.commit_step.Lts as lts
-use Rattle.course.proofs.coordinator.abort_step.Reads as abort-step-reads
-use Rattle.history.proofs.is_forgotten.Reads as is-forgotten-reads
-use Rattle.saves.proofs.commit.request_step.Reads as request-step-reads
-use Rattle.saves.proofs.commit.turn_at.Reads as turn-at-reads
-use Rattle.slices.proofs.copy_words.Reads as copy-words-reads
 
 turn-at-requires : tie.Need-turn-at-requires
 turn-at-requires c κs = search needs

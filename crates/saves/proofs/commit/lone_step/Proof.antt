@@ -1,3 +1,4 @@
+-- The own list joined, and voted on.
 use borrow.Author.Needs.{needs}
 use lib.ListN.{length}
 use mathlib.Core.Path.{_∙_, ap, sym}
@@ -5,10 +6,6 @@ use native.Mathlib.Omega.{arith}
 use Rattle.rules.specs.JoinLaws.{join-back, length-join}
 use Rattle.saves.proofs.commit.lone_step.Statement.{statement}
 use Rattle.saves.proofs.commit.lone_step.Tie as tie
-use Rattle.saves.proofs.commit.lone_step.Reads as reads
-use Rattle.saves.proofs.commit.lone_step.Lts as lts
-use Rattle.course.proofs.coordinator.cast_step.Reads as cast-step-reads
-use Rattle.join.proofs.join.Reads as join-reads
 
 slice-aggregate-join : tie.Need-slice-aggregate-join
 slice-aggregate-join c = search needs

@@ -1,3 +1,4 @@
+-- Alone it votes at once; else PREPARE goes out.
 use borrow.Author.Needs.{needs}
 use lib.ListN.{length}
 use mathlib.Core.Bool.{false, true}
@@ -12,14 +13,6 @@ use Rattle.rules.specs.Live.{allHeard}
 use Rattle.rules.specs.Message.{entryCount}
 use Rattle.saves.proofs.commit.request_step.Statement.{statement}
 use Rattle.saves.proofs.commit.request_step.Tie as tie
-use Rattle.saves.proofs.commit.request_step.Reads as reads
-use Rattle.saves.proofs.commit.request_step.Lts as lts
-use Rattle.course.proofs.coordinator.prepare_step.Reads as prepare-step-reads
-use Rattle.course.proofs.turn.with_course.Reads as with-course-reads
-use Rattle.course.proofs.turn.with_request.Reads as with-request-reads
-use Rattle.live.proofs.all_heard.Reads as all-heard-reads
-use Rattle.saves.proofs.commit.lone_step.Reads as lone-step-reads
-use Rattle.saves.proofs.commit.turn_at.Reads as turn-at-reads
 
 turn-at-requires : tie.Need-turn-at-requires
 turn-at-requires c κs = search needs

@@ -1,10 +1,9 @@
+-- The part with counters and channels.
 use borrow.Author.Needs.{needs}
 use mathlib.Core.Path.{refl}
 use Rattle.rules.specs.Effect.{turnAt}
 use Rattle.saves.proofs.commit.turn_at.Statement.{statement}
 use Rattle.saves.proofs.commit.turn_at.Tie as tie
-use Rattle.saves.proofs.commit.turn_at.Reads as reads
-use Rattle.saves.proofs.commit.turn_at.Lts as lts
 
 mul-sub : tie.Need-mul-sub
 mul-sub c = search needs

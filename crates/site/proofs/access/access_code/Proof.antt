@@ -1,3 +1,4 @@
+-- Each return is the first cause, or none.
 use borrow.Author.Needs.{needs}
 use borrow.Author.Tests.{eq-eqb, le-leb, lt-leb, ne-eqb, not-false, not-true}
 use Rattle.rules.specs.Access.{accessCode}
@@ -5,10 +6,6 @@ use Rattle.kinds.specs.Sizes as sizes
 use Rattle.kinds.specs.Stage as stage
 use Rattle.site.proofs.access.access_code.Statement.{statement}
 use Rattle.site.proofs.access.access_code.Tie as tie
-use Rattle.site.proofs.access.access_code.Reads as reads
-use Rattle.site.proofs.access.access_code.Lts as lts
-use Rattle.numbers.proofs.is_key.Reads as is-key-reads
-use Rattle.numbers.proofs.site_of.Reads as site-of-reads
 
 is-key-requires : tie.Need-is-key-requires
 is-key-requires c κs = search needs

@@ -1,3 +1,4 @@
+-- Refused, the own write, or the version of the snapshot.
 use borrow.Author.Needs.{needs}
 use borrow.Author.Tests.{eq-eqb, ne-eqb}
 use mathlib.Core.Path.{_∙_, sym}
@@ -10,19 +11,6 @@ use Rattle.rules.specs.Effect.{outOf, settle, turnAt}
 use Rattle.rules.specs.ValidLaws.{key-low, valid-site}
 use Rattle.site.proofs.access.read.Statement.{statement}
 use Rattle.site.proofs.access.read.Tie as tie
-use Rattle.site.proofs.access.read.Reads as reads
-use Rattle.site.proofs.access.read.Lts as lts
-use Rattle.history.proofs.is_forgotten.Reads as is-forgotten-reads
-use Rattle.history.proofs.version_of.Reads as version-of-reads
-use Rattle.keys.proofs.read_key.Reads as read-key-reads
-use Rattle.keys.proofs.with_read.Reads as with-read-reads
-use Rattle.keys.proofs.wrote_key.Reads as wrote-key-reads
-use Rattle.keys.proofs.wrote_value.Reads as wrote-value-reads
-use Rattle.live.proofs.place_of.Reads as place-of-reads
-use Rattle.site.proofs.access.access_code.Reads as access-code-reads
-use Rattle.site.proofs.access.read_code.Reads as read-code-reads
-use Rattle.site.proofs.access.stage_at.Reads as stage-at-reads
-use Rattle.valid.proofs.site_ok.Reads as site-ok-reads
 
 site-ok-requires : tie.Need-site-ok-requires
 site-ok-requires c κs = search needs

@@ -1,3 +1,4 @@
+-- Past the table the stage is that of a free place.
 use borrow.Author.Needs.{needs}
 use lib.ListN.{List·getD-eq-default, length}
 use mathlib.Core.Path.{_≡_}
@@ -6,8 +7,6 @@ use Rattle.kinds.specs.State.{pastSub}
 use Rattle.kinds.specs.Sizes as sizes
 use Rattle.site.proofs.access.stage_at.Statement.{statement}
 use Rattle.site.proofs.access.stage_at.Tie as tie
-use Rattle.site.proofs.access.stage_at.Reads as reads
-use Rattle.site.proofs.access.stage_at.Lts as lts
 
 mul-result : tie.Need-mul-result
 mul-result c = search needs

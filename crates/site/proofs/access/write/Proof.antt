@@ -1,3 +1,4 @@
+-- Refused, written over an own write, or written first.
 use Prim.Native.Nat.{ℕ}
 use borrow.Author.Needs.{needs}
 use borrow.Author.Tests.{eq-eqb, ne-eqb, not-false, not-true}
@@ -13,18 +14,6 @@ use Rattle.rules.specs.Effect.{outOf, settle, turnAt}
 use Rattle.rules.specs.ValidLaws.{key-low, valid-site}
 use Rattle.site.proofs.access.write.Statement.{statement}
 use Rattle.site.proofs.access.write.Tie as tie
-use Rattle.site.proofs.access.write.Reads as reads
-use Rattle.site.proofs.access.write.Lts as lts
-use Rattle.history.proofs.is_forgotten.Reads as is-forgotten-reads
-use Rattle.history.proofs.is_newer.Reads as is-newer-reads
-use Rattle.keys.proofs.with_write.Reads as with-write-reads
-use Rattle.keys.proofs.wrote_key.Reads as wrote-key-reads
-use Rattle.live.proofs.key_held.Reads as key-held-reads
-use Rattle.live.proofs.place_of.Reads as place-of-reads
-use Rattle.site.proofs.access.access_code.Reads as access-code-reads
-use Rattle.site.proofs.access.stage_at.Reads as stage-at-reads
-use Rattle.site.proofs.access.write_code.Reads as write-code-reads
-use Rattle.valid.proofs.site_ok.Reads as site-ok-reads
 
 site-ok-requires : tie.Need-site-ok-requires
 site-ok-requires c κs = search needs

@@ -1,10 +1,9 @@
+-- Each return is the first cause, or none.
 use borrow.Author.Tests.{le-leb, lt-leb}
 use Rattle.rules.specs.Access.{writeCode}
 use Rattle.kinds.specs.Sizes as sizes
 use Rattle.site.proofs.access.write_code.Statement.{statement}
 use Rattle.site.proofs.access.write_code.Tie as tie
-use Rattle.site.proofs.access.write_code.Reads as reads
-use Rattle.site.proofs.access.write_code.Lts as lts
 
 returns : tie.Need-returns
 unfolding writeCode

@@ -1,3 +1,4 @@
+-- Refused, or the new part at the free place.
 use borrow.Author.Needs.{needs}
 use borrow.Author.Tests.{eq-eqb, ne-eqb}
 use mathlib.Core.Path.{_∙_, sym}
@@ -7,14 +8,6 @@ use Rattle.rules.specs.Effect.{outOf, settle}
 use Rattle.rules.specs.ValidLaws.{valid-site}
 use Rattle.site.proofs.begin.begin.Statement.{statement}
 use Rattle.site.proofs.begin.begin.Tie as tie
-use Rattle.site.proofs.begin.begin.Reads as reads
-use Rattle.site.proofs.begin.begin.Lts as lts
-use Rattle.course.proofs.turn.new_sub.Reads as new-sub-reads
-use Rattle.live.proofs.free_place.Reads as free-place-reads
-use Rattle.numbers.proofs.mask_of.Reads as mask-of-reads
-use Rattle.site.proofs.begin.begin_code.Reads as begin-code-reads
-use Rattle.site.proofs.begin.next_tx.Reads as next-tx-reads
-use Rattle.valid.proofs.site_ok.Reads as site-ok-reads
 
 site-ok-requires : tie.Need-site-ok-requires
 site-ok-requires c κs = search needs

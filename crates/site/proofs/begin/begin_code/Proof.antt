@@ -1,10 +1,9 @@
+-- Each return is the first cause, or none.
 use borrow.Author.Tests.{le-leb, lt-leb, not-false, not-true}
 use Rattle.rules.specs.Begin.{beginCode}
 use Rattle.kinds.specs.Sizes as sizes
 use Rattle.site.proofs.begin.begin_code.Statement.{statement}
 use Rattle.site.proofs.begin.begin_code.Tie as tie
-use Rattle.site.proofs.begin.begin_code.Reads as reads
-use Rattle.site.proofs.begin.begin_code.Lts as lts
 
 returns : tie.Need-returns
 unfolding beginCode

@@ -1,10 +1,8 @@
+-- The own number and the next serial.
 use borrow.Author.Needs.{needs}
 use Rattle.rules.specs.Begin.{nextTx}
 use Rattle.site.proofs.begin.next_tx.Statement.{statement}
 use Rattle.site.proofs.begin.next_tx.Tie as tie
-use Rattle.site.proofs.begin.next_tx.Reads as reads
-use Rattle.site.proofs.begin.next_tx.Lts as lts
-use Rattle.numbers.proofs.tx_of.Reads as tx-of-reads
 
 add-tx-of : tie.Need-add-tx-of
 add-tx-of c = search needs

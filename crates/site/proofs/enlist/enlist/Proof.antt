@@ -1,3 +1,4 @@
+-- Refused by the call's causes, by the joiner's, or JOIN sent.
 use borrow.Author.Needs.{needs}
 use borrow.Author.Tests.{eq-eqb, leb-false, ne-eqb}
 use mathlib.Core.Path.{_∙_, sym}
@@ -12,17 +13,6 @@ use Rattle.rules.specs.ValidLaws.{valid-site}
 use Rattle.kinds.specs.Sizes as sizes
 use Rattle.site.proofs.enlist.enlist.Statement.{statement}
 use Rattle.site.proofs.enlist.enlist.Tie as tie
-use Rattle.site.proofs.enlist.enlist.Reads as reads
-use Rattle.site.proofs.enlist.enlist.Lts as lts
-use Rattle.course.proofs.coordinator.enlist_step.Reads as enlist-step-reads
-use Rattle.course.proofs.turn.channel_spent.Reads as channel-spent-reads
-use Rattle.live.proofs.place_of.Reads as place-of-reads
-use Rattle.numbers.proofs.coordinator_of.Reads as coordinator-of-reads
-use Rattle.numbers.proofs.in_mask.Reads as in-mask-reads
-use Rattle.numbers.proofs.is_site.Reads as is-site-reads
-use Rattle.site.proofs.enlist.enlist_code.Reads as enlist-code-reads
-use Rattle.site.proofs.enlist.joiner_code.Reads as joiner-code-reads
-use Rattle.valid.proofs.site_ok.Reads as site-ok-reads
 
 site-ok-requires : tie.Need-site-ok-requires
 site-ok-requires c κs = search needs

@@ -1,10 +1,9 @@
+-- Each return is the first cause, or none.
 use borrow.Author.Tests.{le-leb, le-ltb, lt-leb, lt-ltb, not-false, not-true}
 use Rattle.rules.specs.Enlist.{enlistCode}
 use Rattle.kinds.specs.Sizes as sizes
 use Rattle.site.proofs.enlist.enlist_code.Statement.{statement}
 use Rattle.site.proofs.enlist.enlist_code.Tie as tie
-use Rattle.site.proofs.enlist.enlist_code.Reads as reads
-use Rattle.site.proofs.enlist.enlist_code.Lts as lts
 
 returns : tie.Need-returns
 unfolding enlistCode

@@ -1,10 +1,9 @@
+-- Each return is the first cause, or none.
 use borrow.Author.Tests.{eq-eqb, ne-eqb}
 use Rattle.rules.specs.Enlist.{joinerCode}
 use Rattle.kinds.specs.Stage as stage
 use Rattle.site.proofs.enlist.joiner_code.Statement.{statement}
 use Rattle.site.proofs.enlist.joiner_code.Tie as tie
-use Rattle.site.proofs.enlist.joiner_code.Reads as reads
-use Rattle.site.proofs.enlist.joiner_code.Lts as lts
 
 returns : tie.Need-returns
 unfolding joinerCode

@@ -1,11 +1,8 @@
+-- All zeros but the house and the own number.
 use borrow.Author.Needs.{needs}
 use Rattle.rules.specs.Install.{freshSite}
 use Rattle.site.proofs.start.fresh_site.Statement.{statement}
 use Rattle.site.proofs.start.fresh_site.Tie as tie
-use Rattle.site.proofs.start.fresh_site.Reads as reads
-use Rattle.site.proofs.start.fresh_site.Lts as lts
-use Rattle.course.proofs.turn.no_sub.Reads as no-sub-reads
-use Rattle.site.proofs.start.no_entry.Reads as no-entry-reads
 
 no-sub-requires : tie.Need-no-sub-requires
 no-sub-requires c κs = search needs

@@ -1,10 +1,8 @@
+-- All zeros.
 use borrow.Author.Needs.{needs}
 use Rattle.kinds.specs.State.{noEntry}
 use Rattle.site.proofs.start.no_entry.Statement.{statement}
 use Rattle.site.proofs.start.no_entry.Tie as tie
-use Rattle.site.proofs.start.no_entry.Reads as reads
-use Rattle.site.proofs.start.no_entry.Lts as lts
-use Rattle.course.proofs.turn.no_keys.Reads as no-keys-reads
 
 no-keys-requires : tie.Need-no-keys-requires
 no-keys-requires c κs = search needs

@@ -1,13 +1,9 @@
+-- Refused, or the fresh site with its tables cleared.
 use borrow.Author.Needs.{needs}
 use borrow.Author.Tests.{eq-eqb, ne-eqb}
 use Rattle.rules.specs.Install.{freshSite, startOf, startTable}
 use Rattle.site.proofs.start.start.Statement.{statement}
 use Rattle.site.proofs.start.start.Tie as tie
-use Rattle.site.proofs.start.start.Reads as reads
-use Rattle.site.proofs.start.start.Lts as lts
-use Rattle.site.proofs.start.fresh_site.Reads as fresh-site-reads
-use Rattle.site.proofs.start.start_code.Reads as start-code-reads
-use Rattle.slices.proofs.fill_words.Reads as fill-words-reads
 
 start-code-requires : tie.Need-start-code-requires
 start-code-requires c κs = search needs

@@ -1,13 +1,10 @@
+-- Each return is the first cause, or none.
 use borrow.Author.Needs.{needs}
 use borrow.Author.Tests.{eq-eqb, ne-eqb, not-false, not-true}
 use Rattle.rules.specs.Install.{startCode}
 use Rattle.kinds.specs.Sizes as sizes
 use Rattle.site.proofs.start.start_code.Statement.{statement}
 use Rattle.site.proofs.start.start_code.Tie as tie
-use Rattle.site.proofs.start.start_code.Reads as reads
-use Rattle.site.proofs.start.start_code.Lts as lts
-use Rattle.numbers.proofs.house_ok.Reads as house-ok-reads
-use Rattle.numbers.proofs.is_site.Reads as is-site-reads
 
 house-ok-requires : tie.Need-house-ok-requires
 house-ok-requires c κs = search needs
