@@ -1,4 +1,5 @@
 // A turn with one of its parts changed.
+use crate::channels::step_taken;
 use kinds::Answer;
 use kinds::Channels;
 use kinds::Course;
@@ -131,11 +132,8 @@ pub fn taken_from(c: Channels, site: u64) -> Channels
     requires { ⌜ (1 ≤ site) × ((site ≤ sizes.sites) × (getD (c .taken) (site - 1) 0 < sizes.last)) ⌝ }
     ensures { λ r. ⌜ r ≡ takenFrom c site ⌝ }
 {
-    let i = (site - 1) as usize;
-    let mut taken = c.taken;
-    taken[i] = taken[i] + 1;
     let mut d = c;
-    d.taken = taken;
+    step_taken(&mut d, site);
     d
 }
 

@@ -11,15 +11,36 @@ use numbers::participants;
 use numbers::replies_wanted;
 ghost use mathlib.Core.Path.{_≡_};
 ghost use Prim.Native.Nat.{ℕ, _≤_, _<_};
-ghost use Rattle.rules.specs.Live.{partAt, freePlace, isPartOf, placeOf, isHeld, otherHolds, keyHeld, isPrepared, isQueued, allHeard};
+ghost use Rattle.rules.specs.Live.{partAt, freeIn, freePlace, isPartOf, placeIn, placeOf, isHeld, otherHolds, keyHeld, isPrepared, isQueued, allHeard};
+
+// The first free place of a lent table, or its length.
+pub fn free_in(live: &[Sub]) -> usize
+    ensures { λ r. ⌜ r ≡ freeIn (now (live .entry)) ⌝ }
+{
+    let mut i: usize = 0;
+    while i < live.len() {
+        if live[i].course.stage == FREE {
+            return i;
+        }
+        i += 1;
+    }
+    i
+}
 
 // The first free place, or `LIVE`.
 pub fn free_place(live: [Sub; LIVE]) -> usize
     ensures { λ r. ⌜ r ≡ freePlace live ⌝ }
 {
+    free_in(&live)
+}
+
+// The place of the part of `tx` in a lent table, or its length where it is not held there.
+pub fn place_in(live: &[Sub], tx: u64) -> usize
+    ensures { λ r. ⌜ r ≡ placeIn (now (live .entry)) tx ⌝ }
+{
     let mut i: usize = 0;
-    while i < LIVE {
-        if live[i].course.stage == FREE {
+    while i < live.len() {
+        if is_part_of(live[i], tx) {
             return i;
         }
         i += 1;
@@ -31,15 +52,7 @@ pub fn free_place(live: [Sub; LIVE]) -> usize
 pub fn place_of(live: [Sub; LIVE], tx: u64) -> usize
     ensures { λ r. ⌜ r ≡ placeOf live tx ⌝ }
 {
-    let mut i: usize = 0;
-    while i < LIVE {
-        let b = live[i];
-        if is_part_of(b, tx) {
-            return i;
-        }
-        i += 1;
-    }
-    i
+    place_in(&live, tx)
 }
 
 // Whether a place holds a part of `tx`.

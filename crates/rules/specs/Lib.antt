@@ -29,6 +29,7 @@ pub mod World
 pub mod Book
 pub mod Claim
 pub mod KeysLaws
+pub mod LiveLaws
 pub mod ValidLaws
 pub mod CourseLaws
 pub mod HistoryLaws
