@@ -10,7 +10,9 @@ use kinds::sizes::SITES;
 use lines::Command;
 use pages::PAGE;
 use pages::say;
+pub use post::COPIES;
 use post::STREAM;
+use post::is_cursor;
 use post::log;
 use post::send_all;
 use route::MERGER;
@@ -24,6 +26,7 @@ use spool::First;
 use spool::ITEM;
 use spool::QUEUES;
 use spool::STORE;
+ghost use Prim.Native.Nat.{_<_};
 
 // Why a script ends, where `found` of its input does not say it: the temporary file or the output fails.
 pub const LOST: u64 = 4;
@@ -39,7 +42,7 @@ pub struct Desk {
     pub state: u64,
 }
 
-// A line and its place, with what it hands in: the queue, its first item's words and the address behind it.
+// A line and its place, with what it hands in: the queue or cursor, its next item's words and the address behind it.
 pub struct Ask {
     pub desk: Desk,
     pub command: Command,
@@ -77,7 +80,17 @@ pub fn idle(d: Desk) -> Ask {
     }
 }
 
-// Fetches the first item of a queue; none gives 17.
+// The item that a queue or cursor, below QUEUES, hands in next.
+fn handed(fd: i32, store: &mut [u64; STORE], queue: usize, item: &mut [u64; ITEM]) -> First
+    requires { ⌜ queue < 81 ⌝ }
+{
+    if is_cursor(queue) {
+        return spool::next(fd, store, STREAM, queue, item);
+    }
+    spool::front(fd, store, queue, item)
+}
+
+// Fetches what is handed in; none gives 17.
 fn fetched(
     d: Desk,
     c: Command,
@@ -98,7 +111,7 @@ fn fetched(
             next: 0,
         };
     }
-    let first = spool::front(fd, store, queue, item);
+    let first = handed(fd, store, queue, item);
     match first {
         First::Found(words, next) => Ask {
             desk: d,
@@ -140,6 +153,14 @@ pub fn next_ask(
     fetched(e, c, r.place, r.queue, fd, store, item, page)
 }
 
+// The first n words: what an ask hands in.
+pub fn front(item: &[u64], n: usize) -> &[u64] {
+    if n < item.len() {
+        return &item[0..n];
+    }
+    item
+}
+
 fn is_refused(a: Answer) -> bool {
     if let Answer::Refused(_) = a {
         true
@@ -148,10 +169,14 @@ fn is_refused(a: Answer) -> bool {
     }
 }
 
-// Takes the item that was handed in from its queue.
-fn dropped(a: Ask, fd: i32, store: &mut [u64; STORE]) -> bool {
+// Goes on behind the item that was handed in: the stream keeps its own for the other copies.
+fn passed(a: Ask, fd: i32, store: &mut [u64; STORE]) -> bool {
     let queue = a.queue;
     if QUEUES <= queue {
+        return true;
+    }
+    if is_cursor(queue) {
+        spool::step(store, queue, a.words, a.next);
         return true;
     }
     spool::drop_front(fd, store, queue, a.words, a.next)
@@ -198,7 +223,7 @@ pub fn settled(
     if is_refused(answer) {
         return answered(d, page, answer);
     }
-    if !dropped(a, fd, store) {
+    if !passed(a, fd, store) {
         return ended(d, LOST);
     }
     if !kept_front(a, fd, store, out, n) {

@@ -1,4 +1,4 @@
-// What is under way in a house: untaken messages by sender and receiver, the sites' logs, the merged stream.
+// What is under way in a house: untaken messages by sender and receiver, the sites' logs, the merged stream with each copy's place.
 use kinds::sizes::SITES;
 use kinds::word::FROM;
 use kinds::word::LENGTH;
@@ -9,6 +9,8 @@ ghost use lib.ListN.{length};
 
 // The queue of the merged stream, behind the channels and the logs.
 pub const STREAM: usize = SITES * SITES + SITES;
+
+pub const COPIES: usize = 8;
 
 // The queue of messages between two sites, less 1 each.
 pub fn channel(from: usize, to: usize) -> usize
@@ -24,6 +26,18 @@ pub fn log(site: usize) -> usize
     ensures { λ r. ⌜ r < 72 ⌝ }
 {
     SITES * SITES + site
+}
+
+// The cursor of a copy, less 1, in the stream.
+pub fn cursor(copy: usize) -> usize
+    requires { ⌜ copy < 8 ⌝ }
+    ensures { λ r. ⌜ r < 81 ⌝ }
+{
+    STREAM + 1 + copy
+}
+
+pub fn is_cursor(queue: usize) -> bool {
+    STREAM < queue
 }
 
 // Sends a message on its channel.

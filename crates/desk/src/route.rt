@@ -1,5 +1,7 @@
 // Where a line's call goes (01, "Fixed points"), and the refusals that arise before the store is asked.
+use crate::post::COPIES;
 use crate::post::channel;
+use crate::post::cursor;
 use crate::post::log;
 use kinds::House;
 use kinds::reason::MALFORMED;
@@ -10,14 +12,15 @@ use numbers::coordinator_of;
 use numbers::is_site;
 use spool::QUEUES;
 
-// A place below SITES is a site, less 1.
+// A place below SITES is a site, less 1; one from FIRST_COPY to NOWHERE is a copy.
 pub const MERGER: usize = SITES;
 
-pub const COPIES: usize = SITES + 1;
+pub const FIRST_COPY: usize = SITES + 1;
 
-pub const NOWHERE: usize = SITES + 2;
+pub const NOWHERE: usize = FIRST_COPY + COPIES;
 
-// The place, the queue whose first item is handed in (QUEUES for none), and the refusal where the place is NOWHERE.
+// The place, the queue whose first item is handed in, or the cursor whose next one is (QUEUES for none), and the refusal where the
+// place is NOWHERE.
 pub struct Route {
     pub place: usize,
     pub queue: usize,
@@ -95,6 +98,33 @@ fn from_log(h: House, site: u64) -> Route {
     }
 }
 
+fn to_copy(copy: u64) -> Route {
+    if copy < 1 {
+        return refuse(MALFORMED);
+    }
+    if copy > COPIES as u64 {
+        return refuse(MALFORMED);
+    }
+    to(FIRST_COPY + (copy - 1) as usize)
+}
+
+// The next record of the stream goes to a copy.
+fn from_stream(copy: u64) -> Route {
+    let r = to_copy(copy);
+    if r.place < FIRST_COPY {
+        return r;
+    }
+    let i = r.place - FIRST_COPY;
+    if COPIES <= i {
+        return r;
+    }
+    Route {
+        place: r.place,
+        queue: cursor(i),
+        code: 0,
+    }
+}
+
 pub fn routed(h: House, c: Command) -> Route {
     match c {
         Command::Begin(site) => to_site(h, site),
@@ -108,8 +138,8 @@ pub fn routed(h: House, c: Command) -> Route {
         Command::Report(site) => to_site(h, site),
         Command::Merge(site) => from_log(h, site),
         Command::Emit => to(MERGER),
-        Command::Replay(_) => to(COPIES),
-        Command::Value(_, _) => to(COPIES),
+        Command::Replay(copy) => from_stream(copy),
+        Command::Value(copy, _) => to_copy(copy),
         _ => refuse(MALFORMED),
     }
 }

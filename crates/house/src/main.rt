@@ -1,6 +1,4 @@
 // The program `house` (01, "Fixed points"): plays the script on standard input, or each file that is named as a house of its own.
-mod calls;
-mod merging;
 mod run;
 
 use desk::LOST;

@@ -1,10 +1,8 @@
 // A script from its first line to its last.
-use crate::calls::BASES;
-use crate::calls::GATHERINGS;
-use crate::calls::at_place;
-use crate::calls::start_at;
-use crate::merging::Waiting;
-use crate::merging::next_of_site;
+use calls::BASES;
+use calls::GATHERINGS;
+use calls::at_site;
+use calls::start_sites;
 use desk::Desk;
 use desk::answered;
 use desk::ended;
@@ -12,8 +10,6 @@ use desk::idle;
 use desk::settled;
 use kinds::Answer;
 use kinds::House;
-use kinds::Merger;
-use kinds::Site;
 use kinds::reason::MALFORMED;
 use kinds::sizes::OUTGOING;
 use kinds::sizes::QUEUES;
@@ -26,30 +22,11 @@ use script::TEXT;
 use script::next_line;
 use spool::ITEM;
 use spool::STORE;
-ghost use mathlib.Core.Path.{_≡_};
-ghost use lib.ListN.{length};
-
-// Every site of a house of n. A place that the house lacks holds what a refused start hands back; no line goes there.
-fn start_sites(n: u64, base: &mut [u64], lists: &mut [u64]) -> [Site; SITES]
-    requires { ⌜ (length (now base) ≡ 16384) × (length (now lists) ≡ 144384) ⌝ }
-    ensures { λ r. ⌜ length r ≡ 8 ⌝ }
-{
-    let first = start_at(n, 0, base, lists);
-    let mut sites = [first; SITES];
-    let mut i: usize = 1;
-    while i < SITES {
-        let s = start_at(n, i, base, lists);
-        sites[i] = s;
-        i += 1;
-    }
-    sites
-}
-
-fn start_merger(n: u64, queues: &mut [u64; QUEUES]) -> Merger {
-    let o = merger::start(n, queues);
-    let g = o.merger;
-    g
-}
+use stream::HELD;
+use stream::Waiting;
+use stream::next_of_site;
+use stream::start_copies;
+use stream::start_merger;
 
 // What a line before an accepted `sites` leaves: the house, once it is accepted.
 fn opened(d: Desk, c: Command, page: &mut [u8; PAGE]) -> Desk {
@@ -113,11 +90,13 @@ fn rest(
     let mut base = [0u64; BASES];
     let mut lists = [0u64; GATHERINGS];
     let mut queues = [0u64; QUEUES];
+    let mut held = [0u64; HELD];
     let mut out = [0u64; OUTGOING];
     let mut item = [0u64; ITEM];
     let house = d.house;
     let mut sites = start_sites(house.sites, &mut base, &mut lists);
     let g = start_merger(house.sites, &mut queues);
+    start_copies(&mut held);
     let mut w = Waiting {
         ask: idle(d),
         merger: g,
@@ -125,7 +104,17 @@ fn rest(
     let mut left = u64::MAX;
     while left > 0 {
         left -= 1;
-        w = next_of_site(w, text, fd, store, &mut item, &mut queues, &mut out, page);
+        w = next_of_site(
+            w,
+            text,
+            fd,
+            store,
+            &mut item,
+            &mut queues,
+            &mut held,
+            &mut out,
+            page,
+        );
         let a = w.ask;
         let i = a.place;
         if SITES <= i {
@@ -133,7 +122,7 @@ fn rest(
         }
         let c = a.command;
         let s = sites[i];
-        let o = at_place(s, c, i, &mut base, &mut lists, &item, a.words, &mut out);
+        let o = at_site(s, c, i, &mut base, &mut lists, &item, a.words, &mut out);
         let t = o.site;
         sites[i] = t;
         let answer = o.answer;

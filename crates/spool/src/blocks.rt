@@ -24,7 +24,7 @@ pub fn slot_of(b: u64) -> usize
 
 // Where the words of block b lie, while it is in memory.
 pub fn place_of(b: u64) -> usize
-    ensures { λ r. ⌜ r + 256 ≤ 131826 ⌝ }
+    ensures { λ r. ⌜ r + 256 ≤ 131829 ⌝ }
 {
     CELLS + slot_of(b) * BLOCK
 }

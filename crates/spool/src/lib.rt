@@ -24,12 +24,13 @@ pub const LINK: usize = BLOCK - 1;
 // Blocks in memory. Block b lies in slot b mod SLOTS.
 pub const SLOTS: usize = 512;
 
-pub const QUEUES: usize = 80;
+pub const QUEUES: usize = 81;
 // Words of the longest item.
 pub const ITEM: usize = 1138;
 
 // The store's words: how many blocks were made; the first block that is free; for each queue the address of its first item, that
-// behind its last, and how many words are in it; for each slot its block; the slots. An address is block × BLOCK + position.
+// behind its last, and how many words are in it; for each slot its block; the slots. An address is block × BLOCK + position. A
+// cursor is a row too, of a reader that leaves a queue's items to others: its next item's address, and how many words it has read.
 pub const MADE: usize = 0;
 
 pub const FREE: usize = 1;
@@ -65,8 +66,8 @@ struct Run {
 
 // Where a word of a queue's row lies.
 fn row(queue: usize, word: usize) -> usize
-    requires { ⌜ (queue < 80) × (word < 3) ⌝ }
-    ensures { λ r. ⌜ r < 242 ⌝ }
+    requires { ⌜ (queue < 81) × (word < 3) ⌝ }
+    ensures { λ r. ⌜ r < 245 ⌝ }
 {
     TABLE + ROW * queue + word
 }
@@ -78,7 +79,7 @@ fn least(a: usize, b: usize) -> usize
 }
 
 fn copy_out(store: &[u64; STORE], from: usize, item: &mut [u64; ITEM], to: usize, n: usize)
-    requires { ⌜ (from + n ≤ 131826) × (to + n ≤ 1138) ⌝ }
+    requires { ⌜ (from + n ≤ 131829) × (to + n ≤ 1138) ⌝ }
 {
     let mut i: usize = 0;
     while i < n {
@@ -88,7 +89,7 @@ fn copy_out(store: &[u64; STORE], from: usize, item: &mut [u64; ITEM], to: usize
 }
 
 fn copy_in(words: &[u64], from: usize, store: &mut [u64; STORE], to: usize, n: usize)
-    requires { ⌜ (from + n ≤ length (now words)) × (to + n ≤ 131826) ⌝ }
+    requires { ⌜ (from + n ≤ length (now words)) × (to + n ≤ 131829) ⌝ }
 {
     let mut i: usize = 0;
     while i < n {
@@ -152,13 +153,43 @@ fn item_at(fd: i32, store: &mut [u64; STORE], at: u64, item: &mut [u64; ITEM]) -
 
 // Copies the first item of a queue to the start of `item`. It stays the first.
 pub fn front(fd: i32, store: &mut [u64; STORE], queue: usize, item: &mut [u64; ITEM]) -> First
-    requires { ⌜ queue < 80 ⌝ }
+    requires { ⌜ queue < 81 ⌝ }
 {
     if store[row(queue, WORDS)] == 0 {
         return First::Nothing;
     }
     let at = store[row(queue, HEAD)];
     item_at(fd, store, at, item)
+}
+
+// Copies the item of a queue that is next for a cursor. It stays the next.
+pub fn next(
+    fd: i32,
+    store: &mut [u64; STORE],
+    queue: usize,
+    cursor: usize,
+    item: &mut [u64; ITEM],
+) -> First
+    requires { ⌜ (queue < 81) × (cursor < 81) ⌝ }
+{
+    let read = store[row(cursor, WORDS)];
+    if store[row(queue, WORDS)] <= read {
+        return First::Nothing;
+    }
+    if read == 0 {
+        return front(fd, store, queue, item);
+    }
+    let at = store[row(cursor, HEAD)];
+    item_at(fd, store, at, item)
+}
+
+// Moves a cursor on past its next item, as `next` found it.
+pub fn step(store: &mut [u64; STORE], cursor: usize, n: usize, next: u64)
+    requires { ⌜ cursor < 81 ⌝ }
+{
+    let read = store[row(cursor, WORDS)];
+    store[row(cursor, HEAD)] = next;
+    store[row(cursor, WORDS)] = std::num::wrapping_add_u64(read, n as u64);
 }
 
 // Lets the blocks from b on go, up to block `last`.
@@ -178,7 +209,7 @@ fn release_to(fd: i32, store: &mut [u64; STORE], b: u64, last: u64) -> bool {
 
 // Takes the first item of a queue away, as `front` found it.
 pub fn drop_front(fd: i32, store: &mut [u64; STORE], queue: usize, n: usize, next: u64) -> bool
-    requires { ⌜ queue < 80 ⌝ }
+    requires { ⌜ queue < 81 ⌝ }
 {
     let words = store[row(queue, WORDS)];
     if words < n as u64 {
@@ -214,7 +245,7 @@ fn write_run(fd: i32, store: &mut [u64; STORE], r: Run, words: &[u64]) -> Run
 
 // Gives a queue its first block.
 fn first_block(fd: i32, store: &mut [u64; STORE], queue: usize) -> bool
-    requires { ⌜ queue < 80 ⌝ }
+    requires { ⌜ queue < 81 ⌝ }
 {
     if store[row(queue, TAIL)] != 0 {
         return true;
@@ -230,7 +261,7 @@ fn first_block(fd: i32, store: &mut [u64; STORE], queue: usize) -> bool
 
 // Puts an item at the end of a queue. False: the file fails.
 pub fn push(fd: i32, store: &mut [u64; STORE], queue: usize, words: &[u64]) -> bool
-    requires { ⌜ queue < 80 ⌝ }
+    requires { ⌜ queue < 81 ⌝ }
 {
     if !first_block(fd, store, queue) {
         return false;

@@ -7,10 +7,10 @@ use Rattle.house.proofs.run.rest.Statement.{statement}
 use Rattle.house.proofs.run.rest.Tie as tie
 
 abbrev Inv-loop : tie.InvT-loop
-Inv-loop fd text₀ store₀ page₀ base₀ lists₀ queues₀ out₀ item₀ sites₀ w₀ left₀ text store page base lists queues out item sites w left = (length base ≡ 16384) × (length lists ≡ 144384) × (length sites ≡ 8)
+Inv-loop fd text₀ store₀ page₀ base₀ lists₀ queues₀ held₀ out₀ item₀ sites₀ w₀ left₀ text store page base lists queues held out item sites w left = (length base ≡ 16384) × (length lists ≡ 144384) × (length held ≡ 16400) × (length sites ≡ 8)
 
 abbrev μ-loop : tie.MeasureT-loop
-μ-loop fd text₀ store₀ page₀ base₀ lists₀ queues₀ out₀ item₀ sites₀ w₀ left₀ text store page base lists queues out item sites w left = left
+μ-loop fd text₀ store₀ page₀ base₀ lists₀ queues₀ held₀ out₀ item₀ sites₀ w₀ left₀ text store page base lists queues held out item sites w left = left
 
 slice-aggregate-start-sites : tie.Need-slice-aggregate-start-sites Inv-loop μ-loop
 slice-aggregate-start-sites c = search needs
@@ -24,6 +24,12 @@ start-sites-requires c κs = search needs
 start-merger-requires : tie.Need-start-merger-requires Inv-loop μ-loop
 start-merger-requires c κs = search needs
 
+slice-aggregate-start-copies : tie.Need-slice-aggregate-start-copies Inv-loop μ-loop
+slice-aggregate-start-copies c = search needs
+
+start-copies-requires : tie.Need-start-copies-requires Inv-loop μ-loop
+start-copies-requires c κs = search needs
+
 idle-requires : tie.Need-idle-requires Inv-loop μ-loop
 idle-requires c κs = search needs
 
@@ -32,6 +38,9 @@ loop-holds c = search needs
 
 sub-left : tie.Need-sub-left Inv-loop μ-loop
 sub-left c = search needs
+
+slice-aggregate-next-of-site : tie.Need-slice-aggregate-next-of-site Inv-loop μ-loop
+slice-aggregate-next-of-site c = search needs
 
 next-of-site-requires : tie.Need-next-of-site-requires Inv-loop μ-loop
 next-of-site-requires c κs = search needs
@@ -42,14 +51,14 @@ mul-s c = search needs
 array-copy-out-s : tie.Need-array-copy-out-s Inv-loop μ-loop
 array-copy-out-s c = search needs
 
-slice-aggregate-at-place : tie.Need-slice-aggregate-at-place Inv-loop μ-loop
-slice-aggregate-at-place c = search needs
+slice-aggregate-at-site : tie.Need-slice-aggregate-at-site Inv-loop μ-loop
+slice-aggregate-at-site c = search needs
 
-slice-aggregate-at-place-2 : tie.Need-slice-aggregate-at-place-2 Inv-loop μ-loop
-slice-aggregate-at-place-2 c = search needs
+slice-aggregate-at-site-2 : tie.Need-slice-aggregate-at-site-2 Inv-loop μ-loop
+slice-aggregate-at-site-2 c = search needs
 
-at-place-requires : tie.Need-at-place-requires Inv-loop μ-loop
-at-place-requires c κs = search needs
+at-site-requires : tie.Need-at-site-requires Inv-loop μ-loop
+at-site-requires c κs = search needs
 
 mul-sites : tie.Need-mul-sites Inv-loop μ-loop
 mul-sites c = search needs
@@ -64,10 +73,10 @@ idle-requires-2 : tie.Need-idle-requires-2 Inv-loop μ-loop
 idle-requires-2 c κs = search needs
 
 loop-less : tie.Need-loop-less Inv-loop μ-loop
-loop-less c = omega (arith, c .before .before .before .before .before .before .before .before .before .before .before .before .before .before .before .before .before .before .before .before .before .before .before .before .loop-test .taken)
+loop-less c = omega (arith, c .before .before .before .before .before .before .before .before .before .before .before .before .before .before .before .before .before .before .before .before .before .before .before .before .before .before .loop-test .taken)
 
 loop-again : tie.Need-loop-again Inv-loop μ-loop
-loop-again c = (search needs, search needs, simp length-set (c .before .before .before .before .before .before .before .before .before .before .before .before .before .before .before .before .before .before .before .before .before .before .before .before .before .loop .inv .2))
+loop-again c = (search needs, search needs, simp (c .before .before .before .before .before .before .before .before .before .before .before .before .before .before .before .before .before .held4 .given, c .before .before .before .before .before .before .before .before .before .before .before .before .before .before .before .before .before .before .before .before .before .before .before .before .before .before .before .loop .inv .2), simp length-set (c .before .before .before .before .before .before .before .before .before .before .before .before .before .before .before .before .before .before .before .before .before .before .before .before .before .before .before .loop .inv .3))
 
 returns : tie.Need-returns Inv-loop μ-loop
 returns c = search needs
@@ -82,15 +91,18 @@ rest-spec =
     slice-aggregate-start-sites-2
     start-sites-requires
     start-merger-requires
+    slice-aggregate-start-copies
+    start-copies-requires
     idle-requires
     loop-holds
     sub-left
+    slice-aggregate-next-of-site
     next-of-site-requires
     mul-s
     array-copy-out-s
-    slice-aggregate-at-place
-    slice-aggregate-at-place-2
-    at-place-requires
+    slice-aggregate-at-site
+    slice-aggregate-at-site-2
+    at-site-requires
     mul-sites
     array-set-from-sites
     settled-requires

@@ -1,4 +1,5 @@
-// A line as a call of a site. A site is in a place, which is its number less 1.
+// A line as a call of a site, which is in a place: its number less 1.
+use desk::front;
 use kinds::Answer;
 use kinds::Out;
 use kinds::Site;
@@ -18,16 +19,8 @@ pub const BASES: usize = SITES * KEYS;
 
 pub const GATHERINGS: usize = SITES * LISTS;
 
-// The first n words.
-fn front(m: &[u64], n: usize) -> &[u64] {
-    if n < m.len() {
-        return &m[0..n];
-    }
-    m
-}
-
 // A call of the site in a place. The first n words of m are the message to take.
-pub fn at_place(
+pub fn at_site(
     s: Site,
     c: Command,
     place: usize,
@@ -65,7 +58,7 @@ pub fn at_place(
 }
 
 // A fresh site of a house of n.
-pub fn start_at(n: u64, place: usize, base: &mut [u64], lists: &mut [u64]) -> Site
+fn start_at(n: u64, place: usize, base: &mut [u64], lists: &mut [u64]) -> Site
     requires { ⌜ (place < 8) × (length (now base) ≡ 16384) × (length (now lists) ≡ 144384) ⌝ }
 {
     let a = place * KEYS;
@@ -78,4 +71,20 @@ pub fn start_at(n: u64, place: usize, base: &mut [u64], lists: &mut [u64]) -> Si
     );
     let s = o.site;
     s
+}
+
+// Every site of a house of n. A place that the house lacks holds what a refused start hands back; no line goes there.
+pub fn start_sites(n: u64, base: &mut [u64], lists: &mut [u64]) -> [Site; SITES]
+    requires { ⌜ (length (now base) ≡ 16384) × (length (now lists) ≡ 144384) ⌝ }
+    ensures { λ r. ⌜ length r ≡ 8 ⌝ }
+{
+    let first = start_at(n, 0, base, lists);
+    let mut sites = [first; SITES];
+    let mut i: usize = 1;
+    while i < SITES {
+        let s = start_at(n, i, base, lists);
+        sites[i] = s;
+        i += 1;
+    }
+    sites
 }

@@ -3,8 +3,8 @@ use Prim.Native.Nat.{_-_}
 use borrow.Author.Needs.{needs}
 use lib.ListN.{length}
 use mathlib.Core.Path.{_≡_}
-use Rattle.house.proofs.run.start_sites.Statement.{statement}
-use Rattle.house.proofs.run.start_sites.Tie as tie
+use Rattle.calls.proofs.start_sites.Statement.{statement}
+use Rattle.calls.proofs.start_sites.Tie as tie
 
 abbrev Inv-loop : tie.InvT-loop
 Inv-loop n base₀ lists₀ sites₀ i₀ base lists sites i = (length base ≡ 16384) × (length lists ≡ 144384) × (length sites ≡ 8)

@@ -1,68 +1,34 @@
-// The lines that no site takes part in: those of the merger and of the copies.
+// The lines that no site takes part in: those of the merger, and of the copies that its stream goes to.
+mod calls;
+
+pub use calls::HELD;
+use calls::at_copy;
+use calls::at_merger;
+pub use calls::start_copies;
+pub use calls::start_merger;
 use desk::Ask;
-use desk::answered;
+use desk::COPIES;
 use desk::next_ask;
-use desk::route::COPIES;
+use desk::route::FIRST_COPY;
 use desk::route::MERGER;
 use desk::settled;
-use kinds::Answer;
 use kinds::Merger;
-use kinds::MergerOut;
-use kinds::reason::MALFORMED;
 use kinds::sizes::OUTGOING;
 use kinds::sizes::QUEUES;
 use kinds::sizes::SITES;
-use lines::Command;
 use pages::PAGE;
 use script::LINE;
 use script::TEXT;
 use spool::ITEM;
 use spool::STORE;
+ghost use mathlib.Core.Path.{_≡_};
+ghost use Prim.Native.Nat.{_<_};
+ghost use lib.ListN.{length};
 
 // A line, and the merger after those before it.
 pub struct Waiting {
     pub ask: Ask,
     pub merger: Merger,
-}
-
-// A merger's call. The first n words of m are the record to queue.
-fn at_merger(
-    g: Merger,
-    c: Command,
-    queues: &mut [u64],
-    m: &[u64],
-    n: usize,
-    out: &mut [u64],
-) -> MergerOut {
-    if let Command::Emit = c {
-        return merger::emit(g, queues, out);
-    }
-    if m.len() < n {
-        return MergerOut {
-            answer: Answer::Refused(MALFORMED),
-            words: 0,
-            merger: g,
-        };
-    }
-    merger::merge(g, queues, &m[0..n])
-}
-
-// A house without copies refuses both lines. Here the next record of the stream goes to a copy,
-fn replay(_copy: u64) -> Answer {
-    Answer::Refused(MALFORMED)
-}
-
-// and here a copy is read.
-fn value(_copy: u64, _key: u64) -> Answer {
-    Answer::Refused(MALFORMED)
-}
-
-fn at_copy(c: Command) -> Answer {
-    match c {
-        Command::Replay(copy) => replay(copy),
-        Command::Value(copy, key) => value(copy, key),
-        _ => Answer::Refused(MALFORMED),
-    }
 }
 
 fn merged(
@@ -85,13 +51,33 @@ fn merged(
     Waiting { ask, merger: after }
 }
 
-fn copied(a: Ask, g: Merger, page: &mut [u8; PAGE]) -> Waiting {
+fn copied(
+    a: Ask,
+    g: Merger,
+    i: usize,
+    fd: i32,
+    store: &mut [u64; STORE],
+    item: &[u64; ITEM],
+    held: &mut [u64],
+    out: &[u64; OUTGOING],
+    page: &mut [u8; PAGE],
+) -> Waiting
+    requires { ⌜ (i < 8) × (length (now held) ≡ 16400) ⌝ }
+{
     let c = a.command;
-    let d = a.desk;
-    let e = answered(d, page, at_copy(c));
+    let answer = at_copy(c, i, held, item, a.words);
+    let d = settled(a, answer, 0, out, fd, store, page);
     let mut ask = a;
-    ask.desk = e;
+    ask.desk = d;
     Waiting { ask, merger: g }
+}
+
+// The copy in a place, less 1; COPIES or more where none is.
+fn copy_in(place: usize) -> usize {
+    if place < FIRST_COPY {
+        return COPIES;
+    }
+    place - FIRST_COPY
 }
 
 // Reads a line, and ends it where it is none of a site's.
@@ -102,9 +88,12 @@ fn turn(
     store: &mut [u64; STORE],
     item: &mut [u64; ITEM],
     queues: &mut [u64; QUEUES],
+    held: &mut [u64],
     out: &mut [u64; OUTGOING],
     page: &mut [u8; PAGE],
-) -> Waiting {
+) -> Waiting
+    requires { ⌜ length (now held) ≡ 16400 ⌝ }
+{
     let g = w.merger;
     let last = w.ask;
     let d = last.desk;
@@ -113,8 +102,9 @@ fn turn(
     if place == MERGER {
         return merged(a, g, fd, store, item, queues, out, page);
     }
-    if place == COPIES {
-        return copied(a, g, page);
+    let i = copy_in(place);
+    if i < COPIES {
+        return copied(a, g, i, fd, store, item, held, out, page);
     }
     Waiting { ask: a, merger: g }
 }
@@ -127,10 +117,13 @@ pub fn next_of_site(
     store: &mut [u64; STORE],
     item: &mut [u64; ITEM],
     queues: &mut [u64; QUEUES],
+    held: &mut [u64],
     out: &mut [u64; OUTGOING],
     page: &mut [u8; PAGE],
-) -> Waiting {
-    let mut v = turn(w, text, fd, store, item, queues, out, page);
+) -> Waiting
+    requires { ⌜ length (now held) ≡ 16400 ⌝ }
+{
+    let mut v = turn(w, text, fd, store, item, queues, held, out, page);
     let mut left = u64::MAX;
     while left > 0 {
         left -= 1;
@@ -142,7 +135,7 @@ pub fn next_of_site(
         if d.state != LINE {
             break;
         }
-        v = turn(v, text, fd, store, item, queues, out, page);
+        v = turn(v, text, fd, store, item, queues, held, out, page);
     }
     v
 }

@@ -1,0 +1,61 @@
+// A line as a call of the merger, or of a copy.
+use desk::COPIES;
+use desk::front;
+use kinds::Answer;
+use kinds::Merger;
+use kinds::MergerOut;
+use kinds::reason::MALFORMED;
+use kinds::sizes::COPY;
+use kinds::sizes::QUEUES;
+use lines::Command;
+ghost use mathlib.Core.Path.{_≡_};
+ghost use Prim.Native.Nat.{_<_};
+ghost use lib.ListN.{length};
+
+// Words of all copies, one behind the other.
+pub const HELD: usize = COPIES * COPY;
+
+pub fn start_merger(n: u64, queues: &mut [u64; QUEUES]) -> Merger {
+    let o = merger::start(n, queues);
+    let g = o.merger;
+    g
+}
+
+// A merger's call. The first n words of m are the record to queue.
+pub fn at_merger(
+    g: Merger,
+    c: Command,
+    queues: &mut [u64],
+    m: &[u64],
+    n: usize,
+    out: &mut [u64],
+) -> MergerOut {
+    match c {
+        Command::Emit => merger::emit(g, queues, out),
+        _ => merger::merge(g, queues, front(m, n)),
+    }
+}
+
+// Copies that have replayed nothing.
+pub fn start_copies(held: &mut [u64])
+    requires { ⌜ length (now held) ≡ 16400 ⌝ }
+{
+    let mut i: usize = 0;
+    while i < COPIES {
+        let at = i * COPY;
+        copy::start(&mut held[at..at + COPY]);
+        i += 1;
+    }
+}
+
+// A call of copy i, less 1. The first n words of m are the record to replay.
+pub fn at_copy(c: Command, i: usize, held: &mut [u64], m: &[u64], n: usize) -> Answer
+    requires { ⌜ (i < 8) × (length (now held) ≡ 16400) ⌝ }
+{
+    let at = i * COPY;
+    match c {
+        Command::Replay(_) => copy::replay(&mut held[at..at + COPY], front(m, n)),
+        Command::Value(_, key) => copy::value(&held[at..at + COPY], key),
+        _ => Answer::Refused(MALFORMED),
+    }
+}
