@@ -8,6 +8,7 @@ pub mod fuzz;
 pub mod house;
 pub mod merger;
 pub mod message;
+pub mod probe;
 pub mod random;
 pub mod record;
 pub mod script;

@@ -9,8 +9,10 @@ pub const PAGE: usize = 65536;
 
 const LONGEST: usize = 128;
 
-// A page with this much on it has room for a line.
+// A page with this much on it has room for a line, and for one with four numbers more.
 const FULL: usize = PAGE - LONGEST;
+
+const NEARLY: usize = PAGE - 2 * LONGEST;
 
 fn put(page: &mut [u8; PAGE], used: usize, b: &[u8]) -> usize
     requires { ⌜ used + length (now b) ≤ 65536 ⌝ }
@@ -163,6 +165,50 @@ pub fn say(page: &mut [u8; PAGE], used: usize, event: u64, a: Answer) -> Said {
     let ok = flush(page, used);
     Said {
         used: line(page, 0, event, a),
+        ok,
+    }
+}
+
+fn line_with(
+    page: &mut [u8; PAGE],
+    used: usize,
+    event: u64,
+    a: Answer,
+    b: u64,
+    c: u64,
+    d: u64,
+    e: u64,
+) -> usize
+    requires { ⌜ used + 256 ≤ 65536 ⌝ }
+{
+    let next = digits(page, used, event);
+    let told = outcome(page, next, a);
+    let more = put(page, told, b" ;");
+    let first = two_numbers(page, more, b, c);
+    let last = two_numbers(page, first, d, e);
+    put(page, last, b"\n")
+}
+
+// The same with four numbers behind the outcome.
+pub fn say_with(
+    page: &mut [u8; PAGE],
+    used: usize,
+    event: u64,
+    a: Answer,
+    b: u64,
+    c: u64,
+    d: u64,
+    e: u64,
+) -> Said {
+    if used <= NEARLY {
+        return Said {
+            used: line_with(page, used, event, a, b, c, d, e),
+            ok: true,
+        };
+    }
+    let ok = flush(page, used);
+    Said {
+        used: line_with(page, 0, event, a, b, c, d, e),
         ok,
     }
 }

@@ -22,10 +22,11 @@ pub struct Input {
     pub end: usize,
 }
 
-struct Reading {
-    found: u64,
-    input: Input,
-    scan: Scan,
+// What a reading has come to.
+pub struct Reading {
+    pub found: u64,
+    pub input: Input,
+    pub scan: Scan,
 }
 
 pub struct Line {
@@ -108,7 +109,8 @@ fn found_in(found: u64, s: Scan) -> u64 {
     END
 }
 
-pub fn next_line(text: &mut [u8; TEXT], input: Input) -> Line {
+// Reads a line: its scan, and what was found.
+pub fn next_scan(text: &mut [u8; TEXT], input: Input) -> Reading {
     let scan = lines::start();
     let mut r = Reading {
         found: GOING,
@@ -126,9 +128,20 @@ pub fn next_line(text: &mut [u8; TEXT], input: Input) -> Line {
     }
     let s = r.scan;
     let input = r.input;
+    Reading {
+        found: found_in(r.found, s),
+        input,
+        scan: s,
+    }
+}
+
+pub fn next_line(text: &mut [u8; TEXT], input: Input) -> Line {
+    let r = next_scan(text, input);
+    let s = r.scan;
+    let input = r.input;
     let command = lines::told(s);
     Line {
-        found: found_in(r.found, s),
+        found: r.found,
         input,
         command,
     }

@@ -1,7 +1,7 @@
 -- A count bounds the turns.
 use borrow.Author.Needs.{needs}
-use Rattle.script.proofs.next_line.Statement.{statement}
-use Rattle.script.proofs.next_line.Tie as tie
+use Rattle.script.proofs.next_scan.Statement.{statement}
+use Rattle.script.proofs.next_scan.Tie as tie
 
 abbrev Inv-loop : tie.InvT-loop
 Inv-loop text₀ r₀ left₀ text r left = Unit {0}
@@ -27,17 +27,14 @@ loop-less c = search needs
 loop-again : tie.Need-loop-again Inv-loop μ-loop
 loop-again c = search needs
 
-told-requires : tie.Need-told-requires Inv-loop μ-loop
-told-requires c κs = search needs
-
 found-in-requires : tie.Need-found-in-requires Inv-loop μ-loop
 found-in-requires c κs = search needs
 
 returns : tie.Need-returns Inv-loop μ-loop
 returns c = search needs
 
-pub next-line-spec : {M : Type 1} → statement M
-next-line-spec =
+pub next-scan-spec : {M : Type 1} → statement M
+next-scan-spec =
     tie.close
     (tie.spec
     Inv-loop
@@ -48,6 +45,5 @@ next-line-spec =
     sub-left
     loop-less
     loop-again
-    told-requires
     found-in-requires
     returns)

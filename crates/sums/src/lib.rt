@@ -1,0 +1,85 @@
+// Checksums of words and of states, below the prime 2^32 − 5.
+pub mod seen;
+pub mod whole;
+
+ghost use Prim.Native.Nat.{_<_};
+
+const PRIME: u64 = 4294967291;
+
+const FACTOR: u64 = 69069;
+
+const HALF: u64 = 4294967296;
+
+// The sum with one word more: its lower half, then its upper.
+pub fn more(h: u64, w: u64) -> u64
+    ensures { λ r. ⌜ r < 4294967291 ⌝ }
+{
+    let low = (h % PRIME * FACTOR + w % HALF) % PRIME;
+    (low * FACTOR + w / HALF) % PRIME
+}
+
+pub fn three_more(h: u64, a: u64, b: u64, c: u64) -> u64 {
+    more(more(more(h, a), b), c)
+}
+
+// A sum of sums, in any order.
+pub fn together(a: u64, b: u64) -> u64
+    ensures { λ r. ⌜ r < 4294967291 ⌝ }
+{
+    (a % PRIME + b % PRIME) % PRIME
+}
+
+pub fn of_words(h: u64, ws: &[u64]) -> u64 {
+    let mut sum = h;
+    let mut i: usize = 0;
+    while i < ws.len() {
+        sum = more(sum, ws[i]);
+        i += 1;
+    }
+    sum
+}
+
+fn wide(k: u16) -> u64 {
+    k as u64
+}
+
+pub fn of_keys(h: u64, ks: &[u16]) -> u64 {
+    let mut sum = h;
+    let mut i: usize = 0;
+    while i < ks.len() {
+        sum = more(sum, wide(ks[i]));
+        i += 1;
+    }
+    sum
+}
+
+// The first n keys as a set.
+pub fn of_set(ks: &[u16], n: usize) -> u64 {
+    let mut sum: u64 = 0;
+    let mut i: usize = 0;
+    while i < ks.len() {
+        if n <= i {
+            break;
+        }
+        sum = together(sum, more(1, wide(ks[i])));
+        i += 1;
+    }
+    sum
+}
+
+// The first n keys with their values as a set.
+pub fn of_writes(ks: &[u16], vs: &[u64], n: usize) -> u64 {
+    let mut sum: u64 = 0;
+    let mut i: usize = 0;
+    while i < ks.len() {
+        if n <= i {
+            break;
+        }
+        if vs.len() <= i {
+            break;
+        }
+        sum = together(sum, more(more(2, wide(ks[i])), vs[i]));
+        i += 1;
+    }
+    sum
+}

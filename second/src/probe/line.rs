@@ -1,0 +1,68 @@
+//! Lines of a probe: a verb and up to four numbers, or a remark.
+
+#[derive(Clone, PartialEq, Eq, Debug)]
+pub struct Line {
+    pub verb: String,
+    pub numbers: Vec<u64>,
+}
+
+/// Verbs, each with how many numbers follow it.
+const VERBS: [(&str, usize); 37] = [
+    ("house", 1),
+    ("room", 1),
+    ("base", 1),
+    ("lists", 1),
+    ("queues", 1),
+    ("copies", 1),
+    ("begin", 1),
+    ("enlist", 3),
+    ("read", 3),
+    ("write", 4),
+    ("commit", 2),
+    ("abandon", 2),
+    ("message", 1),
+    ("install", 1),
+    ("report", 1),
+    ("start", 3),
+    ("site", 3),
+    ("live", 4),
+    ("past", 4),
+    ("merge", 0),
+    ("emit", 0),
+    ("open", 1),
+    ("merger", 1),
+    ("source", 3),
+    ("queued", 3),
+    ("replay", 1),
+    ("value", 2),
+    ("blank", 1),
+    ("copied", 3),
+    ("letter", 3),
+    ("record", 2),
+    ("word", 2),
+    ("cut", 1),
+    ("head", 4),
+    ("entries", 4),
+    ("form", 4),
+    ("writes", 3),
+];
+
+/// `Ok(None)` for a remark: an empty line, or one that begins with `#`.
+pub fn parse(line: &str) -> Result<Option<Line>, String> {
+    if line.is_empty() || line.starts_with('#') {
+        return Ok(None);
+    }
+    let mut words = line.split(' ');
+    let verb = words.next().unwrap_or_default().to_string();
+    let numbers = words.map(number).collect::<Option<Vec<u64>>>().ok_or("not a number")?;
+    let known = VERBS.iter().any(|&(name, count)| name == verb && count == numbers.len());
+    if known {
+        Ok(Some(Line { verb, numbers }))
+    } else {
+        Err(format!("no such probe: {line}"))
+    }
+}
+
+fn number(word: &str) -> Option<u64> {
+    word.bytes().all(|byte| byte.is_ascii_digit()).then(|| word.parse().ok())?
+}

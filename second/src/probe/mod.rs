@@ -1,0 +1,321 @@
+//! Probes: one house of sites, a merger and two copies, each call with the words
+//! that it is lent, states poked to any number, and after each line checksums of
+//! what it left. The program `probe` over the proved store obeys the same lines.
+
+mod hand;
+mod handed;
+pub mod line;
+mod queued;
+pub mod random;
+pub mod sums;
+
+use std::fmt::Write;
+
+use crate::answer::{require, Decision, Refusal};
+use crate::copy::Copy;
+use crate::merger::Merger;
+use crate::site::Site;
+use crate::sizes::*;
+use crate::world::Answer;
+use hand::Hand;
+use handed::Handed;
+use line::Line;
+use queued::Queued;
+
+/// Words for the outgoing buffer, more than any call wants.
+const ROOM: u64 = 8_192;
+const COPIES: usize = 2;
+const COPY_WORDS: u64 = 2 + KEYS;
+const LISTS: u64 = (LIVE * ENTRY_WORDS * JOINED_ENTRIES) as u64;
+const QUEUES: u64 = (SITES * sums::SITE_QUEUE) as u64;
+
+/// Lengths lent.
+struct Lent {
+    room: u64,
+    base: u64,
+    lists: u64,
+    queues: u64,
+    copy: u64,
+}
+
+pub struct Probe {
+    sites: Vec<Handed>,
+    merger: Queued,
+    copies: Vec<Copy>,
+    hand: Hand,
+    lent: Lent,
+}
+
+/// What a call left: whether its state is the same, and the state's checksum.
+struct Done {
+    answer: Result<Answer, Refusal>,
+    /// Whether the site or copy is there to be called.
+    found: bool,
+    same: bool,
+    state: u64,
+}
+
+impl Probe {
+    pub fn new(sites: u64) -> Self {
+        let site = |own| Handed::new(Site::start(sites, own).expect("1 to 8 sites"));
+        Probe {
+            sites: (1..=sites).map(site).collect(),
+            merger: Queued::new(Merger::start(sites).expect("1 to 8 sites")),
+            copies: vec![Copy::start(); COPIES],
+            hand: Hand::new(),
+            lent: Lent {
+                room: SEND_BUFFER as u64,
+                base: KEYS,
+                lists: LISTS,
+                queues: QUEUES,
+                copy: COPY_WORDS,
+            },
+        }
+    }
+
+    /// Obeys a line and appends its output; an error where no probe is meant so.
+    pub fn obey(&mut self, event: u64, line: &Line, output: &mut String) -> Result<(), String> {
+        match line.verb.as_str() {
+            "house" if !is_site(line.numbers[0], SITES as u64) => {
+                return Err("a house has 1 to 8 sites".to_string());
+            }
+            "house" => *self = Probe::new(line.numbers[0]),
+            "room" | "base" | "lists" | "queues" | "copies" => self.lend(line),
+            "site" | "live" | "past" | "merger" | "source" | "queued" | "copied" => {
+                let answer = self.poke(line)?;
+                tell(output, event, &answer.map(|()| Answer::Done));
+                output.push('\n');
+            }
+            "letter" | "record" | "word" | "cut" | "head" | "entries" | "form" | "writes" => {
+                let found = self.hand.shape(line);
+                let words = self.hand.words();
+                let sum = sums::words(0, words);
+                // Writing to a String cannot fail.
+                let _ = match found {
+                    true => writeln!(output, "{event} ok {} {sum}", words.len()),
+                    false => writeln!(output, "{event} refused {}", Refusal::Nothing.number()),
+                };
+            }
+            _ => {
+                let (done, buffer) = self.called(line);
+                tell(output, event, &done.answer);
+                let words = done.answer.map_or(0, |answer| answer.words());
+                let same = u64::from(done.same);
+                let _ = writeln!(output, " ; {words} {buffer} {same} {}", done.state);
+            }
+        }
+        Ok(())
+    }
+
+    fn lend(&mut self, line: &Line) {
+        let length = line.numbers[0];
+        let (lent, most) = match line.verb.as_str() {
+            "room" => (&mut self.lent.room, ROOM),
+            "base" => (&mut self.lent.base, KEYS + 1),
+            "lists" => (&mut self.lent.lists, LISTS + 1),
+            "queues" => (&mut self.lent.queues, QUEUES + 1),
+            _ => (&mut self.lent.copy, COPY_WORDS + 1),
+        };
+        *lent = length.min(most);
+    }
+
+    fn poke(&mut self, line: &Line) -> Result<Result<(), Refusal>, String> {
+        match (line.verb.as_str(), line.numbers.as_slice()) {
+            ("merger", &[sites]) => self.merger.poke_sites(sites)?,
+            ("source", &[site, field, value]) => self.merger.poke_source(site, field, value)?,
+            ("queued", &[site, place, value]) => self.merger.poke_queue(site, place, value)?,
+            ("copied", &[copy, place, value]) => {
+                let Some(copy) = at(&mut self.copies, copy) else {
+                    return Ok(Err(Refusal::Impossible));
+                };
+                match place {
+                    0 => copy.last.number = value,
+                    1 => copy.last.coordinator = value,
+                    _ => copy.values[place as usize - 2] = value,
+                }
+            }
+            (verb, &[site, ref rest @ ..]) => {
+                let Some(site) = at(&mut self.sites, site) else {
+                    return Ok(Err(Refusal::Impossible));
+                };
+                match (verb, rest) {
+                    ("site", &[field, value]) => site.poke(field, value),
+                    ("live", &[transaction, field, value]) => {
+                        return Ok(site.poke_live(transaction, field, value));
+                    }
+                    ("past", &[count, field, value]) => {
+                        return Ok(site.poke_past(count, field, value));
+                    }
+                    _ => return Err("not a poke".to_string()),
+                }
+            }
+            _ => return Err("not a poke".to_string()),
+        }
+        Ok(Ok(()))
+    }
+
+    /// Makes a call, keeps what it wrote, and sums its outgoing buffer, if it has one.
+    fn called(&mut self, line: &Line) -> (Done, u64) {
+        let verb = line.verb.as_str();
+        let mut buffer: Vec<u64> = (0..self.lent.room).map(|place| sums::more(place, 9)).collect();
+        let done = match verb {
+            "merge" | "emit" | "open" => self.at_merger(line, &mut buffer),
+            "replay" | "value" | "blank" => self.at_copy(line),
+            _ => self.at_site(line, &mut buffer),
+        };
+        let words = done.answer.map_or(0, |answer| answer.words());
+        match verb {
+            "install" | "report" | "emit" => self.hand.keep_record(&buffer[..words]),
+            "enlist" | "commit" | "abandon" | "message" => {
+                self.hand.keep_letters(&buffer[..words]);
+            }
+            _ => return (done, 0),
+        }
+        let sum = if done.found { sums::words(0, &buffer) } else { 0 };
+        (done, sum)
+    }
+
+    fn at_site(&mut self, line: &Line, out: &mut [u64]) -> Done {
+        let Some(handed) = at(&mut self.sites, line.numbers[0]) else { return missing() };
+        let before = handed.clone();
+        let (base, lists) = (self.lent.base == KEYS, self.lent.lists == LISTS);
+        let answer = site_call(handed, line, self.hand.words(), base, lists, out);
+        let same = before == *handed;
+        let state = answer.map_or(0, |_| sums::site(&handed.site));
+        Done { answer, found: true, same, state }
+    }
+
+    fn at_merger(&mut self, line: &Line, out: &mut [u64]) -> Done {
+        let before = self.merger.clone();
+        let lent = self.lent.queues == QUEUES;
+        let answer = merger_call(&mut self.merger, line, self.hand.words(), lent, out);
+        let same = before == self.merger;
+        let state = answer.map_or(0, |_| sums::merger(&self.merger.merger));
+        Done { answer, found: true, same, state }
+    }
+
+    fn at_copy(&mut self, line: &Line) -> Done {
+        let Some(copy) = at(&mut self.copies, line.numbers[0]) else { return missing() };
+        let before = copy.clone();
+        let lent = self.lent.copy == COPY_WORDS;
+        let answer = require(lent, Refusal::Impossible).and_then(|()| match line.verb.as_str() {
+            "replay" => copy.replay(self.hand.words()).map(Answer::Replayed),
+            "value" => {
+                copy.value(line.numbers[1]).map(|(value, pair)| Answer::CopyValue(value, pair))
+            }
+            _ => {
+                *copy = Copy::start();
+                Ok(Answer::Done)
+            }
+        });
+        let same = before == *copy;
+        let state = answer.map_or(0, |_| sums::copy(copy));
+        Done { answer, found: true, same, state }
+    }
+}
+
+fn missing() -> Done {
+    Done { answer: Err(Refusal::Impossible), found: false, same: true, state: 0 }
+}
+
+/// Sites and copies count from 1.
+fn at<T>(list: &mut [T], number: u64) -> Option<&mut T> {
+    let place = usize::try_from(number).ok()?.checked_sub(1)?;
+    list.get_mut(place)
+}
+
+/// A short buffer goes before a state or a lent table past its size.
+fn site_call(
+    handed: &mut Handed,
+    line: &Line,
+    words: &[u64],
+    base: bool,
+    lists: bool,
+    out: &mut [u64],
+) -> Result<Answer, Refusal> {
+    let (wanted, lent) = match line.verb.as_str() {
+        "enlist" | "abandon" => (SEND_BUFFER, true),
+        "commit" | "message" => (SEND_BUFFER, lists),
+        "install" => (PART_BUFFER, base),
+        "report" => (PART_BUFFER, true),
+        "read" => (0, base),
+        "start" => (0, base && lists),
+        _ => (0, true),
+    };
+    require(out.len() >= wanted, Refusal::BufferTooShort)?;
+    require(lent, Refusal::Impossible)?;
+    if let ("start", &[_, sites, own]) = (line.verb.as_str(), line.numbers.as_slice()) {
+        *handed = Handed::new(Site::start(sites, own)?);
+        return Ok(Answer::Done);
+    }
+    require(handed.is_within_sizes(), Refusal::Impossible)?;
+    let site = &mut handed.site;
+    match (line.verb.as_str(), &line.numbers[1..]) {
+        ("begin", _) => site.begin().map(Answer::Begun),
+        ("enlist", &[transaction, target]) => {
+            site.enlist(transaction, target, out).map(Answer::Sent)
+        }
+        ("read", &[transaction, key]) => site.read(transaction, key).map(Answer::Value),
+        ("write", &[transaction, key, value]) => {
+            site.write(transaction, key, value).map(|()| Answer::Done)
+        }
+        ("commit", &[transaction]) => site.commit(transaction, out).map(Answer::Sent),
+        ("abandon", &[transaction]) => site.abandon(transaction, out).map(Answer::Sent),
+        ("message", _) => site.message(words, out).map(Answer::Sent),
+        ("install", _) => site.install(out).map(Answer::Installed),
+        _ => site.report(out).map(Answer::Reported),
+    }
+}
+
+fn merger_call(
+    queued: &mut Queued,
+    line: &Line,
+    words: &[u64],
+    lent: bool,
+    out: &mut [u64],
+) -> Result<Answer, Refusal> {
+    if line.verb == "emit" {
+        require(out.len() >= MERGED_BUFFER, Refusal::BufferTooShort)?;
+    }
+    require(lent, Refusal::Impossible)?;
+    if line.verb == "open" {
+        *queued = Queued::new(Merger::start(line.numbers[0])?);
+        return Ok(Answer::Done);
+    }
+    require(queued.is_within_sizes(), Refusal::Impossible)?;
+    match line.verb.as_str() {
+        "merge" => queued.merger.merge(words).map(|()| Answer::Done),
+        _ => queued.merger.emit(out).map(Answer::Emitted),
+    }
+}
+
+/// An outcome in words, without the end of its line.
+fn tell(output: &mut String, event: u64, answer: &Result<Answer, Refusal>) {
+    // Writing to a String cannot fail.
+    let _ = match answer {
+        Err(refusal) => write!(output, "{event} refused {}", refusal.number()),
+        Ok(answer) => write!(output, "{event} ok{}", results(answer)),
+    };
+}
+
+fn results(answer: &Answer) -> String {
+    match *answer {
+        Answer::Done => String::new(),
+        Answer::Begun(number) | Answer::Value(number) => format!(" {number}"),
+        Answer::Sent(sent) => match sent.decision {
+            None => String::new(),
+            Some(Decision::Commit(number)) => format!(" {number}"),
+            Some(Decision::Abort(reason)) => format!(" abort {reason}"),
+        },
+        Answer::Installed(done) => format!(" {} {}", done.pair.number, done.pair.coordinator),
+        Answer::Reported(report) => format!(" {}", report.state),
+        Answer::Emitted(emitted) => {
+            let pair = emitted.pair;
+            format!(" {} {} {}", pair.number, pair.coordinator, emitted.transaction)
+        }
+        Answer::Replayed(pair) => format!(" {} {}", pair.number, pair.coordinator),
+        Answer::CopyValue(value, pair) => {
+            format!(" {value} {} {}", pair.number, pair.coordinator)
+        }
+    }
+}

@@ -1,0 +1,304 @@
+//! Random probes: calls in turn and out of turn, words forged, buffers shortened,
+//! counters near their ends, states past the sizes. The house is run beside, so
+//! that the lines lead into deep states.
+
+use std::fmt::Write;
+
+use super::line::parse;
+use super::{sums, Probe};
+use crate::random::Random;
+use crate::sizes::*;
+
+//                         begin enl read wri com ab take inst rep merge emit repl val room ends past
+const SPANNING: [u64; 16] = [8, 10, 8, 14, 12, 1, 70, 18, 4, 14, 8, 8, 2, 2, 1, 2];
+/// Few messages, many installs: history is forgotten.
+const LONE: [u64; 16] = [30, 3, 8, 14, 40, 0, 30, 40, 2, 16, 12, 6, 1, 1, 1, 2];
+
+struct Maker {
+    random: Random,
+    probe: Probe,
+    text: String,
+    lines: u64,
+    keys: u64,
+    lone: bool,
+    /// Percent of messages that are changed before they are handed in.
+    forged: u64,
+    /// Percent of messages that come in turn.
+    order: u64,
+    merged: Vec<u64>,
+    replayed: Vec<u64>,
+}
+
+/// The probe of a seed, of about so many lines.
+pub fn probe(seed: u64, lines: u64) -> String {
+    let mut random = Random::new(seed);
+    let sites = random.between(1, SITES as u64);
+    let mut maker = Maker {
+        probe: Probe::new(sites),
+        text: format!("# Seed {seed}.\nhouse {sites}\n"),
+        lines: 2,
+        keys: [2, 5, 40, SITE_KEYS][random.below(4) as usize],
+        lone: random.chance(25),
+        forged: [0, 2, 10][random.below(3) as usize],
+        order: [60, 90, 98][random.below(3) as usize],
+        merged: vec![0; sites as usize],
+        replayed: vec![0; super::COPIES],
+        random,
+    };
+    if maker.random.chance(30) {
+        maker.near_the_ends();
+    }
+    while maker.lines < lines {
+        maker.step();
+    }
+    maker.text
+}
+
+impl Maker {
+    /// Writes a line, obeys it, and says whether it was accepted.
+    fn say(&mut self, text: String) -> bool {
+        let line = parse(&text).expect("a probe").expect("no remark");
+        let mut output = String::new();
+        self.lines += 1;
+        self.probe.obey(self.lines, &line, &mut output).expect("a probe that is meant so");
+        // Writing to a String cannot fail.
+        let _ = writeln!(self.text, "{text}");
+        output.split(' ').nth(1).is_some_and(|word| word.starts_with("ok"))
+    }
+
+    fn sites(&self) -> u64 {
+        self.probe.sites.len() as u64
+    }
+
+    fn step(&mut self) {
+        let (site, transaction) = self.any_part();
+        match self.random.weighted(if self.lone { &LONE } else { &SPANNING }) {
+            0 => {
+                let site = self.any_site();
+                self.say(format!("begin {site}"));
+            }
+            1 => {
+                let target = self.any_site();
+                self.say(format!("enlist {site} {transaction} {target}"));
+            }
+            2 => {
+                let key = self.any_key(site);
+                self.say(format!("read {site} {transaction} {key}"));
+            }
+            3 => {
+                let (key, value) = (self.any_key(site), self.random.word());
+                self.say(format!("write {site} {transaction} {key} {value}"));
+            }
+            4 => drop(self.say(format!("commit {site} {transaction}"))),
+            5 => drop(self.say(format!("abandon {site} {transaction}"))),
+            6 => self.message(),
+            7 => drop(self.say(format!("install {site}"))),
+            8 => drop(self.say(format!("report {site}"))),
+            9 => self.merge(),
+            10 => drop(self.say("emit".to_string())),
+            11 => self.replay(),
+            12 => {
+                let (copy, key) = (self.random.between(0, 3), self.random.below(KEYS + 2));
+                self.say(format!("value {copy} {key}"));
+            }
+            13 => self.room(),
+            14 => self.near_the_end(site),
+            _ => self.past_the_sizes(site),
+        }
+    }
+
+    fn any_site(&mut self) -> u64 {
+        match self.random.below(60) {
+            0 => self.random.between(0, 9),
+            _ => self.random.between(1, self.sites()),
+        }
+    }
+
+    /// A live part with its site; now and then at a wrong site, or none.
+    fn any_part(&mut self) -> (u64, u64) {
+        let site = self.any_site();
+        let sites = self.probe.sites.iter();
+        let live: Vec<(u64, u64)> = sites
+            .flat_map(|one| one.site.live.iter().map(|part| (one.site.own, part.transaction)))
+            .collect();
+        let strange = transaction_number(site, self.random.below(4));
+        let (own, transaction) = self.random.pick(&live).unwrap_or((site, strange));
+        match self.random.below(40) {
+            0 => (site, strange),
+            1 => (site, transaction),
+            _ => (own, transaction),
+        }
+    }
+
+    fn any_key(&mut self, site: u64) -> u64 {
+        match self.random.below(30) {
+            0 => self.random.word(),
+            1 => self.random.below(KEYS + 1),
+            _ => site.saturating_sub(1) * SITE_KEYS + self.random.below(self.keys),
+        }
+    }
+
+    fn message(&mut self) {
+        let letters = self.probe.hand.letters();
+        let next: Vec<[u64; 3]> = (letters.iter())
+            .filter(|words| {
+                let taken = self.probe.sites[words[3] as usize - 1].site.taken;
+                taken[words[2] as usize - 1].checked_add(1) == Some(words[4])
+            })
+            .map(|words| [words[2], words[3], words[4]])
+            .collect();
+        let all: Vec<[u64; 3]> =
+            letters.iter().map(|words| [words[2], words[3], words[4]]).collect();
+        let in_turn = self.random.chance(self.order);
+        let Some([from, to, number]) = self.random.pick(if in_turn { &next } else { &all }) else {
+            return;
+        };
+        if !self.say(format!("letter {from} {to} {number}")) {
+            return;
+        }
+        if self.random.chance(self.forged) {
+            self.forge();
+        }
+        let to = if self.random.chance(2) { self.any_site() } else { to };
+        self.say(format!("message {to}"));
+    }
+
+    /// Changes one to three of the words in hand, or their number.
+    fn forge(&mut self) {
+        let words = self.probe.hand.words().to_vec();
+        for _ in 0..self.random.between(1, 3) {
+            let place = self.random.below(words.len().min(30) as u64);
+            let word = words[place as usize];
+            let value = match self.random.below(6) {
+                0 => self.random.word(),
+                1 => u64::MAX,
+                2 => word.wrapping_add(1),
+                3 => word.wrapping_sub(1),
+                4 => word ^ (1 << self.random.below(64)),
+                _ => self.random.below(20),
+            };
+            self.say(format!("word {place} {value}"));
+        }
+        if self.random.chance(10) {
+            let length = self.random.below(words.len() as u64 + 4);
+            self.say(format!("cut {length}"));
+        }
+    }
+
+    /// A log's next record, or one from before.
+    fn merge(&mut self) {
+        let site = self.random.between(1, self.sites());
+        let taken = self.merged[site as usize - 1];
+        let again = self.random.chance(15);
+        let count = if again { self.random.below(taken + 1) + 1 } else { taken + 1 };
+        if !self.say(format!("record {site} {count}")) {
+            return;
+        }
+        if self.random.chance(self.forged) {
+            self.forge();
+        }
+        if self.say("merge".to_string()) && count == taken + 1 {
+            self.merged[site as usize - 1] += 1;
+        }
+    }
+
+    fn replay(&mut self) {
+        let copy = self.random.between(1, super::COPIES as u64);
+        let taken = self.replayed[copy as usize - 1];
+        let again = self.random.chance(15);
+        let count = if again { self.random.below(taken + 1) + 1 } else { taken + 1 };
+        if !self.say(format!("record 0 {count}")) {
+            return;
+        }
+        if self.random.chance(self.forged) {
+            self.forge();
+        }
+        if self.say(format!("replay {copy}")) && count == taken + 1 {
+            self.replayed[copy as usize - 1] += 1;
+        }
+    }
+
+    /// A buffer around a length that some call asks for, for one call.
+    fn room(&mut self) {
+        let asked = [PART_BUFFER, MERGED_BUFFER, SEND_BUFFER][self.random.below(3) as usize];
+        let length = asked as u64 + self.random.below(3) - 1;
+        self.say(format!("room {length}"));
+        let (site, transaction) = self.any_part();
+        match self.random.below(6) {
+            0 => self.say(format!("commit {site} {transaction}")),
+            1 => self.say(format!("abandon {site} {transaction}")),
+            2 => self.say(format!("message {site}")),
+            3 => self.say(format!("install {site}")),
+            4 => self.say(format!("report {site}")),
+            _ => self.say("emit".to_string()),
+        };
+        self.say(format!("room {SEND_BUFFER}"));
+    }
+
+    fn near_the_ends(&mut self) {
+        for site in 1..=self.sites() {
+            for _ in 0..2 {
+                self.near_the_end(site);
+            }
+            // Before anything began: a snapshot is never above the installs.
+            if self.random.chance(30) {
+                let left = self.random.below(12);
+                self.say(format!("site {site} 4 {}", u64::MAX - left));
+            }
+        }
+    }
+
+    /// A clock, a serial or a channel of which little is left.
+    fn near_the_end(&mut self, site: u64) {
+        if !is_site(site, self.sites()) {
+            return;
+        }
+        let other = self.random.between(1, self.sites());
+        let left = self.random.below(12);
+        match self.random.below(4) {
+            0 => drop(self.say(format!("site {site} 2 {}", u64::MAX - left))),
+            // A serial is given once.
+            1 if self.probe.sites[site as usize - 1].site.serial < LAST_SERIAL - left => {
+                self.say(format!("site {site} 3 {}", LAST_SERIAL - left));
+            }
+            2 | 3 if other != site => {
+                self.say(format!("site {site} {} {}", 10 + other, u64::MAX - left));
+                self.say(format!("site {other} {} {}", 20 + site, u64::MAX - left));
+            }
+            _ => {}
+        }
+    }
+
+    /// A state past the sizes, some calls, and the state as it was.
+    fn past_the_sizes(&mut self, site: u64) {
+        if !is_site(site, self.sites()) {
+            return;
+        }
+        let state = &self.probe.sites[site as usize - 1].site;
+        let part = self.random.pick(&state.live);
+        let (poke, restore) = match (self.random.below(6), part) {
+            (0, _) => (format!("site {site} 0 9"), format!("site {site} 0 {}", state.sites)),
+            (1, _) => (format!("site {site} 1 0"), format!("site {site} 1 {}", state.own)),
+            (2, _) => {
+                (format!("site {site} 3 {}", 1u64 << 32), format!("site {site} 3 {}", state.serial))
+            }
+            (field, Some(part)) => {
+                let (field, past, now) = match field {
+                    3 => (2, 6, sums::course(&part, state.own).0),
+                    4 => (8, 17, part.footprint.reads.len() as u64),
+                    _ => (9, 17, part.footprint.writes.len() as u64),
+                };
+                let poke = format!("live {site} {} {field}", part.transaction);
+                (format!("{poke} {past}"), format!("{poke} {now}"))
+            }
+            _ => return,
+        };
+        self.say(poke);
+        let (_, transaction) = self.any_part();
+        self.say(format!("begin {site}"));
+        self.say(format!("commit {site} {transaction}"));
+        self.say(format!("install {site}"));
+        self.say(format!("message {site}"));
+        self.say(restore);
+    }
+}

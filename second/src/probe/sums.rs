@@ -1,0 +1,104 @@
+//! Checksums of words and of states, below the prime 2^32 − 5. A state's is over
+//! what the rules fix: parts and history as sets, nothing that a stage does not use.
+
+use crate::copy::Copy;
+use crate::merger::Merger;
+use crate::record::{self, Save};
+use crate::site::{Footprint, Installed, Part, Site, Stage};
+use crate::sizes::*;
+
+const PRIME: u64 = 4_294_967_291;
+const FACTOR: u64 = 69_069;
+
+/// Words of one site's queue at the merger, a place for each part.
+pub const SITE_QUEUE: usize = QUEUED_PARTS * PART_BUFFER;
+
+pub fn more(sum: u64, word: u64) -> u64 {
+    let low = (sum % PRIME * FACTOR + word % (1 << 32)) % PRIME;
+    (low * FACTOR + (word >> 32)) % PRIME
+}
+
+pub fn words(sum: u64, words: &[u64]) -> u64 {
+    words.iter().fold(sum, |sum, &word| more(sum, word))
+}
+
+fn together(sums: impl Iterator<Item = u64>) -> u64 {
+    sums.fold(0, |sum, one| (sum + one) % PRIME)
+}
+
+fn keys(sum: u64, own: u64, footprint: &Footprint) -> u64 {
+    let first = (own - 1) * SITE_KEYS;
+    let reads = (first..first + SITE_KEYS).filter(|&key| footprint.reads.contains(key));
+    let read = together(reads.map(|key| more(1, key)));
+    let wrote = together(footprint.values.iter().map(|&(key, value)| more(more(2, key), value)));
+    more(more(sum, read), wrote)
+}
+
+/// A part's stage by number, its mark or commit number, the sites heard in this
+/// round, and 12 once a JOINED said so.
+pub fn course(part: &Part, own: u64) -> (u64, u64, u64, u64) {
+    let coordinates = coordinator_of(part.transaction) == own;
+    let others = part.participants & !site_bit(own);
+    let heard = |awaited: u64| if coordinates { others & !awaited } else { 0 };
+    match part.stage {
+        Stage::Active { joining, full } => {
+            (1, 0, heard(joining), if coordinates && full { 12 } else { 0 })
+        }
+        Stage::Gathering { awaited, .. } => (2, 0, heard(awaited), 0),
+        Stage::Listed => (2, 0, 0, 0),
+        Stage::Open { mark, awaited } => (3, mark, heard(awaited), 0),
+        Stage::Decided { number } => (4, number, 0, 0),
+        Stage::VotedNo => (5, 0, 0, 0),
+    }
+}
+
+fn part(part: &Part, own: u64) -> u64 {
+    let (stage, number, heard, reason) = course(part, own);
+    let joined = part.is_active() && coordinator_of(part.transaction) != own;
+    let mask = if joined { 0 } else { part.participants };
+    let fields = [part.transaction, part.snapshot, stage, mask, number, heard, reason];
+    keys(words(3, &fields), own, &part.footprint)
+}
+
+fn installed(past: &Installed, own: u64) -> u64 {
+    let fields = [past.install, past.transaction, past.participants];
+    keys(words(4, &fields), own, &past.footprint)
+}
+
+pub fn site(site: &Site) -> u64 {
+    let counts = [site.own, site.clock, site.serial, site.installs];
+    let sum = words(words(words(site.sites, &counts), &site.sent), &site.taken);
+    let live = together(site.live.iter().map(|one| part(one, site.own)));
+    let past = together(site.history.iter().map(|one| installed(one, site.own)));
+    let mut base = vec![0; KEYS as usize];
+    let first = ((site.own - 1) * SITE_KEYS) as usize;
+    base[first..first + SITE_KEYS as usize].copy_from_slice(&site.base);
+    words(more(more(sum, live), past), &base)
+}
+
+/// The words of a site's queue, unused ones 0.
+pub fn queue_words<'a>(site: u64, queue: impl Iterator<Item = &'a Save>) -> Vec<u64> {
+    let mut place_words = vec![0; SITE_QUEUE];
+    for (place, save) in place_words.chunks_exact_mut(PART_BUFFER).zip(queue) {
+        record::write_save(place, record::PART, site, save);
+    }
+    place_words
+}
+
+/// One word more than the queues have is there to be lent.
+pub fn merger(merger: &Merger) -> u64 {
+    let mut sum = merger.logs.len() as u64;
+    let mut queues = Vec::with_capacity(SITES * SITE_QUEUE + 1);
+    for place in 0..SITES {
+        let log = merger.logs.get(place).cloned().unwrap_or_default();
+        let queued = log.queue.len() as u64;
+        sum = words(sum, &[log.state, log.last.number, log.last.coordinator, queued]);
+        queues.extend(queue_words(place as u64 + 1, log.queue.iter()));
+    }
+    queues.push(0);
+    words(sum, &queues)
+}
+
+pub fn copy(copy: &Copy) -> u64 {
+    words(words(0, &[copy.last.number, copy.last.coordinator]), &copy.values)
+}
