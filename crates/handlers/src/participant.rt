@@ -49,7 +49,7 @@ pub fn take_join(s: Site, h: MessageHead, place: usize, out: &mut [u64]) -> Out
         return refused(s, code);
     }
     let t = join_turn(s, h);
-    let live = s.live;
+    let mut live = s.live;
     let free = live::free_place(live);
     let none = [0u64; 0];
     if LIVE <= free {
@@ -57,7 +57,21 @@ pub fn take_join(s: Site, h: MessageHead, place: usize, out: &mut [u64]) -> Out
         return spoken(s, a);
     }
     let a = course::send::send_to(t, JOINED, h.from, 0, 0, &none, out);
-    settled(s, free, a)
+    let answer = a.answer;
+    let u = a.turn;
+    let c = u.counters;
+    let d = u.channels;
+    let b = u.sub;
+    live[free] = b;
+    let mut v = s;
+    v.counters = c;
+    v.channels = d;
+    v.live = live;
+    Out {
+        answer,
+        words: a.words,
+        site: v,
+    }
 }
 
 // Its list, or a vote of 19.

@@ -1,4 +1,5 @@
-// The keys that a part read and wrote, and dependence of two parts.
+// The keys that a part read and wrote, and dependence of two parts. A list of keys is copied before it is lent: 32 bytes, where lending
+// a field copies all 208 of the part's keys.
 pub mod order;
 
 use kinds::House;
@@ -41,7 +42,8 @@ pub fn wrote_key(b: Keys, k: Key) -> bool
     ensures { λ r. ⌜ r ≡ wroteKey b k ⌝ }
 {
     let n = b.wrote;
-    let place = key_place(&b.writes, n, k);
+    let writes = b.writes;
+    let place = key_place(&writes, n, k);
     place < n
 }
 
@@ -50,7 +52,8 @@ pub fn read_key(b: Keys, k: Key) -> bool
     ensures { λ r. ⌜ r ≡ readKey b k ⌝ }
 {
     let n = b.read;
-    let place = key_place(&b.reads, n, k);
+    let reads = b.reads;
+    let place = key_place(&reads, n, k);
     place < n
 }
 
@@ -160,8 +163,10 @@ pub fn keys_ok(o: House, own: u64, b: Keys) -> bool
     if WRITES < wrote {
         return false;
     }
-    if !keys_at(o, own, &b.reads, read) {
+    let reads = b.reads;
+    let writes = b.writes;
+    if !keys_at(o, own, &reads, read) {
         return false;
     }
-    keys_at(o, own, &b.writes, wrote)
+    keys_at(o, own, &writes, wrote)
 }

@@ -9,7 +9,7 @@ use Rattle.rules.specs.Course.{channelSpent}
 use Rattle.rules.specs.CourseLaws.{no-entries}
 use Rattle.rules.specs.Deliver.{joinAt, joinTurn, spoken, spokenOf, takeJoin}
 use Rattle.rules.specs.DeliverLaws.{unless-past}
-use Rattle.rules.specs.Effect.{outOf, settledOf, takenOf}
+use Rattle.rules.specs.Effect.{outOf, settle, takenOf}
 use Rattle.rules.specs.Live.{freePlace}
 use Rattle.kinds.specs.Sizes as sizes
 use Rattle.handlers.proofs.participant.take_join.Statement.{statement}
@@ -66,18 +66,21 @@ send-to-requires-2 c κs = let a = c .before .before .before .before .before .be
     let r = reply-clear _ _ (sym (c .before .before .before .before .before .before .before .reply-code .ensures) ∙ c .before .before .before .before .before .before .if1 .left) in
     (rw (c .before .before .before .before .before .join-turn .ensures) (record { long = c .before .before .before .before .before .before .before .before .before .before .pre .1; first = a .first; last = a .last; low = leb-false sizes.last _ (sym (c .before .before .before .before .before .before .before .before .channel-spent .ensures) ∙ r .low) }), no-entries)
 
-settled-requires : tie.Need-settled-requires
-settled-requires c κs = search needs
+mul-live : tie.Need-mul-live
+mul-live c = search needs
+
+array-set-from-live : tie.Need-array-set-from-live
+array-set-from-live c = search needs
 
 same-length-2 : tie.Need-same-length-2
 same-length-2 c = search needs
 
 returns-3 : tie.Need-returns-3
-unfolding outOf takeJoin joinAt settledOf takenOf
-returns-3 c = let code = rw (c .before .before .before .before .before .before .before .before .before .before .before .before .channel-spent .ensures) at (c .before .before .before .before .before .before .before .before .before .before .before .reply-code .ensures) in
-    let f = lt-ltb (freePlace (c .before .before .before .before .before .before .before .before .before .before .before .before .before .before .args .s .live)) sizes.live (rw (c .before .before .before .before .before .before .before .free-place .ensures) at (c .before .before .before .before .before .before .if2 .left)) in
-    let e = unless-past _ (c .before .before .before .before .before .before .before .before .before .before .before .before .before .before .args .s) [] (joinAt (c .before .before .before .before .before .before .before .before .before .before .before .before .before .before .args .s) (c .before .before .before .before .before .before .before .before .before .before .before .before .before .before .args .h) (freePlace (c .before .before .before .before .before .before .before .before .before .before .before .before .before .before .args .s .live))) (sym code ∙ c .before .before .before .before .before .before .before .before .before .before .if1 .left) in
-    (rw (e, f, c .settled .ensures, c .before .before .before .send-to2 .ensures .0, c .before .before .before .before .before .before .before .before .before .join-turn .ensures, c .before .before .before .before .before .before .before .free-place .ensures), rw (e, f, c .before .before .before .send-to2 .ensures .1, c .before .before .before .before .before .before .before .before .before .join-turn .ensures))
+unfolding outOf takeJoin joinAt settle takenOf
+returns-3 c = let code = rw (c .before .before .before .before .before .before .before .before .before .before .before .before .before .before .before .channel-spent .ensures) at (c .before .before .before .before .before .before .before .before .before .before .before .before .before .before .reply-code .ensures) in
+    let f = lt-ltb (freePlace (c .before .before .before .before .before .before .before .before .before .before .before .before .before .before .before .before .before .args .s .live)) sizes.live (rw (c .before .before .before .before .before .before .before .before .before .before .free-place .ensures) at (c .before .before .before .before .before .before .before .before .before .if2 .left)) in
+    let e = unless-past _ (c .before .before .before .before .before .before .before .before .before .before .before .before .before .before .before .before .before .args .s) [] (joinAt (c .before .before .before .before .before .before .before .before .before .before .before .before .before .before .before .before .before .args .s) (c .before .before .before .before .before .before .before .before .before .before .before .before .before .before .before .before .before .args .h) (freePlace (c .before .before .before .before .before .before .before .before .before .before .before .before .before .before .before .before .before .args .s .live))) (sym code ∙ c .before .before .before .before .before .before .before .before .before .before .before .before .before .if1 .left) in
+    (rw (e, f, c .before .before .before .before .before .before .send-to2 .ensures .0, c .before .before .before .before .before .before .before .before .before .before .before .before .join-turn .ensures, c .before .before .before .before .before .before .before .before .before .before .free-place .ensures), rw (e, f, c .before .before .before .before .before .before .send-to2 .ensures .1, c .before .before .before .before .before .before .before .before .before .before .before .before .join-turn .ensures))
 
 pub take-join-spec : {M : Type 1} → statement M
 take-join-spec =
@@ -96,6 +99,7 @@ take-join-spec =
     returns-2
     slice-aggregate-send-to-2
     send-to-requires-2
-    settled-requires
+    mul-live
+    array-set-from-live
     same-length-2
     returns-3)
