@@ -1,4 +1,5 @@
 // A line as a call of a site, which is in a place: its number less 1.
+use deliver::message::message;
 use desk::front;
 use kinds::Answer;
 use kinds::Out;
@@ -19,15 +20,13 @@ pub const BASES: usize = SITES * KEYS;
 
 pub const GATHERINGS: usize = SITES * LISTS;
 
-// A call of the site in a place. The first n words of m are the message to take.
+// A call of the site in a place, but for `take`.
 pub fn at_site(
     s: Site,
     c: Command,
     place: usize,
     base: &mut [u64],
     lists: &mut [u64],
-    m: &[u64; ITEM],
-    n: usize,
     out: &mut [u64; OUTGOING],
 ) -> Out
     requires { ⌜ (place < 8) × (length (now base) ≡ 16384) × (length (now lists) ≡ 144384) ⌝ }
@@ -41,12 +40,6 @@ pub fn at_site(
         Command::Write(_, tx, key, value) => site::access::write(s, tx, key, value),
         Command::Commit(tx) => saves::commit::commit(s, tx, &mut lists[b..b + LISTS], out),
         Command::Abandon(tx) => saves::abandon::abandon(s, tx, out),
-        Command::Take(_, _) => deliver::message::message(
-            s,
-            front(m, n),
-            &mut lists[b..b + LISTS],
-            out,
-        ),
         Command::Install(_) => installs::install(s, &mut base[a..a + KEYS], out),
         Command::Report(_) => installs::report(s, out),
         _ => Out {
@@ -55,6 +48,21 @@ pub fn at_site(
             site: s,
         },
     }
+}
+
+// The site in a place takes the message that is the first n words of m.
+pub fn take_at(
+    s: Site,
+    place: usize,
+    lists: &mut [u64],
+    m: &[u64; ITEM],
+    n: usize,
+    out: &mut [u64; OUTGOING],
+) -> Out
+    requires { ⌜ (place < 8) × (length (now lists) ≡ 144384) ⌝ }
+{
+    let b = place * LISTS;
+    message(s, front(m, n), &mut lists[b..b + LISTS], out)
 }
 
 // A fresh site of a house of n.

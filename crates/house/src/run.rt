@@ -3,6 +3,7 @@ use calls::BASES;
 use calls::GATHERINGS;
 use calls::at_site;
 use calls::start_sites;
+use calls::take_at;
 use desk::Desk;
 use desk::answered;
 use desk::ended;
@@ -121,8 +122,11 @@ fn rest(
             break;
         }
         let c = a.command;
-        let s = sites[i];
-        let o = at_site(s, c, i, &mut base, &mut lists, &item, a.words, &mut out);
+        let o = if let Command::Take(_, _) = c {
+            take_at(sites[i], i, &mut lists, &item, a.words, &mut out)
+        } else {
+            at_site(sites[i], c, i, &mut base, &mut lists, &mut out)
+        };
         let t = o.site;
         sites[i] = t;
         let answer = o.answer;

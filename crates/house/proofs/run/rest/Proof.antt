@@ -1,7 +1,8 @@
 -- A count bounds the turns; the tables keep their lengths.
 use borrow.Author.Needs.{needs}
 use lib.ListN.{length, length-set}
-use mathlib.Core.Path.{_≡_}
+use mathlib.Core.Logic.{⊎-elim}
+use mathlib.Core.Path.{_≡_, _∙_}
 use native.Mathlib.Omega.{arith}
 use Rattle.house.proofs.run.rest.Statement.{statement}
 use Rattle.house.proofs.run.rest.Tie as tie
@@ -45,11 +46,26 @@ slice-aggregate-next-of-site c = search needs
 next-of-site-requires : tie.Need-next-of-site-requires Inv-loop μ-loop
 next-of-site-requires c κs = search needs
 
-mul-s : tie.Need-mul-s Inv-loop μ-loop
-mul-s c = search needs
+enum-told : tie.Need-enum-told Inv-loop μ-loop
+enum-told c = search needs
 
-array-copy-out-s : tie.Need-array-copy-out-s Inv-loop μ-loop
-array-copy-out-s c = search needs
+mul-take-at : tie.Need-mul-take-at Inv-loop μ-loop
+mul-take-at c = search needs
+
+array-copy-out-take-at : tie.Need-array-copy-out-take-at Inv-loop μ-loop
+array-copy-out-take-at c = search needs
+
+slice-aggregate-take-at : tie.Need-slice-aggregate-take-at Inv-loop μ-loop
+slice-aggregate-take-at c = search needs
+
+take-at-requires : tie.Need-take-at-requires Inv-loop μ-loop
+take-at-requires c κs = search needs
+
+mul-at-site : tie.Need-mul-at-site Inv-loop μ-loop
+mul-at-site c = search needs
+
+array-copy-out-at-site : tie.Need-array-copy-out-at-site Inv-loop μ-loop
+array-copy-out-at-site c = search needs
 
 slice-aggregate-at-site : tie.Need-slice-aggregate-at-site Inv-loop μ-loop
 slice-aggregate-at-site c = search needs
@@ -72,11 +88,18 @@ settled-requires c κs = search needs
 idle-requires-2 : tie.Need-idle-requires-2 Inv-loop μ-loop
 idle-requires-2 c κs = search needs
 
+-- Either call leaves its tables as long as they were.
+kept : (c : tie.At-match-came Inv-loop μ-loop) → (length (c .match .base) ≡ 16384) × (length (c .match .lists) ≡ 144384)
+kept c = let at = c .before .before .before .before .before .before .before .before .before .before .before .before .before .loop .inv in ⊎-elim
+    (λ w. (rw (w .8) (at .0), rw (w .9) (w .6 .kept .1 .1 .0 ∙ at .1)))
+    (λ w. (rw (w .8) (w .5 .kept .1 .1 .1 .0 ∙ at .0), rw (w .9) (w .5 .kept .1 .1 .1 .1 .0 ∙ at .1)))
+    (c .match .came)
+
 loop-less : tie.Need-loop-less Inv-loop μ-loop
-loop-less c = omega (arith, c .before .before .before .before .before .before .before .before .before .before .before .before .before .before .before .before .before .before .before .before .before .before .before .before .before .before .loop-test .taken)
+loop-less c = omega (arith, c .before .before .before .before .before .before .before .before .before .before .before .before .before .before .before .before .before .before .before .loop-test .taken)
 
 loop-again : tie.Need-loop-again Inv-loop μ-loop
-loop-again c = (search needs, search needs, simp (c .before .before .before .before .before .before .before .before .before .before .before .before .before .before .before .before .before .held4 .given, c .before .before .before .before .before .before .before .before .before .before .before .before .before .before .before .before .before .before .before .before .before .before .before .before .before .before .before .loop .inv .2), simp length-set (c .before .before .before .before .before .before .before .before .before .before .before .before .before .before .before .before .before .before .before .before .before .before .before .before .before .before .before .loop .inv .3))
+loop-again c = let k = kept (c .before .before .before .before .before .before .before) in (k .0, k .1, simp (c .before .before .before .before .before .before .before .before .before .before .held4 .given, c .before .before .before .before .before .before .before .before .before .before .before .before .before .before .before .before .before .before .before .before .loop .inv .2), simp length-set (c .before .before .before .before .before .before .before .before .before .before .before .before .before .before .before .before .before .before .before .before .loop .inv .3))
 
 returns : tie.Need-returns Inv-loop μ-loop
 returns c = search needs
@@ -98,8 +121,13 @@ rest-spec =
     sub-left
     slice-aggregate-next-of-site
     next-of-site-requires
-    mul-s
-    array-copy-out-s
+    enum-told
+    mul-take-at
+    array-copy-out-take-at
+    slice-aggregate-take-at
+    take-at-requires
+    mul-at-site
+    array-copy-out-at-site
     slice-aggregate-at-site
     slice-aggregate-at-site-2
     at-site-requires
