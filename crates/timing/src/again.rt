@@ -83,8 +83,7 @@ fn once(
     tallied(sum, a, d.words)
 }
 
-// The timed loop. Every turn puts back what an emit and a replay change, also those of step 0, so that its time is that of the loop
-// without the call.
+// The timed loop. Every turn of every step puts back what an emit and a replay change, so that it cancels out between steps.
 fn again(
     count: u64,
     step: u64,

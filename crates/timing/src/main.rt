@@ -16,9 +16,9 @@ use lines::Scan;
 use play::BASES;
 use play::GATHERINGS;
 use play::played;
-use step::ABANDON;
 use step::COMMIT;
 use step::LAST_STEP;
+use step::LAST_TIMED;
 ghost use Prim.Native.Nat.{_≤_};
 
 // Enough saves to fill the histories.
@@ -134,8 +134,8 @@ fn saves_asked() -> Number {
 }
 
 fn run(step: u64, count: u64, saves: u64) {
-    if ABANDON < step {
-        complain(b"the first argument has to be the number of a step, 0 to 25");
+    if LAST_TIMED < step {
+        complain(b"the first argument has to be the number of a step, 0 to 27");
         return;
     }
     if MOST_SAVES < saves {
@@ -151,7 +151,7 @@ fn main() {
     let count = argument(2);
     let saves = saves_asked();
     if !step.ok {
-        complain(b"the first argument has to be the number of a step, 0 to 25");
+        complain(b"the first argument has to be the number of a step, 0 to 27");
         return;
     }
     if !count.ok {

@@ -10,7 +10,8 @@
 //  7 read at 1                     15 merge, the part           23 replay
 //  8 commit at 1                   16 install at 2              24 value
 //
-// 25 is abandon at 1, behind 7 and in no save.
+// 25 is abandon at 1, behind 7 and in no save. 0, 26 and 27 make no call: they are passed what a site's call, the merger's and the
+// copy's are, and pass it on, so that their time is that of the others without the call.
 use kinds::Answer;
 use kinds::Merger;
 use kinds::MergerOut;
@@ -21,19 +22,17 @@ use kinds::sizes::OUTGOING;
 use kinds::sizes::QUEUES;
 use kinds::sizes::SITE_KEYS;
 
-// Who is called.
+// Who is called; the copy by the steps that are left.
 const AT_SITE: u64 = 1;
 
 const AT_MERGER: u64 = 2;
 
 const AT_COPY: u64 = 3;
 
-const NOBODY: u64 = 4;
-
-// The last step of a save, and the one that is only timed.
+// The last step of a save, and the last of all.
 pub const LAST_STEP: u64 = 24;
 
-pub const ABANDON: u64 = 25;
+pub const LAST_TIMED: u64 = 27;
 
 // The steps before an abandon end here.
 pub const COMMIT: u64 = 8;
@@ -60,10 +59,9 @@ pub struct Made {
 
 fn called_by(step: u64) -> u64 {
     match step {
-        1..=14 | 16 | 18 | 20 | 25 => AT_SITE,
-        15 | 17 | 19 | 21 | 22 => AT_MERGER,
-        23 | 24 => AT_COPY,
-        _ => NOBODY,
+        0..=14 | 16 | 18 | 20 | 25 => AT_SITE,
+        15 | 17 | 19 | 21 | 22 | 26 => AT_MERGER,
+        _ => AT_COPY,
     }
 }
 
@@ -88,6 +86,11 @@ fn at_site(
     let tx = v.tx;
     let n = v.before;
     match step {
+        0 => Out {
+            answer: Answer::Done,
+            words: 0,
+            site: s,
+        },
         1 => site::begin::begin(s),
         2 => site::enlist::enlist(s, tx, 2, out),
         5 => site::access::write(s, tx, n % WRITTEN, n),
@@ -106,6 +109,13 @@ fn at_merger(step: u64, g: Merger, queues: &mut [u64], m: &[u64], out: &mut [u64
     if step == 22 {
         return merger::emit(g, queues, out);
     }
+    if step == 26 {
+        return MergerOut {
+            answer: Answer::Done,
+            words: 0,
+            merger: g,
+        };
+    }
     merger::merge(g, queues, m)
 }
 
@@ -113,6 +123,9 @@ fn at_merger(step: u64, g: Merger, queues: &mut [u64], m: &[u64], out: &mut [u64
 fn at_copy(step: u64, v: Save, copy: &mut [u64], m: &[u64]) -> Answer {
     if step == 24 {
         return copy::value(copy, v.before % WRITTEN);
+    }
+    if step == 27 {
+        return Answer::Done;
     }
     copy::replay(copy, m)
 }
@@ -148,8 +161,7 @@ fn of_copy(answer: Answer, site: Site, merger: Merger) -> Made {
     }
 }
 
-// A step's call, with its site and the merger. The words of m are what it takes. Step 0 makes none, and passes on what it is handed
-// as the others do.
+// A step's call, with its site and the merger. The words of m are what it takes.
 pub fn make(
     step: u64,
     v: Save,
@@ -171,10 +183,7 @@ pub fn make(
         let o = at_merger(step, g, queues, m, out);
         return of_merger(o, s);
     }
-    if who == AT_COPY {
-        return of_copy(at_copy(step, v, copy, m), s, g);
-    }
-    of_copy(Answer::Done, s, g)
+    of_copy(at_copy(step, v, copy, m), s, g)
 }
 
 // The first n words.
