@@ -19,19 +19,8 @@ function saves(k,    i, s, t) {
     }
 }
 
-# one call, again and again
-function again(line,    i) { for (i = 1; i <= n; i++) print line }
-
 BEGIN {
     if (what == "lone") saves(1)
     if (what == "two") saves(2)
     if (what == "eight") saves(8)
-    if (what == "front") again("nonsense")
-    if (what == "read") { print "sites 1"; print "begin 1"; again("read 1 " tx(1, 1) " 5") }
-    if (what == "write") { print "sites 1"; print "begin 1"; again("write 1 " tx(1, 1) " 5 700") }
-    if (what == "report") { print "sites 1"; again("report 1") }
-    if (what == "value") { print "sites 1"; again("value 1 5") }
-    if (what == "begin") { print "sites 1"; for (i = 1; i <= n / 2; i++) { print "begin 1"; print "abandon " tx(1, i) } }
-    if (what == "emit") { print "sites 1"; again("emit") }
-    if (what == "merge") { print "sites 1"; for (i = 1; i <= n / 2; i++) { print "report 1"; print "merge 1" } }
 }
