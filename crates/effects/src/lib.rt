@@ -44,14 +44,6 @@ pub fn absent() -> Done {
     }
 }
 
-pub fn is_refused(a: Answer) -> bool {
-    if let Answer::Refused(_) = a {
-        true
-    } else {
-        false
-    }
-}
-
 // Whether what a call wrote is a record.
 pub fn is_logged(v: u64) -> bool {
     match v {

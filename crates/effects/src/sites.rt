@@ -2,12 +2,12 @@
 use crate::Done;
 use crate::Lent;
 use crate::buffer_of;
-use crate::is_refused;
 use crate::pattern;
 use kinds::Answer;
 use kinds::Out;
 use kinds::Site;
 use kinds::sizes::KEYS;
+use pages::is_refused;
 use parts::front;
 use parts::front_mut;
 use pokes::poke_site;

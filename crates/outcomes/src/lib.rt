@@ -3,7 +3,6 @@ use effects::COPY_PLACE;
 use effects::Done;
 use effects::Lent;
 use effects::is_logged;
-use effects::is_refused;
 use hand::store::keep_letters;
 use hand::store::keep_record;
 use kinds::Answer;
@@ -15,6 +14,7 @@ use kinds::sizes::QUEUES;
 use kinds::sizes::SITES;
 use pages::PAGE;
 use pages::Said;
+use pages::is_refused;
 use pages::say;
 use pages::say_with;
 use parts::front;
@@ -109,7 +109,11 @@ fn sites_of(l: Line, now: u64) -> u64 {
     now
 }
 
+// Reads a line, unless the probe has ended.
 pub fn read_line(w: Work, text: &mut [u8; TEXT]) -> Work {
+    if w.state != LINE {
+        return w;
+    }
     let before = w.input;
     let r = next_scan(text, before);
     let input = r.input;
