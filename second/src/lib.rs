@@ -1,6 +1,7 @@
 //! The house store a second time: sites, a merger and copies at the level of
 //! words, written from the rules alone, to compare the proved store with.
 
+pub mod aim;
 pub mod answer;
 pub mod book;
 pub mod copy;

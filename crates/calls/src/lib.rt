@@ -1,6 +1,5 @@
 // A line as a call of a site, which is in a place: its number less 1.
 use deliver::message::message;
-use desk::front;
 use kinds::Answer;
 use kinds::Out;
 use kinds::Site;
@@ -10,10 +9,12 @@ use kinds::sizes::LISTS;
 use kinds::sizes::OUTGOING;
 use kinds::sizes::SITES;
 use lines::Command;
+use parts::front;
 use spool::ITEM;
 ghost use mathlib.Core.Path.{_≡_};
-ghost use Prim.Native.Nat.{_<_};
+ghost use Prim.Native.Nat.{_+_, _<_};
 ghost use lib.ListN.{length};
+ghost use Rattle.rules.specs.Install.{startOf};
 
 // Base values, and gathered lists, of all sites, one behind the other.
 pub const BASES: usize = SITES * KEYS;
@@ -68,6 +69,7 @@ pub fn take_at(
 // A fresh site of a house of n.
 fn start_at(n: u64, place: usize, base: &mut [u64], lists: &mut [u64]) -> Site
     requires { ⌜ (place < 8) × (length (now base) ≡ 16384) × (length (now lists) ≡ 144384) ⌝ }
+    ensures { λ r. ⌜ r ≡ startOf n (place + 1) 2048 18048 .site ⌝ }
 {
     let a = place * KEYS;
     let b = place * LISTS;

@@ -9,6 +9,7 @@ use kinds::sizes::OUTGOING;
 use kinds::sizes::SITES;
 use lines::Command;
 use pages::PAGE;
+use pages::is_refused;
 use pages::say;
 pub use post::COPIES;
 use post::STREAM;
@@ -126,7 +127,7 @@ fn fetched(
     }
 }
 
-// Reads a line. Its place is NOWHERE where it is answered already, or the script is at its end.
+// Reads a line. Its place is NOWHERE where it is answered already, or the script has ended.
 pub fn next_ask(
     d: Desk,
     text: &mut [u8; TEXT],
@@ -135,6 +136,9 @@ pub fn next_ask(
     item: &mut [u64; ITEM],
     page: &mut [u8; PAGE],
 ) -> Ask {
+    if d.state != LINE {
+        return idle(d);
+    }
     let before = d.input;
     let line = next_line(text, before);
     let input = line.input;
@@ -151,22 +155,6 @@ pub fn next_ask(
         return idle(answered(e, page, Answer::Refused(r.code)));
     }
     fetched(e, c, r.place, r.queue, fd, store, item, page)
-}
-
-// The first n words: what an ask hands in.
-pub fn front(item: &[u64], n: usize) -> &[u64] {
-    if n < item.len() {
-        return &item[0..n];
-    }
-    item
-}
-
-fn is_refused(a: Answer) -> bool {
-    if let Answer::Refused(_) = a {
-        true
-    } else {
-        false
-    }
 }
 
 // Goes on behind the item that was handed in: the stream keeps its own for the other copies.

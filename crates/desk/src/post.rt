@@ -4,7 +4,8 @@ use kinds::word::FROM;
 use kinds::word::LENGTH;
 use kinds::word::TO;
 use spool::STORE;
-ghost use Prim.Native.Nat.{_+_, _≤_, _<_};
+ghost use mathlib.Core.Path.{_≡_};
+ghost use Prim.Native.Nat.{_+_, _*_, _≤_, _<_};
 ghost use lib.ListN.{length};
 
 // The queue of the merged stream, behind the channels and the logs.
@@ -15,7 +16,7 @@ pub const COPIES: usize = 8;
 // The queue of messages between two sites, less 1 each.
 pub fn channel(from: usize, to: usize) -> usize
     requires { ⌜ (from < 8) × (to < 8) ⌝ }
-    ensures { λ r. ⌜ r < 64 ⌝ }
+    ensures { λ r. ⌜ (r ≡ from * 8 + to) × (r < 64) ⌝ }
 {
     from * SITES + to
 }
@@ -23,7 +24,7 @@ pub fn channel(from: usize, to: usize) -> usize
 // The queue of a site's log, less 1.
 pub fn log(site: usize) -> usize
     requires { ⌜ site < 8 ⌝ }
-    ensures { λ r. ⌜ r < 72 ⌝ }
+    ensures { λ r. ⌜ (r ≡ 64 + site) × (r < 72) ⌝ }
 {
     SITES * SITES + site
 }
@@ -31,7 +32,7 @@ pub fn log(site: usize) -> usize
 // The cursor of a copy, less 1, in the stream.
 pub fn cursor(copy: usize) -> usize
     requires { ⌜ copy < 8 ⌝ }
-    ensures { λ r. ⌜ r < 81 ⌝ }
+    ensures { λ r. ⌜ (r ≡ 73 + copy) × (r < 81) ⌝ }
 {
     STREAM + 1 + copy
 }

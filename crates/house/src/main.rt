@@ -15,8 +15,20 @@ fn fail(what: &[u8]) {
     os::fail(what);
 }
 
+// Says that what is under way does not fit into memory, nor into the temporary file, where there is one.
+fn lost(spare: i32) {
+    if spare < 0 {
+        io::write_all(
+            STDERR_FILENO,
+            b"house: messages and records do not fit into memory, and no temporary file can be made in /tmp or /var/tmp\n",
+        );
+        return;
+    }
+    fail(b"a temporary file, for messages and records that do not fit into memory");
+}
+
 // Says why a script ended before its end, and whether all went well.
-fn reported(state: u64, name: &[u8]) -> bool {
+fn reported(state: u64, spare: i32, name: &[u8]) -> bool {
     if state == UNREADABLE {
         fail(name);
         return false;
@@ -26,7 +38,7 @@ fn reported(state: u64, name: &[u8]) -> bool {
         return false;
     }
     if state == LOST {
-        fail(b"a temporary file, for messages and records that do not fit into memory");
+        lost(spare);
         return false;
     }
     true
@@ -37,7 +49,7 @@ fn play_all(fd: i32, spare: i32, name: &[u8]) -> bool {
     let mut text = [0u8; TEXT];
     let mut page = [0u8; PAGE];
     let d = play(fd, spare, &mut text, &mut page);
-    let ok = reported(d.state, name);
+    let ok = reported(d.state, spare, name);
     if flush(&page, d.used) {
         return ok;
     }
@@ -74,16 +86,26 @@ fn play_files(count: usize, spare: i32) {
     }
 }
 
-// A file that is opened takes the number of a standard one that is closed.
+// A file that is opened takes the number of a standard one that is closed. Standard error's is left to it: a script is played
+// where no message can be read.
+fn open_spare() -> i32 {
+    let fd = spool::open();
+    if fd == STDERR_FILENO {
+        return spool::open();
+    }
+    fd
+}
+
+// Whether it is the number of standard input or output.
 fn is_standard(fd: i32) -> bool {
     if fd < 0 {
         return false;
     }
-    fd <= STDERR_FILENO
+    fd < STDERR_FILENO
 }
 
 fn main() {
-    let spare = spool::open();
+    let spare = open_spare();
     if is_standard(spare) {
         io::write_all(
             STDERR_FILENO,

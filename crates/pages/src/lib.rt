@@ -120,6 +120,15 @@ fn results(page: &mut [u8; PAGE], used: usize, a: Answer) -> usize
     }
 }
 
+// Whether an outcome is a refusal.
+pub fn is_refused(a: Answer) -> bool {
+    if let Answer::Refused(_) = a {
+        true
+    } else {
+        false
+    }
+}
+
 fn outcome(page: &mut [u8; PAGE], used: usize, a: Answer) -> usize
     requires { ⌜ used + 66 ≤ 65536 ⌝ }
     ensures { λ r. ⌜ r ≤ used + 66 ⌝ }

@@ -1,23 +1,14 @@
 // The program `probe`: obeys a probe from standard input, or each file that is named as one of its own, over the store's calls.
-mod calls;
-mod hand;
-mod line;
-mod merging;
-mod parts;
-mod poke;
 mod run;
-mod store;
-mod verb;
-mod work;
 
 use libc::STDERR_FILENO;
+use outcomes::UNWRITTEN;
+use outcomes::begun;
 use pages::PAGE;
 use pages::flush;
 use run::play;
 use script::TEXT;
 use script::UNREADABLE;
-use work::UNWRITTEN;
-use work::begun;
 
 fn fail(what: &[u8]) {
     io::write_all(STDERR_FILENO, b"probe: ");

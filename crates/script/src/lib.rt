@@ -1,7 +1,10 @@
 // A script's lines, read in large blocks.
 use lines::Command;
 use lines::Scan;
+ghost use mathlib.Core.Path.{_≡_};
 ghost use Prim.Native.Nat.{_≤_};
+ghost use lib.Dec.{eqb};
+ghost use Rattle.laws.specs.Choice.{pick};
 
 // Bytes of a block.
 pub const TEXT: usize = 65536;
@@ -96,7 +99,9 @@ fn read_on(text: &mut [u8; TEXT], r: Reading) -> Reading {
 }
 
 // What was found: a last line need not end in a newline, and every byte of a line marks its scan.
-fn found_in(found: u64, s: Scan) -> u64 {
+fn found_in(found: u64, s: Scan) -> u64
+    ensures { λ r. ⌜ r ≡ pick (eqb found 2) (pick (eqb (s .ended) 0) (pick (eqb (s .begun) 0) 2 1) 1) found ⌝ }
+{
     if found != END {
         return found;
     }

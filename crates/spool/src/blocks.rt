@@ -9,28 +9,29 @@ use crate::STORE;
 use crate::TAGS;
 use crate::file::load;
 use crate::file::save;
-ghost use Prim.Native.Nat.{_+_, _*_, _≤_, _<_};
+ghost use mathlib.Core.Path.{_≡_};
+ghost use Prim.Native.Nat.{_+_, _*_, _%_, _≤_, _<_};
 
 // Addresses and block numbers stay below.
 pub const LIMIT: u64 = 1125899906842624;
 
-pub const LAST_BLOCK: u64 = LIMIT / 256 - 1;
+pub const LAST_BLOCK: u64 = LIMIT / BLOCK as u64 - 1;
 
 pub fn slot_of(b: u64) -> usize
-    ensures { λ r. ⌜ r < 512 ⌝ }
+    ensures { λ r. ⌜ (r ≡ b % 256) × (r < 256) ⌝ }
 {
     (b % SLOTS as u64) as usize
 }
 
 // Where the words of block b lie, while it is in memory.
 pub fn place_of(b: u64) -> usize
-    ensures { λ r. ⌜ r + 256 ≤ 131829 ⌝ }
+    ensures { λ r. ⌜ (r ≡ 501 + b % 256 * 256) × (r + 256 ≤ 66037) ⌝ }
 {
     CELLS + slot_of(b) * BLOCK
 }
 
 pub fn offset_of(at: u64) -> usize
-    ensures { λ r. ⌜ r < 256 ⌝ }
+    ensures { λ r. ⌜ (r ≡ at % 256) × (r < 256) ⌝ }
 {
     (at % BLOCK as u64) as usize
 }

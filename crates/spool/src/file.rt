@@ -30,7 +30,7 @@ pub fn open() -> i32 {
 }
 
 fn to_bytes(store: &[u64; STORE], at: usize, bytes: &mut [u8; BYTES])
-    requires { ⌜ at + 256 ≤ 131829 ⌝ }
+    requires { ⌜ at + 256 ≤ 66037 ⌝ }
 {
     let mut i: usize = 0;
     while i < BLOCK {
@@ -40,7 +40,7 @@ fn to_bytes(store: &[u64; STORE], at: usize, bytes: &mut [u8; BYTES])
 }
 
 fn from_bytes(bytes: &[u8; BYTES], store: &mut [u64; STORE], at: usize)
-    requires { ⌜ at + 256 ≤ 131829 ⌝ }
+    requires { ⌜ at + 256 ≤ 66037 ⌝ }
 {
     let mut i: usize = 0;
     while i < BLOCK {
@@ -56,7 +56,7 @@ fn write_block(fd: i32, bytes: &[u8; BYTES], at: i64) -> bool {
 
 // Writes the words from `at` on as block b.
 pub fn save(fd: i32, store: &[u64; STORE], at: usize, b: u64) -> bool
-    requires { ⌜ at + 256 ≤ 131829 ⌝ }
+    requires { ⌜ at + 256 ≤ 66037 ⌝ }
 {
     if LAST_BLOCK < b {
         return false;
@@ -68,7 +68,7 @@ pub fn save(fd: i32, store: &[u64; STORE], at: usize, b: u64) -> bool
 
 // Reads block b to the words from `at` on.
 pub fn load(fd: i32, store: &mut [u64; STORE], at: usize, b: u64) -> bool
-    requires { ⌜ at + 256 ≤ 131829 ⌝ }
+    requires { ⌜ at + 256 ≤ 66037 ⌝ }
 {
     if LAST_BLOCK < b {
         return false;

@@ -14,6 +14,7 @@ use blocks::place_of;
 use blocks::release;
 use blocks::room;
 pub use file::open;
+ghost use mathlib.Core.Path.{_≡_};
 ghost use Prim.Native.Nat.{_+_, _*_, _≤_, _<_};
 ghost use lib.ListN.{length};
 
@@ -21,11 +22,14 @@ ghost use lib.ListN.{length};
 pub const BLOCK: usize = 256;
 
 pub const LINK: usize = BLOCK - 1;
-// Blocks in memory. Block b lies in slot b mod SLOTS.
-pub const SLOTS: usize = 512;
 
+// Blocks in memory. Block b lies in slot b mod SLOTS.
+pub const SLOTS: usize = 256;
+
+// Queues and cursors.
 pub const QUEUES: usize = 81;
-// Words of the longest item.
+
+// Words of the longest item: a message with 376 entries.
 pub const ITEM: usize = 1138;
 
 // The store's words: how many blocks were made; the first block that is free; for each queue the address of its first item, that
@@ -67,7 +71,7 @@ struct Run {
 // Where a word of a queue's row lies.
 fn row(queue: usize, word: usize) -> usize
     requires { ⌜ (queue < 81) × (word < 3) ⌝ }
-    ensures { λ r. ⌜ r < 245 ⌝ }
+    ensures { λ r. ⌜ (r ≡ 2 + 3 * queue + word) × (r < 245) ⌝ }
 {
     TABLE + ROW * queue + word
 }
@@ -79,7 +83,7 @@ fn least(a: usize, b: usize) -> usize
 }
 
 fn copy_out(store: &[u64; STORE], from: usize, item: &mut [u64; ITEM], to: usize, n: usize)
-    requires { ⌜ (from + n ≤ 131829) × (to + n ≤ 1138) ⌝ }
+    requires { ⌜ (from + n ≤ 66037) × (to + n ≤ 1138) ⌝ }
 {
     let mut i: usize = 0;
     while i < n {
@@ -89,7 +93,7 @@ fn copy_out(store: &[u64; STORE], from: usize, item: &mut [u64; ITEM], to: usize
 }
 
 fn copy_in(words: &[u64], from: usize, store: &mut [u64; STORE], to: usize, n: usize)
-    requires { ⌜ (from + n ≤ length (now words)) × (to + n ≤ 131829) ⌝ }
+    requires { ⌜ (from + n ≤ length (now words)) × (to + n ≤ 66037) ⌝ }
 {
     let mut i: usize = 0;
     while i < n {

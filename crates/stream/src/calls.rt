@@ -1,6 +1,5 @@
 // A line as a call of the merger, or of a copy.
 use desk::COPIES;
-use desk::front;
 use kinds::Answer;
 use kinds::Merger;
 use kinds::MergerOut;
@@ -8,14 +7,18 @@ use kinds::reason::MALFORMED;
 use kinds::sizes::COPY;
 use kinds::sizes::QUEUES;
 use lines::Command;
+use parts::front;
 ghost use mathlib.Core.Path.{_≡_};
 ghost use Prim.Native.Nat.{_<_};
 ghost use lib.ListN.{length};
+ghost use Rattle.rules.specs.Merger.{mergerOutOf, mergerStartOf};
 
 // Words of all copies, one behind the other.
 pub const HELD: usize = COPIES * COPY;
 
-pub fn start_merger(n: u64, queues: &mut [u64; QUEUES]) -> Merger {
+pub fn start_merger(n: u64, queues: &mut [u64; QUEUES]) -> Merger
+    ensures { λ r. ⌜ r ≡ mergerOutOf (mergerStartOf n (now (queues .entry))) .merger ⌝ }
+{
     let o = merger::start(n, queues);
     let g = o.merger;
     g

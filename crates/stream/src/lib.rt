@@ -22,8 +22,10 @@ use script::TEXT;
 use spool::ITEM;
 use spool::STORE;
 ghost use mathlib.Core.Path.{_≡_};
-ghost use Prim.Native.Nat.{_<_};
+ghost use Prim.Native.Nat.{_-_, _<_};
+ghost use lib.Dec.{ltb};
 ghost use lib.ListN.{length};
+ghost use Rattle.laws.specs.Choice.{pick};
 
 // A line, and the merger after those before it.
 pub struct Waiting {
@@ -73,7 +75,9 @@ fn copied(
 }
 
 // The copy in a place, less 1; COPIES or more where none is.
-fn copy_in(place: usize) -> usize {
+fn copy_in(place: usize) -> usize
+    ensures { λ r. ⌜ r ≡ pick (ltb place 9) 8 (place - 9) ⌝ }
+{
     if place < FIRST_COPY {
         return COPIES;
     }

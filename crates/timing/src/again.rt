@@ -1,11 +1,4 @@
 // One call again and again, each time on the same state.
-use crate::play::Store;
-use crate::play::site_in;
-use crate::step::Save;
-use crate::step::front;
-use crate::step::half;
-use crate::step::make;
-use crate::step::site_of;
 use kinds::Answer;
 use kinds::Merger;
 use kinds::Site;
@@ -17,6 +10,13 @@ use kinds::sizes::QUEUES;
 use kinds::sizes::SITE_QUEUE;
 use kinds::word::LAST_COORDINATOR;
 use kinds::word::LAST_NUMBER;
+use parts::front;
+use rounds::play::Store;
+use rounds::play::site_in;
+use rounds::step::Save;
+use rounds::step::half;
+use rounds::step::make;
+use rounds::step::site_of;
 use std::num::wrapping_add_u64;
 
 // What calls did: how many were refused, and how many words they wrote in all.

@@ -2,8 +2,6 @@
 // be taken from outside. It prints how many words the calls wrote and how many were refused. A third argument is how many saves come
 // before.
 mod again;
-mod play;
-mod step;
 
 use again::Tally;
 use again::time_step;
@@ -13,12 +11,12 @@ use kinds::sizes::QUEUES;
 use libc::STDERR_FILENO;
 use libc::STDOUT_FILENO;
 use lines::Scan;
-use play::BASES;
-use play::GATHERINGS;
-use play::played;
-use step::COMMIT;
-use step::LAST_STEP;
-use step::LAST_TIMED;
+use rounds::play::BASES;
+use rounds::play::GATHERINGS;
+use rounds::play::played;
+use rounds::step::COMMIT;
+use rounds::step::LAST_STEP;
+use rounds::step::LAST_TIMED;
 ghost use Prim.Native.Nat.{_≤_};
 
 // Enough saves to fill the histories.

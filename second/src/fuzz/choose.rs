@@ -34,14 +34,15 @@ impl Fuzz {
     pub(super) fn choose(&mut self) -> (Words, Source) {
         let plain = |call| (Vec::new(), Source::Plain(call));
         let site = self.any_site();
-        let (at, transaction) = self.any_part();
+        let (at, transaction) = self.random.part(self.world.sites.iter(), 30);
         match self.random.weighted(if self.lone { &LONE } else { &SPANNING }) {
             0 => plain(Call::Begin { site }),
             1 => plain(Call::Enlist { site: at, transaction, target: site }),
-            2 => plain(Call::Read { site: at, transaction, key: self.any_key(at) }),
+            2 => plain(Call::Read { site: at, transaction, key: self.random.key(at, self.keys) }),
             3 => {
                 let value = self.random.word();
-                plain(Call::Write { site: at, transaction, key: self.any_key(at), value })
+                let key = self.random.key(at, self.keys);
+                plain(Call::Write { site: at, transaction, key, value })
             }
             4 => plain(Call::Commit { site: at, transaction }),
             5 => plain(Call::Abandon { site: at, transaction }),
@@ -58,13 +59,8 @@ impl Fuzz {
         }
     }
 
-    /// Now and then a site that is not there.
     fn any_site(&mut self) -> u64 {
-        let sites = self.world.sites.len() as u64;
-        match self.random.below(60) {
-            0 => self.random.between(0, 9),
-            _ => self.random.between(1, sites),
-        }
+        self.random.site(self.world.sites.len() as u64)
     }
 
     /// A site with a decided part, if there is one.
@@ -76,30 +72,6 @@ impl Fuzz {
             .map(|site| site.own)
             .collect();
         self.random.pick(&busy).unwrap_or(1)
-    }
-
-    /// A live part with its site; now and then at a wrong site, or none.
-    fn any_part(&mut self) -> (u64, u64) {
-        let site = self.any_site();
-        let sites = self.world.sites.iter();
-        let live: Vec<(u64, u64)> = sites
-            .flat_map(|site| site.live.iter().map(|part| (site.own, part.transaction)))
-            .collect();
-        let strange = transaction_number(site, self.random.below(4));
-        let (own, transaction) = self.random.pick(&live).unwrap_or((site, strange));
-        match self.random.below(30) {
-            0 => (site, strange),
-            1 => (site, transaction),
-            _ => (own, transaction),
-        }
-    }
-
-    fn any_key(&mut self, site: u64) -> u64 {
-        match self.random.below(30) {
-            0 => self.random.word(),
-            1 => self.random.below(KEYS + 1),
-            _ => site.saturating_sub(1) * SITE_KEYS + self.random.below(self.keys),
-        }
     }
 
     /// Words that some call wrote, of any kind.

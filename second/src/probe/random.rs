@@ -82,11 +82,11 @@ impl Maker {
                 self.say(format!("enlist {site} {transaction} {target}"));
             }
             2 => {
-                let key = self.any_key(site);
+                let key = self.random.key(site, self.keys);
                 self.say(format!("read {site} {transaction} {key}"));
             }
             3 => {
-                let (key, value) = (self.any_key(site), self.random.word());
+                let (key, value) = (self.random.key(site, self.keys), self.random.word());
                 self.say(format!("write {site} {transaction} {key} {value}"));
             }
             4 => drop(self.say(format!("commit {site} {transaction}"))),
@@ -108,34 +108,11 @@ impl Maker {
     }
 
     fn any_site(&mut self) -> u64 {
-        match self.random.below(60) {
-            0 => self.random.between(0, 9),
-            _ => self.random.between(1, self.sites()),
-        }
+        self.random.site(self.sites())
     }
 
-    /// A live part with its site; now and then at a wrong site, or none.
     fn any_part(&mut self) -> (u64, u64) {
-        let site = self.any_site();
-        let sites = self.probe.sites.iter();
-        let live: Vec<(u64, u64)> = sites
-            .flat_map(|one| one.site.live.iter().map(|part| (one.site.own, part.transaction)))
-            .collect();
-        let strange = transaction_number(site, self.random.below(4));
-        let (own, transaction) = self.random.pick(&live).unwrap_or((site, strange));
-        match self.random.below(40) {
-            0 => (site, strange),
-            1 => (site, transaction),
-            _ => (own, transaction),
-        }
-    }
-
-    fn any_key(&mut self, site: u64) -> u64 {
-        match self.random.below(30) {
-            0 => self.random.word(),
-            1 => self.random.below(KEYS + 1),
-            _ => site.saturating_sub(1) * SITE_KEYS + self.random.below(self.keys),
-        }
+        self.random.part(self.probe.sites.iter().map(|one| &one.site), 40)
     }
 
     fn message(&mut self) {

@@ -1,0 +1,86 @@
+// A probe's lines as calls of a site, the merger or a copy, and what each call leaves.
+mod sites;
+mod streams;
+
+use kinds::Answer;
+use kinds::reason::MALFORMED;
+use parts::put;
+pub use sites::SiteDone;
+pub use sites::at_site;
+pub use streams::COPIES;
+pub use streams::COPY_PLACE;
+pub use streams::MergerDone;
+pub use streams::at_copy;
+pub use streams::at_merger;
+use verbs::verb;
+
+// Lengths lent: the outgoing buffer, the base values, the gathered lists, the merger's queues, a copy.
+pub struct Lent {
+    pub room: usize,
+    pub base: usize,
+    pub lists: usize,
+    pub queues: usize,
+    pub copy: usize,
+}
+
+// What a call answered and wrote: whether the state and the lent tables are the same, the checksums of the outgoing buffer and
+// of the state.
+pub struct Done {
+    pub answer: Answer,
+    pub words: usize,
+    pub buffer: u64,
+    pub same: bool,
+    pub state: u64,
+}
+
+// A site, or a copy, that is not there.
+pub fn absent() -> Done {
+    Done {
+        answer: Answer::Refused(MALFORMED),
+        words: 0,
+        buffer: 0,
+        same: true,
+        state: 0,
+    }
+}
+
+// Whether what a call wrote is a record.
+pub fn is_logged(v: u64) -> bool {
+    match v {
+        verb::INSTALL => true,
+        verb::REPORT => true,
+        verb::EMIT => true,
+        _ => false,
+    }
+}
+
+// Whether a call is lent an outgoing buffer.
+fn may_write(v: u64) -> bool {
+    match v {
+        verb::ENLIST => true,
+        verb::COMMIT => true,
+        verb::ABANDON => true,
+        verb::MESSAGE => true,
+        _ => is_logged(v),
+    }
+}
+
+// The checksum of an outgoing buffer; 0 where none is lent.
+fn buffer_of(v: u64, out: &[u64]) -> u64 {
+    if may_write(v) {
+        return sums::of_words(0, out);
+    }
+    0
+}
+
+// Starts a word's pattern.
+const SEED: u64 = 9;
+
+// Fills words, so that a changed one shows.
+fn pattern(ws: &mut [u64]) {
+    let mut i: usize = 0;
+    while i < ws.len() {
+        put(ws, i, sums::more(i as u64, SEED));
+        i += 1;
+    }
+}

@@ -1,0 +1,256 @@
+// What stands around a probe's calls: a line is read, what a call wrote is kept, and its outcome printed.
+use effects::COPY_PLACE;
+use effects::Done;
+use effects::Lent;
+use effects::is_logged;
+use hand::store::keep_letters;
+use hand::store::keep_record;
+use kinds::Answer;
+use kinds::House;
+use kinds::sizes::KEYS;
+use kinds::sizes::LISTS;
+use kinds::sizes::OUTGOING;
+use kinds::sizes::QUEUES;
+use kinds::sizes::SITES;
+use pages::PAGE;
+use pages::Said;
+use pages::is_refused;
+use pages::say;
+use pages::say_with;
+use parts::front;
+use script::Input;
+use script::LINE;
+use script::TEXT;
+use script::next_scan;
+use verbs::HOUSE;
+use verbs::Line;
+use verbs::NOBODY;
+use verbs::SITE;
+use verbs::remark;
+use verbs::told;
+use verbs::verb;
+
+// The output fails.
+pub const UNWRITTEN: u64 = 5;
+
+// Words for the outgoing buffer, more than any call wants.
+pub const ROOM: usize = 8192;
+
+// A probe under way: `state` is LINE until it ends, and then says why; `held` words are in hand, `kept` of the store are used.
+pub struct Work {
+    pub input: Input,
+    pub event: u64,
+    pub used: usize,
+    pub state: u64,
+    pub line: Line,
+    pub lent: Lent,
+    pub held: usize,
+    pub kept: usize,
+    pub sites: u64,
+}
+
+// Every table as long as it should be.
+pub fn all_lent() -> Lent {
+    Lent {
+        room: OUTGOING,
+        base: KEYS,
+        lists: LISTS,
+        queues: QUEUES,
+        copy: kinds::sizes::COPY,
+    }
+}
+
+pub fn begun(fd: i32) -> Work {
+    Work {
+        input: Input { fd, at: 0, end: 0 },
+        event: 0,
+        used: 0,
+        state: LINE,
+        line: remark(),
+        lent: all_lent(),
+        held: 0,
+        kept: 0,
+        sites: 1,
+    }
+}
+
+// Whether the line, if there is one, ends the house.
+pub fn is_over(w: Work) -> bool {
+    let l = w.line;
+    if w.state != LINE {
+        return true;
+    }
+    l.group == HOUSE
+}
+
+// Whether the line is for a site.
+pub fn is_for_site(w: Work) -> bool {
+    let l = w.line;
+    l.group == SITE
+}
+
+// A house has 1 to 8 sites; else the line is a remark.
+fn opened(l: Line) -> Line {
+    if l.group != HOUSE {
+        return l;
+    }
+    if numbers::house_ok(House { sites: l.a }) {
+        return l;
+    }
+    let mut m = l;
+    m.group = NOBODY;
+    m
+}
+
+fn sites_of(l: Line, now: u64) -> u64 {
+    if l.group == HOUSE {
+        return l.a;
+    }
+    now
+}
+
+// Reads a line, unless the probe has ended.
+pub fn read_line(w: Work, text: &mut [u8; TEXT]) -> Work {
+    if w.state != LINE {
+        return w;
+    }
+    let before = w.input;
+    let r = next_scan(text, before);
+    let input = r.input;
+    let s = r.scan;
+    let l = opened(told(s));
+    let mut v = w;
+    v.input = input;
+    v.event = std::num::wrapping_add_u64(w.event, 1);
+    v.state = r.found;
+    v.line = l;
+    v.sites = sites_of(l, w.sites);
+    v
+}
+
+fn after(w: Work, said: Said) -> Work {
+    let mut v = w;
+    v.used = said.used;
+    if said.ok {
+        return v;
+    }
+    v.state = UNWRITTEN;
+    v
+}
+
+// A poke's outcome has no numbers: what it leaves is the caller's own affair.
+fn is_poke(v: u64) -> bool {
+    match v {
+        verb::SITE => true,
+        verb::LIVE => true,
+        verb::PAST => true,
+        verb::MERGER => true,
+        verb::SOURCE => true,
+        verb::QUEUED => true,
+        verb::COPIED => true,
+        _ => false,
+    }
+}
+
+pub fn answered(w: Work, page: &mut [u8; PAGE], a: Answer) -> Work {
+    let said = say(page, w.used, w.event, a);
+    after(w, said)
+}
+
+fn one(yes: bool) -> u64 {
+    if yes { 1 } else { 0 }
+}
+
+// Prints a call's outcome: the words written, the buffer, whether the state is the same, the state.
+pub fn told_of(w: Work, page: &mut [u8; PAGE], d: Done) -> Work {
+    let l = w.line;
+    let a = d.answer;
+    if is_poke(l.verb) {
+        return answered(w, page, a);
+    }
+    let said = say_with(
+        page,
+        w.used,
+        w.event,
+        a,
+        d.words as u64,
+        d.buffer,
+        one(d.same),
+        d.state,
+    );
+    after(w, said)
+}
+
+// Keeps what an accepted call wrote.
+pub fn kept(w: Work, d: Done, store: &mut [u64], out: &[u64]) -> Work {
+    let l = w.line;
+    let a = d.answer;
+    if is_refused(a) {
+        return w;
+    }
+    if d.words == 0 {
+        return w;
+    }
+    let mut v = w;
+    if is_logged(l.verb) {
+        v.kept = keep_record(store, w.kept, front(out, d.words));
+        return v;
+    }
+    v.kept = keep_letters(store, w.kept, front(out, d.words));
+    v
+}
+
+fn least(n: u64, most: usize) -> usize {
+    if n < most as u64 {
+        return n as usize;
+    }
+    most
+}
+
+// A length lent from now on, at most one more than it should be.
+fn lend(lent: Lent, verb: u64, n: u64) -> Lent {
+    let mut t = lent;
+    match verb {
+        verb::ROOM => {
+            t.room = least(n, ROOM);
+            t
+        }
+        verb::BASE => {
+            t.base = least(n, KEYS + 1);
+            t
+        }
+        verb::LISTS => {
+            t.lists = least(n, LISTS + 1);
+            t
+        }
+        verb::QUEUES => {
+            t.queues = least(n, QUEUES + 1);
+            t
+        }
+        _ => {
+            t.copy = least(n, COPY_PLACE);
+            t
+        }
+    }
+}
+
+pub fn lent_anew(w: Work) -> Work {
+    let l = w.line;
+    let lent = w.lent;
+    let t = lend(lent, l.verb, l.a);
+    let mut v = w;
+    v.lent = t;
+    v
+}
+
+// The place of the site that a line names; SITES where the house lacks it.
+pub fn place_of(w: Work) -> usize {
+    let l = w.line;
+    if l.a < 1 {
+        return SITES;
+    }
+    if l.a > w.sites {
+        return SITES;
+    }
+    least(l.a - 1, SITES)
+}

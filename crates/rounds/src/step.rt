@@ -1,0 +1,196 @@
+// The calls of a save over two sites by their numbers, in the order of its course. A message or a record is what the last call that
+// wrote one wrote.
+//
+//  1 begin at 1                     9 message at 2, PREPARE     17 merge, the part
+//  2 enlist at 1                   10 message at 1, CONC        18 report at 1
+//  3 message at 2, JOIN            11 message at 2, CERT        19 merge, the state number
+//  4 message at 1, JOINED          12 message at 1, VOTE        20 report at 2
+//  5 write at 1                    13 message at 2, COMMIT      21 merge, the state number
+//  6 write at 2                    14 install at 1              22 emit
+//  7 read at 1                     15 merge, the part           23 replay
+//  8 commit at 1                   16 install at 2              24 value
+//
+// 25 is abandon at 1, behind 7 and in no save. 0, 26 and 27 make no call: they are passed what a site's call, the merger's and the
+// copy's are, and pass it on, so that their time is that of the others without the call.
+use kinds::Answer;
+use kinds::Merger;
+use kinds::MergerOut;
+use kinds::Out;
+use kinds::Site;
+use kinds::sizes::COPY;
+use kinds::sizes::OUTGOING;
+use kinds::sizes::QUEUES;
+use kinds::sizes::SITE_KEYS;
+
+// Who is called; the copy by the steps that are left.
+const AT_SITE: u64 = 1;
+
+const AT_MERGER: u64 = 2;
+
+const AT_COPY: u64 = 3;
+
+// The last step of a save, and the last of all.
+pub const LAST_STEP: u64 = 24;
+
+pub const LAST_TIMED: u64 = 27;
+
+// The steps before an abandon end here.
+pub const COMMIT: u64 = 8;
+
+// So many keys of each site are written, by turns.
+const WRITTEN: u64 = 200;
+
+// A key that no save writes, so that a read goes through the whole history.
+const UNWRITTEN: u64 = 255;
+
+// A save: its transaction, and how many were before it.
+pub struct Save {
+    pub tx: u64,
+    pub before: u64,
+}
+
+// A call's answer, how many words it wrote to the outgoing buffer, and what it leaves of a site and of the merger.
+pub struct Made {
+    pub answer: Answer,
+    pub words: usize,
+    pub site: Site,
+    pub merger: Merger,
+}
+
+fn called_by(step: u64) -> u64 {
+    match step {
+        0..=14 | 16 | 18 | 20 | 25 => AT_SITE,
+        15 | 17 | 19 | 21 | 22 | 26 => AT_MERGER,
+        _ => AT_COPY,
+    }
+}
+
+// The site whose call a step's is, less 1. A step that is no site's is handed the first.
+pub fn site_of(step: u64) -> usize {
+    match step {
+        3 | 6 | 9 | 11 | 13 | 16 | 20 => 1,
+        _ => 0,
+    }
+}
+
+// A site's call. The words of m are the message to take.
+fn at_site(
+    step: u64,
+    v: Save,
+    s: Site,
+    base: &mut [u64],
+    lists: &mut [u64],
+    m: &[u64],
+    out: &mut [u64],
+) -> Out {
+    let tx = v.tx;
+    let n = v.before;
+    match step {
+        0 => Out {
+            answer: Answer::Done,
+            words: 0,
+            site: s,
+        },
+        1 => site::begin::begin(s),
+        2 => site::enlist::enlist(s, tx, 2, out),
+        5 => site::access::write(s, tx, n % WRITTEN, n),
+        6 => site::access::write(s, tx, SITE_KEYS + n % WRITTEN, n),
+        7 => site::access::read(s, base, tx, UNWRITTEN),
+        8 => saves::commit::commit(s, tx, lists, out),
+        14 | 16 => installs::install(s, base, out),
+        18 | 20 => installs::report(s, out),
+        25 => saves::abandon::abandon(s, tx, out),
+        _ => deliver::message::message(s, m, lists, out),
+    }
+}
+
+// The merger's call. The words of m are the record to queue.
+fn at_merger(step: u64, g: Merger, queues: &mut [u64], m: &[u64], out: &mut [u64]) -> MergerOut {
+    if step == 22 {
+        return merger::emit(g, queues, out);
+    }
+    if step == 26 {
+        return MergerOut {
+            answer: Answer::Done,
+            words: 0,
+            merger: g,
+        };
+    }
+    merger::merge(g, queues, m)
+}
+
+// The copy's call. The words of m are the record to replay.
+fn at_copy(step: u64, v: Save, copy: &mut [u64], m: &[u64]) -> Answer {
+    if step == 24 {
+        return copy::value(copy, v.before % WRITTEN);
+    }
+    if step == 27 {
+        return Answer::Done;
+    }
+    copy::replay(copy, m)
+}
+
+fn of_site(o: Out, merger: Merger) -> Made {
+    let answer = o.answer;
+    let site = o.site;
+    Made {
+        answer,
+        words: o.words,
+        site,
+        merger,
+    }
+}
+
+fn of_merger(o: MergerOut, site: Site) -> Made {
+    let answer = o.answer;
+    let merger = o.merger;
+    Made {
+        answer,
+        words: o.words,
+        site,
+        merger,
+    }
+}
+
+fn of_copy(answer: Answer, site: Site, merger: Merger) -> Made {
+    Made {
+        answer,
+        words: 0,
+        site,
+        merger,
+    }
+}
+
+// A step's call, with its site and the merger. The words of m are what it takes.
+pub fn make(
+    step: u64,
+    v: Save,
+    s: Site,
+    g: Merger,
+    base: &mut [u64],
+    lists: &mut [u64],
+    queues: &mut [u64; QUEUES],
+    copy: &mut [u64; COPY],
+    m: &[u64],
+    out: &mut [u64; OUTGOING],
+) -> Made {
+    let who = called_by(step);
+    if who == AT_SITE {
+        let o = at_site(step, v, s, base, lists, m, out);
+        return of_site(o, g);
+    }
+    if who == AT_MERGER {
+        let o = at_merger(step, g, queues, m, out);
+        return of_merger(o, s);
+    }
+    of_copy(at_copy(step, v, copy, m), s, g)
+}
+
+// The first half of the words, or the second.
+pub fn half(words: &mut [u64], i: usize) -> &mut [u64] {
+    let n = words.len() / 2;
+    if i == 0 {
+        return &mut words[0..n];
+    }
+    &mut words[n..]
+}

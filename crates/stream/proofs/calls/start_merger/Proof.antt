@@ -1,0 +1,14 @@
+-- The merger is what its start hands back.
+use borrow.Author.Needs.{needs}
+use mathlib.Core.Path.{ap}
+use Rattle.stream.proofs.calls.start_merger.Statement.{statement}
+use Rattle.stream.proofs.calls.start_merger.Tie as tie
+
+start-requires : tie.Need-start-requires
+start-requires c κs = search needs
+
+returns : tie.Need-returns
+returns c = ap (λ o. o .merger) (c .before .start .ensures .0)
+
+pub start-merger-spec : {M : Type 1} → statement M
+start-merger-spec = tie.close (tie.spec start-requires returns)

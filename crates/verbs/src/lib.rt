@@ -1,0 +1,146 @@
+// Lines of a probe: a verb and up to four numbers. Any other line is a remark.
+pub mod verb;
+
+use lines::Scan;
+
+// Whom a line is for.
+pub const NOBODY: u64 = 0;
+
+pub const SITE: u64 = 1;
+
+pub const MERGER: u64 = 2;
+
+pub const COPY: u64 = 3;
+
+pub const HAND: u64 = 4;
+
+pub const LENT: u64 = 5;
+
+pub const HOUSE: u64 = 6;
+
+pub struct Line {
+    pub group: u64,
+    pub verb: u64,
+    pub a: u64,
+    pub b: u64,
+    pub c: u64,
+    pub d: u64,
+}
+
+pub fn remark() -> Line {
+    Line {
+        group: NOBODY,
+        verb: 0,
+        a: 0,
+        b: 0,
+        c: 0,
+        d: 0,
+    }
+}
+
+// Whom a verb with no number is for.
+fn none(v: u64) -> u64 {
+    match v {
+        verb::MERGE => MERGER,
+        verb::EMIT => MERGER,
+        _ => NOBODY,
+    }
+}
+
+// Whom a verb with one number is for.
+fn one(v: u64) -> u64 {
+    match v {
+        verb::HOUSE => HOUSE,
+        verb::ROOM => LENT,
+        verb::BASE => LENT,
+        verb::LISTS => LENT,
+        verb::QUEUES => LENT,
+        verb::COPIES => LENT,
+        verb::BEGIN => SITE,
+        verb::MESSAGE => SITE,
+        verb::INSTALL => SITE,
+        verb::REPORT => SITE,
+        verb::OPEN => MERGER,
+        verb::MERGER => MERGER,
+        verb::REPLAY => COPY,
+        verb::BLANK => COPY,
+        verb::CUT => HAND,
+        _ => NOBODY,
+    }
+}
+
+// Whom a verb with two numbers is for.
+fn two(v: u64) -> u64 {
+    match v {
+        verb::COMMIT => SITE,
+        verb::ABANDON => SITE,
+        verb::VALUE => COPY,
+        verb::RECORD => HAND,
+        verb::WORD => HAND,
+        _ => NOBODY,
+    }
+}
+
+// Whom a verb with three numbers is for.
+fn three(v: u64) -> u64 {
+    match v {
+        verb::ENLIST => SITE,
+        verb::READ => SITE,
+        verb::START => SITE,
+        verb::SITE => SITE,
+        verb::SOURCE => MERGER,
+        verb::QUEUED => MERGER,
+        verb::COPIED => COPY,
+        verb::LETTER => HAND,
+        verb::WRITES => HAND,
+        _ => NOBODY,
+    }
+}
+
+// Whom a verb with four numbers is for.
+fn four(v: u64) -> u64 {
+    match v {
+        verb::WRITE => SITE,
+        verb::LIVE => SITE,
+        verb::PAST => SITE,
+        verb::HEAD => HAND,
+        verb::ENTRIES => HAND,
+        verb::FORM => HAND,
+        _ => NOBODY,
+    }
+}
+
+// The line that a scan has read.
+pub fn told(s: Scan) -> Line {
+    let n = s.ended;
+    if s.begun == 0 {
+        return remark();
+    }
+    if n == 0 {
+        return made(none(s.word), s.word, 0, 0, 0, 0);
+    }
+    if n == 1 {
+        return made(one(s.back1), s.back1, s.word, 0, 0, 0);
+    }
+    if n == 2 {
+        return made(two(s.back2), s.back2, s.back1, s.word, 0, 0);
+    }
+    if n == 3 {
+        return made(three(s.back3), s.back3, s.back2, s.back1, s.word, 0);
+    }
+    if n == 4 {
+        return made(four(s.back4), s.back4, s.back3, s.back2, s.back1, s.word);
+    }
+    remark()
+}
+
+fn made(group: u64, verb: u64, a: u64, b: u64, c: u64, d: u64) -> Line {
+    Line {
+        group,
+        verb,
+        a,
+        b,
+        c,
+        d,
+    }
+}
