@@ -1,11 +1,11 @@
 // The lines that no site takes part in: those of the merger, and of the copies that its stream goes to.
-mod calls;
+mod asked;
 
-pub use calls::HELD;
-use calls::at_copy;
-use calls::at_merger;
-pub use calls::start_copies;
-pub use calls::start_merger;
+pub use asked::HELD;
+use asked::at_copy;
+use asked::at_merger;
+pub use asked::start_copies;
+pub use asked::start_merger;
 use desk::Ask;
 use desk::COPIES;
 use desk::next_ask;

@@ -1,8 +1,8 @@
 -- The merger is what its start hands back.
 use borrow.Author.Needs.{needs}
 use mathlib.Core.Path.{ap}
-use Rattle.stream.proofs.calls.start_merger.Statement.{statement}
-use Rattle.stream.proofs.calls.start_merger.Tie as tie
+use Rattle.stream.proofs.asked.start_merger.Statement.{statement}
+use Rattle.stream.proofs.asked.start_merger.Tie as tie
 
 start-requires : tie.Need-start-requires
 start-requires c κs = search needs

@@ -3,8 +3,8 @@ use Prim.Native.Nat.{_-_, _≤_}
 use borrow.Author.Needs.{needs}
 use lib.ListN.{length}
 use mathlib.Core.Path.{_≡_}
-use Rattle.stream.proofs.calls.start_copies.Statement.{statement}
-use Rattle.stream.proofs.calls.start_copies.Tie as tie
+use Rattle.stream.proofs.asked.start_copies.Statement.{statement}
+use Rattle.stream.proofs.asked.start_copies.Tie as tie
 
 abbrev Inv-loop : tie.InvT-loop
 Inv-loop held₀ i₀ held i = (i ≤ 8) × (length held ≡ 16400)
