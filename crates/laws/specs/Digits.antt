@@ -1,8 +1,7 @@
 -- Binary digits of a number, as the places of a mask: their count is the number of ones, and `|` unites them.
 use Prim.Native.Nat.{ℕ, zero, suc, _+_, _*_, _/_, _%_, _^_, _≤_, _<_, max}
-use mathlib.Core.Path.{_≡_, refl, ap, sym, _∙_}
-use mathlib.Core.Logic.{⊎-elim}
-use native.Mathlib.Nat.{pow-suc, pow-le-pow-right, mod-eq-of-lt, div-div-eq-div-mul, mul-comm, mod-lt, eq-or-lt-of-le, div-lt-iff-lt-mul}
+use mathlib.Core.Path.{_≡_, ap, sym, _∙_}
+use native.Mathlib.Nat.{pow-suc, pow-le-pow-right, mod-eq-of-lt, div-div-eq-div-mul, mul-comm, mod-lt, div-lt-iff-lt-mul}
 use native.Mathlib.Omega.{arith}
 use lib.Dec.{lit<}
 use lib.Bits.{bitOr, or-step, or-shr}
@@ -38,11 +37,6 @@ ones-below (suc k) mask h =
 
 pub digit-or : (a b s : ℕ) → digit (bitOr a b) s ≡ max (digit a s) (digit b s)
 digit-or a b s = rw (or-shr, or-step) (omega (arith, digit-le a s, digit-le b s))
-
-pub ones-le : (mask k m : ℕ) → k ≤ m → onesBelow mask k ≤ onesBelow mask m
-unfolding onesBelow
-ones-le mask k zero h = let z : k ≡ 0 = omega arith in rw z (omega arith)
-ones-le mask k (suc m) h = ⊎-elim (λ (q : k ≡ suc m). rw q (omega arith)) (λ (l : k < suc m). omega (arith, ones-le mask k m (omega arith))) (eq-or-lt-of-le h)
 
 -- k digits have at most k ones
 pub ones-most : (mask k : ℕ) → onesBelow mask k ≤ k

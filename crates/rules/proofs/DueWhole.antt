@@ -2,7 +2,7 @@
 use Prim.Native.Nat.{ℕ, _+_, _≤_, _<_}
 use mathlib.Core.Path.{_≡_, refl, sym, ap, _∙_}
 use mathlib.Core.Bool.{true, false}
-use mathlib.Core.Logic.{_⊎_, inl, inr, ⊎-elim}
+use mathlib.Core.Logic.{inl, inr, ⊎-elim}
 use mathlib.Core.List.{List, [], _∷_}
 use native.Mathlib.Omega.{arith}
 use lib.Dec.{eqb, ltb}
@@ -19,7 +19,6 @@ use Rattle.rules.specs.Merger.{sourceAt, headsOf, headIn, hasPart, isDue
 use Rattle.rules.specs.MergerLaws.{LeastOf, IsDue, WholeAt, HasPart, has-part, part-had, least-is, is-due, parts-whole}
 use Rattle.rules.specs.World.{World, step, mergerStep}
 use Rattle.rules.specs.Progress.{DueIsWhole}
-use Rattle.rules.proofs.Protocol.{Protocol}
 use Rattle.rules.proofs.Frames.{unset, set-not}
 use Rattle.rules.proofs.Ascends.{Ascends}
 use Rattle.rules.proofs.Refines.{partHeadOf}
@@ -46,9 +45,6 @@ due-other g heads least f =
     (λ d. rw d (λ e. omega arith))
 
 module _ {sites : ℕ} {w : World} {v : Stream} (x : StreamIs sites w v) (z : Standing sites v) (a : Ascends (v .protocol)) where
-  abbrev p : Protocol
-  p = v .protocol
-
   abbrev m : stream.Merger
   m = v .merger
 

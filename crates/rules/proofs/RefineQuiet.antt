@@ -1,5 +1,5 @@
 -- Messages taken without a reply: JOINED, COMMIT, ABORT, a yes that is not the last, and any for a transaction not held.
-use Prim.Native.Nat.{ℕ, _-_, _≤_, max}
+use Prim.Native.Nat.{ℕ, _≤_, max}
 use mathlib.Core.Path.{_≡_, refl, sym, ap, _∙_}
 use mathlib.Core.Bool.{true}
 use mathlib.Core.List.{List, []}

@@ -1,23 +1,20 @@
--- A list of calls, as steps: each call moves the machine on, so what holds of the machine after any steps holds after any list.
-use Prim.Native.Nat.{ℕ, _≤_, _<_}
-use mathlib.Core.Path.{_≡_, refl, sym, ap, _∙_}
-use mathlib.Core.List.{List, [], _∷_, _++_, append-nil, append-assoc}
-use Rattle.kinds.specs.Sizes as sizes
+-- Each call of the list moves the whole machine on: the protocol, the merger and the copies.
+use Prim.Native.Nat.{ℕ}
+use mathlib.Core.Path.{refl}
+use mathlib.Core.List.{List}
 use Rattle.kinds.specs.State.{Value}
 use Rattle.rules.specs.Effect.{Effect}
-use Rattle.rules.specs.World.{World, Call, Handed, Lawful, step, siteStep, logStep, run, freshWorld}
+use Rattle.rules.specs.World.{World, Call, Handed, step, siteStep, logStep}
 use Rattle.rules.specs.World as world
 use Rattle.rules.specs.Book.{Fact}
 use Rattle.rules.proofs.RefineStep.{Follows, toldBy}
 use Rattle.rules.proofs.RefineCalls.{call-moves}
-use Rattle.rules.proofs.Stream.{Stream, Steps, stop, more, freshStream}
-use Rattle.rules.proofs.Told.{toldStep, toldSteps}
-use Rattle.rules.proofs.StreamReached.{Standing, standing-steps, standing-fresh}
+use Rattle.rules.proofs.Stream.{Stream}
+use Rattle.rules.proofs.StreamReached.{Standing}
 use Rattle.rules.proofs.RefineMerger.{StreamIs, Onward, site-onward}
 use Rattle.rules.proofs.RefineMerge.{merge-onward}
 use Rattle.rules.proofs.RefineEmit.{emit-onward}
 use Rattle.rules.proofs.RefineReplay.{replay-onward, value-onward}
-use Rattle.rules.proofs.RefineCopies.{stream-fresh, CopyStands, copy-stands}
 
 module _ {sites : ℕ} {w : World} {v : Stream} (x : StreamIs sites w v) where
   site-call : {fs : List Fact} (s : ℕ) (e : Effect) (base : List Value) (lists : List ℕ) → Follows sites (v .protocol) (siteStep w s e base lists .world) fs
@@ -44,34 +41,3 @@ module _ {sites : ℕ} {w : World} {v : Stream} (x : StreamIs sites w v) where
   call-onward z (world.emit out) h = emit-onward x z out
   call-onward z (world.replay c m) h = replay-onward x z c m h
   call-onward z (world.value c k) h = value-onward x z c k
-
-joined : {sites : ℕ} {u v w : Stream} → Steps sites u v → Steps sites v w → Steps sites u w
-joined a stop = a
-joined a (more b s) = more (joined a b) s
-
-told-joined : {sites : ℕ} {u v w : Stream} (a : Steps sites u v) (b : Steps sites v w) → toldSteps (joined a b) ≡ toldSteps a ++ toldSteps b
-unfolding joined
-told-joined a stop = sym (append-nil (toldSteps a))
-told-joined a (more b s) = ap (λ (l : List Fact). l ++ toldStep s) (told-joined a b) ∙ append-assoc (toldSteps a) (toldSteps b) (toldStep s)
-
--- what a list of calls tells, from a world on: the book without the replays
-unfoldable pub toldFrom : World → List Call → List Fact
-toldFrom w [] = []
-toldFrom w (c ∷ cs) = toldBy c (step w c .answer) (step w c .words) ++ toldFrom (step w c .world) cs
-
-pub run-onward : {sites : ℕ} → sites ≤ 8 → (calls : List Call) {w : World} {v : Stream} → StreamIs sites w v → Standing sites v → Lawful w calls
-    → Onward sites v (run w calls) (toldFrom w calls)
-unfolding run toldFrom
-run-onward few [] x z h = (_, stop, refl, x)
-run-onward few (c ∷ calls) x z (h, hs) =
-    let (u, a, e, y) = call-onward x z c h in
-    let (t, b, f, i) = run-onward few calls y (standing-steps few a z) hs in
-    (t, joined a b, told-joined a b ∙ (λ i. e i ++ f i), i)
-
--- (A) after any list, but for the book: each copy answers what the committed up to its pair leave
-pub run-copies : (sites : ℕ) → 1 ≤ sites → sites ≤ 8 → (calls : List Call) → Lawful (freshWorld sites) calls
-    → (v : Stream) × (ss : Steps sites freshStream v) × (toldSteps ss ≡ toldFrom (freshWorld sites) calls) × StreamIs sites (run (freshWorld sites) calls) v
-    × ((c k : ℕ) → k < sizes.keys → CopyStands sites (v .protocol) (run (freshWorld sites) calls .copy c) k)
-run-copies sites some few calls h =
-    let (v, a, t, x) = run-onward few calls (stream-fresh sites some few) (standing-fresh sites) h in
-    (v, a, t, x, copy-stands x (standing-steps few a (standing-fresh sites)))

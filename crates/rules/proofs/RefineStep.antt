@@ -1,5 +1,5 @@
 -- A call's world against the protocol after its moves: what a refusal leaves, and what a call leaves at its own site and elsewhere.
-use Prim.Native.Nat.{ℕ, _+_, _-_, _≤_}
+use Prim.Native.Nat.{ℕ, _+_, _≤_}
 use mathlib.Core.Path.{_≡_, refl, sym, ap, _∙_}
 use mathlib.Core.Bool.{true, false}
 use mathlib.Core.List.{List, [], _++_, map, append-nil}

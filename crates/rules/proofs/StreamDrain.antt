@@ -1,6 +1,6 @@
 -- A drained house: the merger has taken every log, and each has a state at or above n. What is committed up to n is installed at its
 -- coordinator, since a state stands below what comes behind it; so it was emitted, or is queued there behind a head not above it.
-use Prim.Native.Nat.{ℕ, zero, suc, _+_, _≤_, _<_}
+use Prim.Native.Nat.{ℕ, zero, suc, _≤_, _<_}
 use mathlib.Core.Path.{_≡_, refl, ap, _∙_}
 use mathlib.Core.Bool.{true}
 use mathlib.Core.Logic.{_⊎_, inl, inr, ⊎-elim}

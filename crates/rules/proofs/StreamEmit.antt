@@ -86,9 +86,6 @@ module _ {sites : ℕ} (low : sites ≤ 8) {p : Protocol} {m : Merger} (inv : In
   g-low : coordinatorOf (g .tx) ≤ 8
   g-low = low-coordinator low (inv .parts) (d .site) (g .tx) (real .has)
 
-  g-positive : 0 < g .number
-  g-positive = rw (real .number) (real .committed)
-
   -- M2: every clock is at or above g
   clocks : (s : ℕ) → 1 ≤ s → s ≤ sites → g .number ≤ p .clock s
   clocks s l h = go (m .queue s) refl (d .due s l h)

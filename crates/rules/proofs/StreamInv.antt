@@ -145,12 +145,6 @@ module _ {sites : ℕ} {p : Protocol} {m : Merger} (inv : Invariant sites p) (i 
       rw (inst-split s h)
       (omega (arith, length-append (gone s) (m .queue s ++ partsOf (rest s))), List·getD-append (gone s) (m .queue s ++ partsOf (rest s)) pastEntry j l)
 
-  later-at : (s j : ℕ) → 1 ≤ s → j < length (m .queue s ++ partsOf (rest s))
-      → (length (gone s) + j < length (inst p s)) × (at p s (length (gone s) + j) ≡ getD (m .queue s ++ partsOf (rest s)) j pastEntry)
-  later-at s j h l =
-      rw (inst-split s h)
-      (omega (arith, length-append (gone s) (m .queue s ++ partsOf (rest s))), getD-append-add (gone s) (m .queue s ++ partsOf (rest s)) j pastEntry)
-
   -- the head of a queue
   pub head-at : (s : ℕ) (e : Entry) (l : List Entry) → 1 ≤ s → m .queue s ≡ e ∷ l → (length (gone s) < length (inst p s)) × (at p s (length (gone s)) ≡ e)
   head-at s e l h q = rw (inst-split s h, q) (omega (arith, length-append (gone s) (e ∷ (l ++ partsOf (rest s)))), getD-append-seam (gone s) e (l ++ partsOf (rest s)) pastEntry)

@@ -59,6 +59,3 @@ standing-fresh sites = record { invariant = invariant-fresh sites; streamed = st
 pub standing-steps : {sites : ℕ} {v w : Stream} → sites ≤ 8 → Steps sites v w → Standing sites v → Standing sites w
 standing-steps h stop i = i
 standing-steps h (more ss s) i = standing-step h s (standing-steps h ss i)
-
-pub standing : {sites : ℕ} {w : Stream} → sites ≤ 8 → Steps sites freshStream w → Standing sites w
-standing {sites} h s = standing-steps h s (standing-fresh sites)

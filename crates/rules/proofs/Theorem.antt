@@ -1,6 +1,5 @@
 -- Demand 3, proved: any lawful list from a fresh house leads to a machine whose tables the book has, and so to the claims.
 use Prim.Native.Nat.{ℕ, _≤_}
-use mathlib.Core.Path.{_≡_}
 use mathlib.Core.List.{List, [], _∷_, _++_, append-assoc, append-nil}
 use Rattle.kinds.specs.declared.Answer.{Answer}
 use Rattle.rules.specs.World.{World, Call, Lawful, step, run, freshWorld}

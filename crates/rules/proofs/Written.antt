@@ -1,6 +1,6 @@
 -- What a site writes into its log, as words: each record passes its check, and a state is not below the states before it. For the state
 -- number is the clock, an open mark, or a decided number less 1, and none of these is below a state that the log has.
-use Prim.Native.Nat.{ℕ, _+_, _-_, _≤_, _<_}
+use Prim.Native.Nat.{ℕ, _≤_, _<_}
 use mathlib.Core.Path.{_≡_, refl, sym, ap, _∙_}
 use mathlib.Core.Bool.{true}
 use mathlib.Core.Logic.{_⊎_, inl, inr}

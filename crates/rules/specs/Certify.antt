@@ -1,9 +1,8 @@
 -- 01, course 5 to 8: the list of concurrent transactions that a site makes, and its vote on a joined list.
-use Prim.Native.Nat.{ℕ, zero, suc, _+_, _-_, _*_, _≤_, _<_}
+use Prim.Native.Nat.{ℕ, _+_, _-_}
 use mathlib.Core.List.{List, [], _∷_, _++_}
-use mathlib.Core.Bool.{Bool, true, false, not}
-use lib.ListN.{length}
-use lib.Dec.{ltb, leb, eqb}
+use mathlib.Core.Bool.{Bool, not}
+use lib.Dec.{ltb, eqb}
 use Rattle.laws.specs.Choice.{pick, every, some}
 use Rattle.laws.specs.Scan.{anyBelow, foldBelow}
 use Rattle.kinds.specs.Sizes as sizes

@@ -1,7 +1,7 @@
 -- 01, course 4 to 9, at the coordinator: the commit request and abandon.
-use Prim.Native.Nat.{ℕ, _+_, _*_, _≤_, _<_}
+use Prim.Native.Nat.{ℕ, _*_}
 use mathlib.Core.List.{List, [], _∷_}
-use mathlib.Core.Bool.{Bool, true, false, not}
+use mathlib.Core.Bool.{Bool, true, not}
 use lib.ListN.{length}
 use lib.Dec.{ltb, leb, eqb}
 use Rattle.laws.specs.Choice.{pick}
@@ -10,14 +10,12 @@ use Rattle.laws.specs.Overlay.{putAt}
 use Rattle.kinds.specs.Sizes as sizes
 use Rattle.kinds.specs.Stage as stage
 use Rattle.kinds.specs.Reason as reason
-use Rattle.kinds.specs.declared.Course.{Course}
-use Rattle.kinds.specs.declared.Sub.{Sub}
 use Rattle.kinds.specs.declared.Site.{Site}
 use Rattle.kinds.specs.State.{subAt}
 use Rattle.rules.specs.House.{coordinatorOf}
 use Rattle.rules.specs.Message.{entryCount}
 use Rattle.rules.specs.Send.{countsLow}
-use Rattle.rules.specs.Live.{placeOf, stageAt, allHeard}
+use Rattle.rules.specs.Live.{placeOf, allHeard}
 use Rattle.rules.specs.History.{isForgotten}
 use Rattle.rules.specs.Join.{joined}
 use Rattle.rules.specs.Certify.{concurrent, voteOf}

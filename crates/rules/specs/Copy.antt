@@ -1,12 +1,12 @@
 -- 01, "Merger and copy": a copy is words: its last number, its last coordinator, then the value of each key.
-use Prim.Native.Nat.{ℕ, _+_, _*_, _≤_, _<_}
+use Prim.Native.Nat.{ℕ, _+_}
 use mathlib.Core.List.{List, [], _∷_}
-use mathlib.Core.Bool.{Bool, true, false, not}
+use mathlib.Core.Bool.{not}
 use lib.ListN.{length, getD, set, replicate}
-use lib.Dec.{ltb, leb, eqb}
+use lib.Dec.{leb, eqb}
 use Rattle.laws.specs.Choice.{pick}
 use Rattle.laws.specs.Scan.{foldBelow}
-use Rattle.laws.specs.Cause.{Cause, cause, codeOf}
+use Rattle.laws.specs.Cause.{cause, codeOf}
 use Rattle.laws.specs.Pair.{precedes}
 use Rattle.kinds.specs.Sizes as sizes
 use Rattle.kinds.specs.Reason as reason

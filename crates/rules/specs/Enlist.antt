@@ -1,7 +1,7 @@
 -- 01, course 2: enlist, at the coordinator, adds a site and sends JOIN.
-use Prim.Native.Nat.{ℕ, _≤_, _<_}
+use Prim.Native.Nat.{ℕ}
 use mathlib.Core.List.{List, [], _∷_}
-use mathlib.Core.Bool.{Bool, true, false, not}
+use mathlib.Core.Bool.{Bool, not}
 use lib.Dec.{ltb, leb, eqb}
 use Rattle.laws.specs.Cause.{Cause, cause, codeOf}
 use Rattle.kinds.specs.Sizes as sizes
@@ -10,7 +10,7 @@ use Rattle.kinds.specs.Reason as reason
 use Rattle.kinds.specs.declared.Site.{Site}
 use Rattle.kinds.specs.State.{subAt}
 use Rattle.rules.specs.House.{isSite, inMask, coordinatorOf}
-use Rattle.rules.specs.Live.{placeOf, stageAt}
+use Rattle.rules.specs.Live.{placeOf}
 use Rattle.rules.specs.Valid.{siteOk}
 use Rattle.rules.specs.Effect.{Effect, turnAt, changed, unless}
 use Rattle.rules.specs.Course.{channelSpent, enlistStep}

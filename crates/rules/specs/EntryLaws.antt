@@ -172,9 +172,6 @@ pub in-digit : (m r : ℕ) → 1 ≤ digit m (r - 1) → inMask m r ≡ true
 unfolding inMask
 in-digit m r h = eq-eqb (digit m (r - 1)) 1 (omega (arith, digit-le m (r - 1)))
 
-one : (m : ℕ) → m ≤ 1 → 1 ≤ m → m ≡ 1
-one m h l = omega arith
-
 module _ (es : List ℕ) (n : ℕ) where
   -- the join lists what the entries hold
   pub joined-lists : (t m : ℕ) (d : Bool) → n ≡ entryCount es → Marks es → 0 < t → Holds es t m (markOf d) → Listing (joined es n) t m d

@@ -1,12 +1,12 @@
 -- 01, "Merger and copy": the merger queues each site's parts and emits the due record.
-use Prim.Native.Nat.{ℕ, _+_, _-_, _*_, _/_, _≤_, _<_}
+use Prim.Native.Nat.{ℕ, _+_, _-_, _*_, _/_}
 use mathlib.Core.List.{List, [], _∷_, _++_}
-use mathlib.Core.Bool.{Bool, true, false, not}
+use mathlib.Core.Bool.{Bool, true, not}
 use lib.ListN.{length, getD, set, take, drop, replicate}
 use lib.Dec.{ltb, leb, eqb}
 use Rattle.laws.specs.Choice.{pick, every, some}
 use Rattle.laws.specs.Scan.{allBelow, foldBelow}
-use Rattle.laws.specs.Cause.{Cause, cause, codeOf}
+use Rattle.laws.specs.Cause.{cause, codeOf}
 use Rattle.laws.specs.Overlay.{putAt}
 use Rattle.laws.specs.Pair.{precedes}
 use Rattle.kinds.specs.Sizes as sizes

@@ -8,20 +8,19 @@ use mathlib.Core.Bool.{Bool, true}
 use mathlib.Core.List.{List, [], _++_, _∷_}
 use mathlib.Core.Path.{_∙_, _≡_, ap, refl, sym}
 use native.Mathlib.Omega.{arith}
-use Rattle.kinds.specs.declared.Answer.the-variants.{Emitted, Refused}
+use Rattle.kinds.specs.declared.Answer.the-variants.{Emitted}
 use Rattle.kinds.specs.declared.House.{House}
 use Rattle.kinds.specs.declared.Merger.{Merger}
 use Rattle.kinds.specs.declared.RecordHead.{RecordHead}
 use Rattle.laws.specs.Choice.{by-test, every, every-at}
 use Rattle.laws.specs.Scan.{all-below, all-below-at, allBelow, foldBelow, split-last}
 use Rattle.rules.specs.House.{coordinatorOf, inMask, isMask, isSite, isTx, serialOf, siteOf, wholeHouse}
-use Rattle.rules.specs.Merger.{Merging, dueCode, dueHead, emitCode, emitDue, emitOf, headAt, headIn, headsOf, joinedWrites, leastSite, mergeCode, mergeOf, mergePart, mergePartCode, mergeState, mergeStateCode, mergedHead, mergedWords, noHead, partWrites, placeWords, popMerger, popQueues, queuedPart, sourceAt, writesIn}
+use Rattle.rules.specs.Merger.{Merging, dueCode, dueHead, emitCode, emitDue, emitOf, headAt, headIn, headsOf, joinedWrites, leastSite, mergedHead, mergedWords, noHead, partWrites, placeWords, popMerger, popQueues, queuedPart, writesIn}
 use Rattle.rules.specs.MergerClear.{MergerClear, QueuedClear, emit-clear, part-long}
 use Rattle.rules.specs.MergerLaws.{IsDue, LeastOf, Queued, WholeAt, due-clear, due-queued, is-due, least-is, queued-fits, whole-parts}
 use Rattle.rules.specs.MergerWords.{HeadFits, HeadsFit, head-fits, joined-writes, part-writes}
 use Rattle.rules.specs.Record.{GoodMerged, keyAscends, mergedHeadOk, mergedOk, mergedWriteOk, pairOk, partHeadOk, partHeadTests, partOk, partWriteOk, recordHead, recordWrites, writeKey}
 use Rattle.rules.specs.RecordLaws.{head-back, merged-written-passes, pair-clear, part-passed-good, writes-back}
-use Rattle.kinds.specs.Kind as kind
 use Rattle.kinds.specs.Sizes as sizes
 use Rattle.kinds.specs.Word as word
 use native.Mathlib.Nat.{pow-le-pow-right}
@@ -292,34 +291,3 @@ emits g room queues a b t e =
     }))
     (λ y. absurd (let z = rw (x, y) at e in let v : _≡_ {A = ℕ} 0 1 = cc in omega arith)))
     (λ x. absurd (let z = rw x at e in let v : _≡_ {A = ℕ} 0 1 = cc in omega arith))
-
--- A refused call alters nothing.
-pub record Unaltered (g : Merger) (queues : List ℕ) (e : Merging) : Type 0 where
-  pub merger : e .merger ≡ g
-  pub queues-same : e .queues ≡ queues
-  pub words : e .words ≡ []
-
-pub emit-refused : (g : Merger) (room : ℕ) (queues : List ℕ) (n : ℕ) → emitOf g room queues .answer ≡ Refused n
-    → Unaltered g queues (emitOf g room queues)
-unfolding emitOf emitDue
-emit-refused g room queues n e =
-    by-test (eqb (emitCode g queues room) 0)
-    (λ x. by-test (eqb (dueCode g (headsOf queues (g .house .sites)) (leastSite g queues)) 0)
-    (λ y. absurd (let z = rw (x, y) at e in let v : _≡_ {A = ℕ} 0 1 = cc in omega arith))
-    (λ y. rw (x, y) (record { merger = refl; queues-same = refl; words = refl })))
-    (λ x. rw x (record { merger = refl; queues-same = refl; words = refl }))
-
-pub merge-refused : (g : Merger) (queues m : List ℕ) (n : ℕ) → mergeOf g queues m .answer ≡ Refused n → Unaltered g queues (mergeOf g queues m)
-unfolding mergeOf mergePart mergeState
-merge-refused g queues m n e =
-    let r = recordHead m in
-    let c = sourceAt g (r .site - 1) in
-    by-test (eqb (mergeCode g queues m) 0)
-    (λ x. by-test (eqb (r .kind) kind.part)
-    (λ k. by-test (eqb (mergePartCode c r) 0)
-    (λ y. absurd (let z = rw (x, k, y) at e in let v : _≡_ {A = ℕ} 0 1 = cc in omega arith))
-    (λ y. rw (x, k, y) (record { merger = refl; queues-same = refl; words = refl })))
-    (λ k. by-test (eqb (mergeStateCode c r) 0)
-    (λ y. absurd (let z = rw (x, k, y) at e in let v : _≡_ {A = ℕ} 0 1 = cc in omega arith))
-    (λ y. rw (x, k, y) (record { merger = refl; queues-same = refl; words = refl }))))
-    (λ x. rw x (record { merger = refl; queues-same = refl; words = refl }))
