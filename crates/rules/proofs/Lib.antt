@@ -36,7 +36,6 @@ pub mod RefineMail
 pub mod RefineTurn
 pub mod RefineEnlist
 pub mod RefineLog
-pub mod RefineOther
 pub mod Stream
 pub mod Told
 pub mod Booked
@@ -63,7 +62,6 @@ pub mod RefineLaid
 pub mod RefineReplay
 pub mod RefineCopies
 pub mod RefineGather
-pub mod RefineRun
 pub mod RefineConc
 pub mod RefineMessage
 pub mod RefineHanded

@@ -32,7 +32,7 @@ use Rattle.rules.proofs.Stream.{Stream, freshStream}
 use Rattle.rules.proofs.StreamReached.{Standing, standing-steps, standing-fresh}
 use Rattle.rules.proofs.RefineMerger.{StreamIs}
 use Rattle.rules.proofs.RefineCopies.{stream-fresh}
-use Rattle.rules.proofs.RefineRun.{call-onward}
+use Rattle.rules.proofs.RefineCalls.{call-onward}
 use Rattle.rules.proofs.Phases.{Phases}
 use Rattle.rules.proofs.StepPhases.{phases-fresh, phases-steps}
 use Rattle.rules.proofs.Spoken.{Known}

@@ -18,7 +18,7 @@ use Rattle.rules.proofs.Stream.{Stream, Steps, freshStream}
 use Rattle.rules.proofs.StreamReached.{Standing, standing-steps, standing-fresh}
 use Rattle.rules.proofs.RefineMerger.{StreamIs}
 use Rattle.rules.proofs.RefineCopies.{stream-fresh}
-use Rattle.rules.proofs.RefineRun.{call-onward}
+use Rattle.rules.proofs.RefineCalls.{call-onward}
 use Rattle.rules.proofs.Told.{toldSteps}
 use Rattle.rules.proofs.Theorem.{told-facts}
 use Rattle.rules.proofs.MovesTold.{WritesOnce, writes-fresh, writes-steps, installs-steps, stays-steps}

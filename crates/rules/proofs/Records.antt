@@ -29,7 +29,7 @@ use Rattle.rules.proofs.StreamNext.{Lasts, lasts-fresh, lasts-steps}
 use Rattle.rules.proofs.StreamDrain.{DrainedAt, rank-index}
 use Rattle.rules.proofs.RefineMerger.{itemWords, StreamIs, item-head, map-at}
 use Rattle.rules.proofs.RefineCopies.{stream-fresh}
-use Rattle.rules.proofs.RefineRun.{call-onward}
+use Rattle.rules.proofs.RefineCalls.{call-onward}
 use Rattle.rules.proofs.BookLists.{is-kept}
 use Rattle.rules.proofs.Booked.{Booked}
 use Rattle.rules.proofs.BookMove.{booked-steps, booked-fresh}

@@ -22,8 +22,8 @@ use Rattle.kinds.specs.declared.Answer.the-variants.{Emitted}
 use Rattle.rules.specs.House.{coordinatorOf, inMask, siteOf}
 use Rattle.rules.specs.Keys.{sortedKey, sortedCount}
 use Rattle.rules.specs.KeysLaws.{word-key}
-use Rattle.rules.specs.Record.{recordWords, recordHead, recordWrites, writeKey, keyAscends, partWriteOk}
-use Rattle.rules.specs.RecordLaws.{writes-back, part-passed-good, merged-passed-words}
+use Rattle.rules.specs.Record.{recordWords, recordHead, recordWrites, writeKey, keyAscends, partWriteOk, mergedTests, mergedOk}
+use Rattle.rules.specs.RecordLaws.{writes-back, part-passed-good, merged-clear, merged-passed-good, merged-passed-words}
 use Rattle.rules.specs.Merger.{Merging, refusedMerger, sourceAt, popSource, queuedPart, headsOf, headIn, hasPart, dueHead, leastSite, dueCode, partWrites, joinedWrites, writesIn, mergedHead, popMerger, popMergerAt, popQueues, emitDue, emitCode, emitOf}
 use Rattle.rules.specs.MergerLaws.{HasPart, has-part, part-had}
 use Rattle.rules.specs.MergerJoin.{Emits, emits, heads-at, head-part}
@@ -31,13 +31,12 @@ use Rattle.rules.specs.MergerKept.{Holds, emit-kept, popped-source}
 use Rattle.rules.specs.MergerWords.{popped-place, kept-place}
 use Rattle.rules.specs.World.{World, step, mergerStep, recordIn}
 use Rattle.rules.specs.World as world
-use Rattle.rules.proofs.Tables.{all-append, all-one}
+use Rattle.rules.proofs.Tables.{All, a-nil, all-append, all-one}
 use Rattle.rules.proofs.Protocol.{Protocol}
 use Rattle.rules.proofs.Invariants.{In}
 use Rattle.rules.proofs.Frames.{set-not}
 use Rattle.rules.proofs.Committed.{low-coordinator, committed-asked}
-use Rattle.rules.proofs.Refines.{entryWords, partHeadOf, Refines}
-use Rattle.rules.proofs.RefineOther.{emit-moves}
+use Rattle.rules.proofs.Refines.{IsRecord, entryWords, partHeadOf, Refines}
 use Rattle.rules.proofs.Stream as stream
 use Rattle.rules.proofs.Stream.{Item, Stream, rankOf, DueAt, WholeAt, headKeys, behindHead, itemOf, emitted}
 use Rattle.rules.proofs.StreamInv.{head-real}
@@ -56,6 +55,12 @@ emit-cases g room queues =
     inr (emits g room queues (h .number) (h .coordinator) (h .tx) z))
     (λ y. inl (dueCode g heads (leastSite g queues), rw (x, y))))
     (λ x. inl (emitCode g queues room, rw x))
+
+-- what is emitted is a record
+merged-record : (m : List ℕ) → mergedOk m ≡ true → All IsRecord (recordIn m)
+unfolding mergedOk recordHead
+merged-record [] e = a-nil
+merged-record (n ∷ m) e = all-one (every-at (mergedTests (n ∷ m)) 0 e, omega (arith, merged-clear (recordHead (n ∷ m)) (merged-passed-good (n ∷ m) e .head) .kind))
 
 -- The house and the places after it.
 pop-house : (g : Merger) (mask n : ℕ) → popMerger g mask n .house ≡ g .house
@@ -343,5 +348,5 @@ module _ {sites : ℕ} {w : World} {v : Stream} (x : StreamIs sites w v) (z : St
           some (e ∷ u) q =
               let r = x .refines in
               emit-to d e u q
-              (record { few = r .few; site = r .site; outside = r .outside; sent = r .sent; log = r .log; stream = emit-moves r out .3 .stream })
+              (record { few = r .few; site = r .site; outside = r .outside; sent = r .sent; log = r .log; stream = all-append (r .stream) (merged-record _ (d .passes)) })
               (emit-kept g (length out) (w .queues) (x .merger .holds))

@@ -12,7 +12,7 @@ use Rattle.rules.proofs.StreamReached.{Standing, standing-steps, standi
 use Rattle.rules.proofs.RefineStep.{toldBy}
 use Rattle.rules.proofs.RefineMerger.{StreamIs}
 use Rattle.rules.proofs.RefineCopies.{stream-fresh}
-use Rattle.rules.proofs.RefineRun.{call-onward}
+use Rattle.rules.proofs.RefineCalls.{call-onward}
 use Rattle.rules.proofs.Booked.{Booked}
 use Rattle.rules.proofs.BookKept.{booked-replayed}
 use Rattle.rules.proofs.BookMove.{booked-steps, booked-fresh}
