@@ -74,6 +74,7 @@ pub mod BookBegins
 pub mod BookAccess
 pub mod BookInstalls
 pub mod BookMove
+pub mod Stands
 pub mod Demand
 pub mod Theorem
 pub mod Pending

@@ -1,7 +1,7 @@
 -- Tables as functions, and lists with every or some element.
 use Prim.Native.Nat.{ℕ, zero, suc, _<_}
 use mathlib.Core.Path.{_≡_, refl}
-use mathlib.Core.List.{List, [], _∷_, _++_}
+use mathlib.Core.List.{List, [], _∷_, _++_, append-assoc}
 use native.Mathlib.Omega.{arith}
 use borrow.Author.Tests.{eqb-true, eqb-false, eq-eqb, ne-eqb}
 use lib.Dec.{eqb}
@@ -44,6 +44,10 @@ upd₂-cases P f s t a h g j u =
     (λ q. rw (e, q) (rw (eqb-true j s e, eqb-true u t q) h))
     (λ q. rw (e, q) (rw (eqb-true j s e) (g s u (λ z. eqb-false u t q (z .1))))))
     (λ e. rw e (g j u (λ z. eqb-false j s e (z .0))))
+
+-- what holds of three lists in a row, however they are bracketed
+pub regroup : {A : Type 0} (P : List A → Type 0) (k l m : List A) → P ((k ++ l) ++ m) → P (k ++ (l ++ m))
+regroup P k l m h = rw append-assoc at h
 
 -- every element, some element
 pub data All {A : Type 0} (P : A → Type 0) : List A → Type 0 where
