@@ -8,7 +8,7 @@ use mathlib.Core.List.{[]}
 use native.Mathlib.Omega.{arith}
 use borrow.Author.Tests.{ltb-false}
 use lib.Dec.{ltb}
-use Rattle.laws.specs.Choice.{by-test}
+use Rattle.laws.specs.Choice.{by-test, set-not, by-same}
 use Rattle.laws.specs.Pair.{precedes}
 use Rattle.kinds.specs.Stage as stage
 use Rattle.kinds.specs.declared.Sub.{Sub}
@@ -20,7 +20,6 @@ use Rattle.rules.specs.Install.{entryOf}
 use Rattle.rules.proofs.Tables.{All, all-map, all-append, all-one}
 use Rattle.rules.proofs.Protocol.{Protocol, rPart, AtStage, courseAt, LeastQueued, Move, freshProtocol}
 use Rattle.rules.proofs.Invariants.{Held, RecLow, RecBelow, OwnAbove, Courses, Account, Invariant}
-use Rattle.rules.proofs.Frames.{set-not}
 use Rattle.rules.proofs.Turns.{Turn, t-stays, t-moves, t-reads, t-aborts, t-installs, t-begins, Logged, l-same, l-part, l-state, installed-last}
 use Rattle.rules.proofs.News.{YesNow}
 use Rattle.rules.proofs.Changes.{Change, change}
@@ -28,7 +27,6 @@ use Rattle.rules.proofs.Committed.{low-coordinator, committed-yes}
 use Rattle.rules.proofs.StepAccount.{account-step}
 use Rattle.rules.proofs.StepClocks.{low-more, log-low}
 use Rattle.rules.proofs.StepOrder.{below-next, own-append, not-behind, decided-queued, gone}
-use Rattle.rules.proofs.PhaseParts.{by-eq}
 use Rattle.rules.proofs.Stream.{Stream, Steps, stop, more, moves, merges, replays}
 use Rattle.rules.proofs.StreamReached.{Standing, standing-steps}
 
@@ -41,11 +39,11 @@ pub record Ascends (p : Protocol) : Type 0 where
 -- who voted yes and is held stands in the queue
 pub yes-queued : {p : Protocol} → Courses p → (s t : ℕ) → Held p s t → p .yes s t ≡ true → AtStage p s t stage.queued ⊎ AtStage p s t stage.decided
 yes-queued {p} c s t h y =
-    by-eq (courseAt p s t .stage) stage.queued (λ e. inl e)
-    (λ n. by-eq (courseAt p s t .stage) stage.decided (λ e. inr e)
-    (λ m. by-eq (courseAt p s t .stage) stage.active
+    by-same (courseAt p s t .stage) stage.queued (λ e. inl e)
+    (λ n. by-same (courseAt p s t .stage) stage.decided (λ e. inr e)
+    (λ m. by-same (courseAt p s t .stage) stage.active
     (λ e. absurd (set-not _ y (c .active s t e .1)))
-    (λ k. by-eq (courseAt p s t .stage) stage.prepared
+    (λ k. by-same (courseAt p s t .stage) stage.prepared
     (λ e. absurd (set-not _ y (c .prepared s t e .1)))
     (λ l. absurd (set-not _ y (c .rejected s t (omega (arith, c .stages s t, h))))))))
 

@@ -5,6 +5,7 @@ use mathlib.Core.Path.{_≡_}
 use mathlib.Core.Logic.{inl, inr, ⊎-elim}
 use mathlib.Core.List.{List}
 use native.Mathlib.Omega.{arith}
+use Rattle.laws.specs.Choice.{unset}
 use Rattle.laws.specs.Pair.{rank, precedes, precedes-rank, not-precedes-rank}
 use Rattle.kinds.specs.State.{Value}
 use Rattle.kinds.specs.declared.House.{House}
@@ -15,7 +16,6 @@ use Rattle.rules.specs.World.{World}
 use Rattle.rules.specs.Book.{Fact}
 use Rattle.rules.specs.Claim.{Committed, Wrote, LastWrite, UpTo, LeftBy, lastReplay, CopyHolds}
 use Rattle.rules.proofs.Protocol.{Protocol}
-use Rattle.rules.proofs.Frames.{unset}
 use Rattle.rules.proofs.StreamClaims.{rankIn, WroteIn, LeftUpTo}
 use Rattle.rules.proofs.RefineCopies.{CopyStands}
 

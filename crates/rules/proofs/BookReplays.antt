@@ -8,7 +8,7 @@ use native.Mathlib.Omega.{arith}
 use lib.Dec.{eqb}
 use lib.ListN.{length, getD, set, length-set}
 use lib.Seq.{getD-set-same, getD-set-other}
-use Rattle.laws.specs.Choice.{pick, every}
+use Rattle.laws.specs.Choice.{pick, every, set-not}
 use Rattle.kinds.specs.Sizes as sizes
 use Rattle.kinds.specs.Word as word
 use Rattle.kinds.specs.Kind as kind
@@ -26,7 +26,6 @@ use Rattle.rules.specs.Book as book
 use Rattle.rules.specs.Book.{Fact, factsOf, bookFrom}
 use Rattle.rules.specs.Claim.{lastReplay}
 use Rattle.rules.proofs.Tables.{All, a-nil, a-cons, all-append, all-one, upd-cases}
-use Rattle.rules.proofs.Frames.{set-not}
 use Rattle.rules.proofs.RefineHanded.{all-is}
 use Rattle.rules.proofs.RefineLaid.{put-header}
 use Rattle.rules.proofs.RefineReplay.{Replays, replay-cases}

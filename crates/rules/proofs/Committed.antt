@@ -3,10 +3,10 @@ use Prim.Native.Nat.{ℕ, _≤_, _<_}
 use mathlib.Core.Path.{_≡_}
 use mathlib.Core.Bool.{true, false}
 use native.Mathlib.Omega.{arith}
+use Rattle.laws.specs.Choice.{unset}
 use Rattle.rules.specs.House.{coordinatorOf}
 use Rattle.rules.proofs.Protocol.{Protocol}
 use Rattle.rules.proofs.Invariants.{In, Parts, Account}
-use Rattle.rules.proofs.Frames.{unset}
 
 module _ {sites : ℕ} {p : Protocol} (k : Parts sites p) (a : Account p) (u : ℕ) (n : 0 < p .num u) where
   pub committed-asked : p .asked u ≡ true

@@ -6,6 +6,7 @@ use mathlib.Core.Logic.{_⊎_, inl, inr, ⊎-elim}
 use mathlib.Core.List.{List}
 use native.Mathlib.Omega.{arith}
 use lib.ListN.{length}
+use Rattle.laws.specs.Choice.{set-not}
 use Rattle.laws.specs.Pair.{precedes-rank}
 use Rattle.kinds.specs.Stage as stage
 use Rattle.rules.specs.House.{coordinatorOf}
@@ -16,7 +17,6 @@ use Rattle.rules.specs.Book.{Fact}
 use Rattle.rules.specs.Claim.{Wrote, Used, Saw, Ordered, WritersInOrder, NoneHalfSeen, Holds}
 use Rattle.rules.proofs.Protocol.{Protocol, inst, AtStage}
 use Rattle.rules.proofs.Invariants.{at, Installed, Seen, Invariant}
-use Rattle.rules.proofs.Frames.{set-not}
 use Rattle.rules.proofs.Committed.{low-coordinator}
 use Rattle.rules.proofs.MachineClaims.{pair-once, later-saw, independent}
 use Rattle.rules.proofs.Stream.{Stream}

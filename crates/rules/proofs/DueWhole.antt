@@ -7,7 +7,7 @@ use mathlib.Core.List.{List, [], _∷_}
 use native.Mathlib.Omega.{arith}
 use lib.Dec.{eqb, ltb}
 use lib.ListN.{length}
-use Rattle.laws.specs.Choice.{by-test}
+use Rattle.laws.specs.Choice.{by-test, unset, set-not}
 use Rattle.laws.specs.Pair.{precedes, not-precedes-rank}
 use Rattle.kinds.specs.Sizes as sizes
 use Rattle.kinds.specs.Reason as reason
@@ -19,7 +19,6 @@ use Rattle.rules.specs.Merger.{sourceAt, headsOf, headIn, hasPart, isDue
 use Rattle.rules.specs.MergerLaws.{LeastOf, IsDue, WholeAt, HasPart, has-part, part-had, least-is, is-due, parts-whole}
 use Rattle.rules.specs.World.{World, step, mergerStep}
 use Rattle.rules.specs.Progress.{DueIsWhole}
-use Rattle.rules.proofs.Frames.{unset, set-not}
 use Rattle.rules.proofs.Ascends.{Ascends}
 use Rattle.rules.proofs.Refines.{partHeadOf}
 use Rattle.rules.proofs.Stream as stream

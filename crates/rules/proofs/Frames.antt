@@ -1,15 +1,15 @@
 -- What the step lemmas share: flags that are only ever set, several tables changed at one place, messages to all others, the next
 -- message of a channel, and transactions that have no part yet.
 use Prim.Native.Nat.{ℕ, zero, suc, _+_, _≤_, _<_}
-use mathlib.Core.Path.{_≡_, refl, sym, ap, _∙_}
-use mathlib.Core.Bool.{Bool, true, false, not, true≢false}
+use mathlib.Core.Path.{_≡_, refl, ap, _∙_}
+use mathlib.Core.Bool.{Bool, true, false, not}
 use mathlib.Core.Logic.{_⊎_, inl, inr}
 use mathlib.Core.List.{List, [], _∷_, _++_}
 use native.Mathlib.Omega.{arith}
 use borrow.Author.Tests.{eqb-true, eqb-false, leb-true, not-true}
 use lib.Dec.{eqb, leb}
 use lib.ListN.{length, getD}
-use Rattle.laws.specs.Choice.{every, every-at, by-test}
+use Rattle.laws.specs.Choice.{every, every-at, by-test, unset}
 use Rattle.kinds.specs.Sizes as sizes
 use Rattle.rules.specs.House.{coordinatorOf, serialOf, txOf, inMask}
 use Rattle.rules.specs.World.{upd}
@@ -18,13 +18,6 @@ use Rattle.rules.proofs.Protocol.{Protocol, Msg, mJoin, mAbort, Next, o
 use Rattle.rules.proofs.Invariants.{Parts, MsgOk, Posts, Account, Invariant}
 
 -- Flags.
-pub unset : (b : Bool) → (b ≡ true → ⊥) → b ≡ false
-unset true n = absurd (n refl)
-unset false n = refl
-
-pub set-not : (b : Bool) → b ≡ true → b ≡ false → ⊥
-set-not b t f = true≢false (sym t ∙ f)
-
 pub kept₁ : (f : ℕ → Bool) (t u : ℕ) → f u ≡ true → upd f t true u ≡ true
 kept₁ f t = upd-cases (λ u b. f u ≡ true → b ≡ true) f t true (λ e. refl) (λ u n e. e)
 

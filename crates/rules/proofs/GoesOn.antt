@@ -8,7 +8,7 @@ use native.Mathlib.Omega.{arith}
 use borrow.Author.Tests.{eqb-false, eq-eqb, ne-eqb, ltb-true, ltb-false, le-leb}
 use lib.Dec.{eqb, leb, ltb}
 use lib.ListN.{drop}
-use Rattle.laws.specs.Choice.{pick, every, by-test}
+use Rattle.laws.specs.Choice.{pick, every, by-test, set-not}
 use Rattle.laws.specs.Cause.{Cause, codeOf}
 use Rattle.kinds.specs.Sizes as sizes
 use Rattle.kinds.specs.Stage as stage
@@ -31,7 +31,6 @@ use Rattle.rules.specs.Course.{headOf, raise, withReply, isOutstanding}
 use Rattle.rules.specs.Deliver.{arrivalCauses, arrivalCode, nextCauses, nextCode, arrived, passed, replyCode, spentTo, stepUnless, joinTurn, spoken, joinAt, takeJoin, joinedInTurn, takeJoined, takePrepare, concInTurn, gatherChange, takeConc, takeCert, voteInTurn, takeVote, takeCommit, takeAbort, keeping, takeHeld, takeOther, takeKind}
 use Rattle.rules.proofs.Protocol.{Protocol, Msg, mJoin, mJoined, mPrepare, mConc, mCert, mVote, mCommit, mAbort, Next, AtStage, courseAt}
 use Rattle.rules.proofs.Invariants.{Invariant}
-use Rattle.rules.proofs.Frames.{set-not}
 use Rattle.rules.proofs.Refines.{IsFree, kindOf, txIn, entriesIn, sliceOf, SiteIs}
 use Rattle.rules.proofs.RefineLive.{place-none}
 use Rattle.rules.proofs.RefineStep.{by-code}

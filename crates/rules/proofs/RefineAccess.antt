@@ -9,7 +9,7 @@ use borrow.Author.Tests.{ltb-false, le-leb, ne-eqb}
 use lib.Dec.{leb, eqb}
 use lib.ListN.{length, getD}
 use lib.Seq.{set-getD}
-use Rattle.laws.specs.Choice.{pick, pick-self, every, by-test}
+use Rattle.laws.specs.Choice.{pick, pick-self, every, by-test, set-not}
 use Rattle.laws.specs.Scan.{any-below-none}
 use Rattle.kinds.specs.Sizes as sizes
 use Rattle.kinds.specs.Stage as stage
@@ -39,7 +39,6 @@ use Rattle.rules.proofs.Tables.{a-nil}
 use Rattle.rules.proofs.Protocol.{Protocol, inst, Accessed, access, stop, more}
 use Rattle.rules.proofs.Protocol as protocol
 use Rattle.rules.proofs.Invariants.{at}
-use Rattle.rules.proofs.Frames.{set-not}
 use Rattle.rules.proofs.KeysTold.{read-wrote, read-value, read-sized, read-kept, read-new, write-reads, write-sized, Sets, again-wrote, again-sets, first-kept, first-new, first-sets}
 use Rattle.rules.proofs.Refines.{IsFree, Sized, LiveIs, HistoryIs, Refines}
 use Rattle.rules.proofs.RefineLive.{place-held, place-spot}

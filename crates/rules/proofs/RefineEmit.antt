@@ -10,7 +10,7 @@ use borrow.Author.Tests.{eqb-true}
 use lib.Dec.{eqb}
 use lib.ListN.{length}
 use lib.Seq.{take-append-le}
-use Rattle.laws.specs.Choice.{every, every-at, by-test}
+use Rattle.laws.specs.Choice.{every, every-at, by-test, set-not}
 use Rattle.laws.specs.Scan.{foldBelow, all-below-at}
 use Rattle.laws.specs.Pair.{precedes, not-precedes-rank}
 use Rattle.kinds.specs.Sizes as sizes
@@ -34,7 +34,6 @@ use Rattle.rules.specs.World as world
 use Rattle.rules.proofs.Tables.{All, a-nil, all-append, all-one}
 use Rattle.rules.proofs.Protocol.{Protocol}
 use Rattle.rules.proofs.Invariants.{In}
-use Rattle.rules.proofs.Frames.{set-not}
 use Rattle.rules.proofs.Committed.{low-coordinator, committed-asked}
 use Rattle.rules.proofs.Refines.{IsRecord, entryWords, partHeadOf, Refines}
 use Rattle.rules.proofs.Stream as stream

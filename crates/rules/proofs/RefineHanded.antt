@@ -7,6 +7,7 @@ use mathlib.Core.List.{List, [], _∷_, map}
 use native.Mathlib.Omega.{arith}
 use lib.Dec.{eqb}
 use lib.ListN.{length, getD}
+use Rattle.laws.specs.Choice.{set-not}
 use Rattle.kinds.specs.Sizes as sizes
 use Rattle.kinds.specs.Kind as kind
 use Rattle.kinds.specs.declared.Site.{Site}
@@ -29,7 +30,7 @@ use Rattle.rules.specs.World as world
 use Rattle.rules.proofs.Tables.{All, a-nil, a-cons}
 use Rattle.rules.proofs.Protocol.{Protocol, Msg, mAbort, Rec, rPart, rState, Next}
 use Rattle.rules.proofs.Invariants.{Invariant}
-use Rattle.rules.proofs.Frames.{in-range, set-not}
+use Rattle.rules.proofs.Frames.{in-range}
 use Rattle.rules.proofs.Refines.{entriesIn, encode, Posted, recWords, entryWords, partHeadOf, IsRecord, sliceOf, SiteIs, Refines}
 use Rattle.rules.proofs.RefineStep.{Follows, toldBy, by-code, inside, stays}
 use Rattle.rules.proofs.RefineMessage.{headIn, toldTaken, takes}

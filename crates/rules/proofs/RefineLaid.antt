@@ -8,7 +8,7 @@ use borrow.Author.Tests.{eqb-true, eqb-false, ne-eqb}
 use lib.Dec.{eqb}
 use lib.ListN.{length, getD, length-set, length-append, List·getD-append}
 use lib.Seq.{getD-set-same, getD-set-other, getD-append-add}
-use Rattle.laws.specs.Choice.{pick, by-test}
+use Rattle.laws.specs.Choice.{pick, by-test, set-not, unset}
 use Rattle.laws.specs.Scan.{foldBelow, split-last}
 use Rattle.kinds.specs.Sizes as sizes
 use Rattle.kinds.specs.Word as word
@@ -21,7 +21,6 @@ use Rattle.rules.specs.KeysLaws.{by-order, words-length, sorted-low, sor
 use Rattle.rules.specs.Record.{writeKey, writeValue}
 use Rattle.rules.specs.Merger.{writesIn}
 use Rattle.rules.specs.Copy.{copyValue, putWrites}
-use Rattle.rules.proofs.Frames.{set-not, unset}
 use Rattle.rules.proofs.Stream.{Item}
 use Rattle.rules.proofs.StreamClaims.{leaves, positive-site}
 use Rattle.rules.proofs.RefineMerger.{keyWords, siteWrites, itemWrites, Placed}

@@ -10,7 +10,7 @@ use borrow.Author.Tests.{eqb-true, eqb-false, ltb-true, lt-ltb}
 use lib.Dec.{eqb, ltb}
 use lib.ListN.{length, getD, length-map}
 use lib.Seq.{getD-take, getD-set-same, getD-set-other, length-take-le}
-use Rattle.laws.specs.Choice.{every, every-at, by-test}
+use Rattle.laws.specs.Choice.{every, every-at, by-test, set-not}
 use Rattle.laws.specs.Overlay.{putAt}
 use Rattle.laws.specs.Pair.{precedes-rank}
 use Rattle.kinds.specs.Kind as kind
@@ -31,7 +31,7 @@ use Rattle.rules.specs.World.{World, Handed, upd, step, mergerStep, merg
 use Rattle.rules.specs.World as world
 use Rattle.rules.proofs.Tables.{upd-cases, upd-same, upd-other, all-at}
 use Rattle.rules.proofs.Protocol.{Protocol, Rec, rPart, rState}
-use Rattle.rules.proofs.Frames.{set-not, in-range}
+use Rattle.rules.proofs.Frames.{in-range}
 use Rattle.rules.proofs.Refines.{recWords, entryWords, partHeadOf}
 use Rattle.rules.proofs.Stream as stream
 use Rattle.rules.proofs.Stream.{Stream, Steps, NextRecord, rankOf}

@@ -7,7 +7,7 @@ use native.Mathlib.Omega.{arith}
 use borrow.Author.Tests.{eqb-true, eqb-false, leb-true, leb-false}
 use lib.Dec.{eqb, leb}
 use lib.ListN.{length-append, List·getD-append}
-use Rattle.laws.specs.Choice.{by-test}
+use Rattle.laws.specs.Choice.{by-test, set-not}
 use Rattle.kinds.specs.declared.Site.{Site}
 use Rattle.kinds.specs.declared.Answer.{Answer}
 use Rattle.rules.specs.House.{coordinatorOf}
@@ -19,7 +19,6 @@ use Rattle.rules.specs.Book.{Fact, factsOf}
 use Rattle.rules.proofs.Tables.{upd₂, upd-same, upd-other, upd-cases, upd₂-cases, All, all-map, all-append}
 use Rattle.rules.proofs.Protocol.{Protocol, Msg, mAbort, Moves, stop}
 use Rattle.rules.proofs.Told.{toldAll}
-use Rattle.rules.proofs.Frames.{set-not}
 use Rattle.rules.proofs.Refines.{Posted, encode, recWords, sliceOf, SiteIs, Refines}
 
 -- the protocol makes some moves, or none, which tell these facts, and the world is then that of its tables

@@ -9,7 +9,7 @@ use native.Mathlib.Omega.{arith}
 use borrow.Author.Tests.{ltb-false, eqb-true, eqb-false}
 use lib.Dec.{ltb, eqb}
 use lib.ListN.{length, getD}
-use Rattle.laws.specs.Choice.{by-test}
+use Rattle.laws.specs.Choice.{by-test, set-not}
 use Rattle.laws.specs.Pair.{precedes, rank}
 use Rattle.kinds.specs.Stage as stage
 use Rattle.kinds.specs.declared.Sub.{Sub}
@@ -21,7 +21,6 @@ use Rattle.rules.specs.Install.{entryOf}
 use Rattle.rules.proofs.Tables.{All, a-nil, a-cons, all-append, all-one}
 use Rattle.rules.proofs.Protocol.{Protocol, Rec, rPart, rState, partsOf, AtStage, LeastQueued, Move, freshProtocol}
 use Rattle.rules.proofs.Invariants.{at, Installed, RecLow, RecBelow, OwnAbove, Order, Invariant}
-use Rattle.rules.proofs.Frames.{set-not}
 use Rattle.rules.proofs.Turns.{Logged, l-same, l-part, l-state, installed-last}
 use Rattle.rules.proofs.News.{OwnStage, NumNow}
 use Rattle.rules.proofs.Changes.{Change, change, still-installed, decided-kept}

@@ -8,6 +8,7 @@ use native.Mathlib.Nat.{eq-or-lt-of-le}
 use native.Mathlib.Omega.{arith}
 use lib.ListN.{length, getD, length-append, List·getD-append}
 use lib.Seq.{getD-append-seam}
+use Rattle.laws.specs.Choice.{set-not}
 use Rattle.kinds.specs.Sizes as sizes
 use Rattle.kinds.specs.Stage as stage
 use Rattle.kinds.specs.declared.Keys.{Keys}
@@ -22,7 +23,7 @@ use Rattle.rules.specs.World.{upd}
 use Rattle.rules.proofs.Tables.{upd₂, upd-same, upd-cases, upd₂-cases, upd₂-same}
 use Rattle.rules.proofs.Protocol.{Protocol, Rec, rPart, rState, partsOf, inst, AtStage, beganAt, withLive, set-serial, set-keys, set-log, took, Move, begin, enlist, access, request, abort, cast, decide, install, report, joins, full, joined, prepared, lost, unknown, gathers, certified, rejects, votes, commits, aborts, passes, freshProtocol, mJoin, Next}
 use Rattle.rules.proofs.Invariants.{Held, at, Parts, Invariant}
-use Rattle.rules.proofs.Frames.{set-not, kept₂, upd₂-both, said, ends, tx-coordinator, tx-serial, new-tx, new-join}
+use Rattle.rules.proofs.Frames.{kept₂, upd₂-both, said, ends, tx-coordinator, tx-serial, new-tx, new-join}
 
 -- A part kept or freed: what it began with stays.
 pub record Kept (b c : Sub) : Type 0 where

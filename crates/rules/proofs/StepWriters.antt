@@ -7,13 +7,12 @@ use native.Mathlib.Omega.{arith}
 use borrow.Author.Tests.{ltb-true, ltb-false}
 use lib.Dec.{ltb}
 use lib.ListN.{length}
-use Rattle.laws.specs.Choice.{by-test}
+use Rattle.laws.specs.Choice.{by-test, unset, set-not}
 use Rattle.kinds.specs.State.{noSub, noKeys}
 use Rattle.rules.specs.Keys.{keyPlace, wroteKey}
 use Rattle.rules.specs.Install.{entryOf}
 use Rattle.rules.proofs.Protocol.{Protocol, inst, Move, freshProtocol}
 use Rattle.rules.proofs.Invariants.{Held, at, Writers, Invariant}
-use Rattle.rules.proofs.Frames.{unset, set-not}
 use Rattle.rules.proofs.Turns.{Unwritten, Turn, t-stays, t-moves, t-reads, t-aborts, t-installs, t-begins}
 use Rattle.rules.proofs.Changes.{Change, change, InstalledNow, stands, stood, part-new, snap-kept, keys-kept}
 

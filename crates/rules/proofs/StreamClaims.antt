@@ -11,7 +11,7 @@ use borrow.Author.Tests.{ltb-true, ltb-false}
 use lib.Dec.{ltb}
 use lib.ListN.{length, take}
 use lib.Seq.{take-suc}
-use Rattle.laws.specs.Choice.{pick, by-test, picked-left, picked-right}
+use Rattle.laws.specs.Choice.{pick, by-test, picked-left, picked-right, set-not}
 use Rattle.laws.specs.Pair.{rank}
 use Rattle.kinds.specs.State.{Value, fresh}
 use Rattle.kinds.specs.declared.House.{House}
@@ -20,7 +20,6 @@ use Rattle.rules.specs.House.{coordinatorOf, inMask, siteOf}
 use Rattle.rules.specs.Keys.{wroteKey, wroteValue}
 use Rattle.rules.proofs.Protocol.{Protocol}
 use Rattle.rules.proofs.Invariants.{In, Invariant}
-use Rattle.rules.proofs.Frames.{set-not}
 use Rattle.rules.proofs.Committed.{committed-asked, committed-in}
 use Rattle.rules.proofs.Stream.{Item, Merger, itemRank}
 use Rattle.rules.proofs.StreamInv.{pastItem, itemAt, Streamed, item-real, item-number, item-committed, item-mask}

@@ -11,7 +11,7 @@ use borrow.Author.Tests.{ltb-true, ltb-false}
 use lib.Dec.{ltb}
 use lib.ListN.{length, getD, take, drop, length-append, take-append-drop, List·getD-append}
 use lib.Seq.{getD-append-add, getD-append-seam}
-use Rattle.laws.specs.Choice.{by-test}
+use Rattle.laws.specs.Choice.{by-test, set-not}
 use Rattle.laws.specs.Pair.{rank}
 use Rattle.kinds.specs.Stage as stage
 use Rattle.kinds.specs.declared.Entry.{Entry}
@@ -20,7 +20,6 @@ use Rattle.rules.specs.House.{coordinatorOf, inMask}
 use Rattle.rules.proofs.Tables.{All, a-nil, a-cons}
 use Rattle.rules.proofs.Protocol.{Protocol, Rec, rPart, rState, partsOf, inst, AtStage}
 use Rattle.rules.proofs.Invariants.{at, In, Installed, RecLow, RecBelow, OwnAbove, Invariant}
-use Rattle.rules.proofs.Frames.{set-not}
 use Rattle.rules.proofs.StepParts.{last-cases}
 use Rattle.rules.proofs.Committed.{low-coordinator, committed-asked, committed-in}
 use Rattle.rules.proofs.Stream.{Item, Merger, rankOf, itemRank, DueAt, SameHead, WholeAt, Emits, headKeys, behindHead, itemOf, emitted}

@@ -9,7 +9,7 @@ use native.Mathlib.Nat.{eq-or-lt-of-le}
 use native.Mathlib.Omega.{arith}
 use lib.ListN.{length, getD, take, length-append, take-append-drop}
 use lib.Seq.{getD-append-add}
-use Rattle.laws.specs.Choice.{by-test}
+use Rattle.laws.specs.Choice.{by-test, set-not}
 use Rattle.laws.specs.Pair.{rank}
 use Rattle.kinds.specs.Stage as stage
 use Rattle.kinds.specs.declared.Entry.{Entry}
@@ -18,7 +18,6 @@ use Rattle.rules.specs.House.{coordinatorOf, inMask}
 use Rattle.rules.proofs.Tables.{All}
 use Rattle.rules.proofs.Protocol.{Protocol, partsOf, inst, AtStage}
 use Rattle.rules.proofs.Invariants.{Held, at, In, Installed, RecLow, RecBelow, OwnAbove, Invariant}
-use Rattle.rules.proofs.Frames.{set-not}
 use Rattle.rules.proofs.Committed.{low-coordinator, committed-asked, committed-alive, committed-in}
 use Rattle.rules.proofs.Ascends.{Ascends, yes-queued}
 use Rattle.rules.proofs.Stream.{Merger, rankOf, DueAt, WholeAt, SameHead}
