@@ -5,6 +5,7 @@ use mathlib.Core.Bool.{true}
 use mathlib.Core.List.{List, []}
 use lib.Dec.{eqb}
 use lib.ListN.{length}
+use Rattle.rules.specs.JoinLaws.{join-whole}
 use Rattle.laws.specs.Choice.{by-test}
 use Rattle.kinds.specs.Sizes as sizes
 use Rattle.kinds.specs.Reason as reason
@@ -26,7 +27,6 @@ use Rattle.rules.specs.Access.{accessCode, readCode, readVersion, readAt
 use Rattle.rules.specs.Enlist.{enlistCode, joinerCode, enlistAt, enlistOf}
 use Rattle.rules.specs.Commit.{requestCode, commitCode, abandonCode, isFull, isLost, isMine, requestChange, commitChange, commitLists, commitOf, abandonOf}
 use Rattle.rules.proofs.RefineStep.{by-code}
-use Rattle.rules.proofs.RefineCertify.{join-whole}
 use Rattle.rules.proofs.RefineMail.{Made, none}
 use Rattle.rules.proofs.Spoken.{Known, Speaks, enlist-speaks, abort-speaks, prepare-speaks, cast-speaks}
 

@@ -5,6 +5,7 @@ use mathlib.Core.Bool.{true, false}
 use mathlib.Core.List.{List, [], _++_}
 use native.Mathlib.Omega.{arith}
 use lib.ListN.{length, take, drop}
+use Rattle.rules.specs.JoinLaws.{join-whole}
 use Rattle.laws.specs.Choice.{pick, by-test}
 use Rattle.laws.specs.Overlay.{putAt}
 use Rattle.kinds.specs.Sizes as sizes
@@ -41,7 +42,7 @@ use Rattle.rules.proofs.RefineSite.{channels-taken}
 use Rattle.rules.proofs.RefineStep.{row-same, row-other}
 use Rattle.rules.proofs.RefineTurn.{AtPlace, course-is, tx-of}
 use Rattle.rules.proofs.RefineActs.{Acts, acts-then, settled-turn, settled-again}
-use Rattle.rules.proofs.RefineCertify.{certifies, join-within, join-whole}
+use Rattle.rules.proofs.RefineCertify.{certifies, join-within}
 use Rattle.rules.proofs.RefineLists.{list-more, lists-put}
 use Rattle.rules.proofs.RefineJoined.{joined-take}
 use Rattle.rules.proofs.RefineCourse.{cast-acts, settled-place}

@@ -24,10 +24,10 @@ use Rattle.rules.specs.Keys.{sortedKey, sortedCount}
 use Rattle.rules.specs.KeysLaws.{word-key}
 use Rattle.rules.specs.Record.{recordWords, recordHead, recordWrites, writeKey, keyAscends, partWriteOk, mergedTests, mergedOk}
 use Rattle.rules.specs.RecordLaws.{writes-back, part-passed-good, merged-clear, merged-passed-good, merged-passed-words}
-use Rattle.rules.specs.Merger.{Merging, refusedMerger, sourceAt, popSource, queuedPart, headsOf, headIn, hasPart, dueHead, leastSite, dueCode, partWrites, joinedWrites, writesIn, mergedHead, popMerger, popMergerAt, popQueues, emitDue, emitCode, emitOf}
+use Rattle.rules.specs.Merger.{Merging, refusedMerger, sourceAt, popSource, queuedPart, headsOf, headIn, hasPart, dueHead, leastSite, dueCode, partWrites, joinedWrites, writesIn, mergedHead, popMerger, popQueues, emitDue, emitCode, emitOf}
 use Rattle.rules.specs.MergerLaws.{HasPart, has-part, part-had}
 use Rattle.rules.specs.MergerJoin.{Emits, emits, heads-at, head-part}
-use Rattle.rules.specs.MergerKept.{Holds, emit-kept, popped-source}
+use Rattle.rules.specs.MergerKept.{Holds, emit-kept, popped-source, pop-house}
 use Rattle.rules.specs.MergerWords.{popped-place, kept-place}
 use Rattle.rules.specs.World.{World, step, mergerStep, recordIn}
 use Rattle.rules.specs.World as world
@@ -62,11 +62,6 @@ merged-record [] e = a-nil
 merged-record (n ∷ m) e = all-one (every-at (mergedTests (n ∷ m)) 0 e, omega (arith, merged-clear (recordHead (n ∷ m)) (merged-passed-good (n ∷ m) e .head) .kind))
 
 -- The house and the places after it.
-pop-house : (g : Merger) (mask n : ℕ) → popMerger g mask n .house ≡ g .house
-unfolding popMerger foldBelow popMergerAt
-pop-house g mask zero = refl
-pop-house g mask (suc n) = by-test (inMask mask (n + 1)) (λ t. rw t (pop-house g mask n)) (λ t. rw t (pop-house g mask n))
-
 module _ (g : Merger) (queues : List ℕ) (mask n i : ℕ) (c : Holds g queues) (h : n ≤ sizes.sites) (l : i < n) where
   source-popped : (e : Entry) (queue : List Entry) (state last : ℕ) → inMask mask (i + 1) ≡ true → length (e ∷ queue) ≤ sizes.queue
       → SourceIs (sourceAt g i) queues i (e ∷ queue) state last → SourceIs (sourceAt (popMerger g mask n) i) (popQueues queues mask n) i queue state last

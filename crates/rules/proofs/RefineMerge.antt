@@ -22,7 +22,7 @@ use Rattle.kinds.specs.declared.Answer.the-variants.{Done}
 use Rattle.rules.specs.House.{coordinatorOf, isSite}
 use Rattle.rules.specs.MessageLaws.{site-clear}
 use Rattle.rules.specs.Record.{recordHead, recordShape, partOk}
-use Rattle.rules.specs.RecordLaws.{part-clear, part-passed-good, state-clear, state-passed-good}
+use Rattle.rules.specs.RecordLaws.{part-clear, part-passed-good, state-clear, state-passed-good, part-shape, state-shape}
 use Rattle.rules.specs.Install.{stateWords}
 use Rattle.rules.specs.Merger.{Merging, doneMerger, refusedMerger, sourceAt, withSource, placeAt, mergeOf, pastSource}
 use Rattle.rules.specs.MergerClear.{PartTaken}
@@ -40,7 +40,7 @@ use Rattle.rules.proofs.StreamReached.{Standing}
 use Rattle.rules.proofs.Told.{toldSteps}
 use Rattle.rules.proofs.RefineHanded.{all-is}
 use Rattle.rules.proofs.RefineMerger.{itemWords, MergerIs, StreamIs, Onward, one-step, posted-no-record, is-map, part-head, state-head, item-head, map-at, same-words, words-same}
-use Rattle.rules.proofs.RefineQueue.{TakesPart, TakesState, merge-cases, part-whole, state-whole, tx-low, more-queued, still-queued}
+use Rattle.rules.proofs.RefineQueue.{TakesPart, TakesState, merge-cases, tx-low, more-queued, still-queued}
 
 module _ {sites : ℕ} {w : World} {v : Stream} (x : StreamIs sites w v) where
   abbrev p : Protocol
@@ -335,8 +335,8 @@ module _ {sites : ℕ} {w : World} {v : Stream} (x : StreamIs sites w v) where
         go (inr (inl t)) =
             let c = part-clear (w .merger .house) (recordHead ws) (part-passed-good (w .merger .house) ws (t .ok) .head) in
             let (e, l) = index (recordHead ws .site) (c .site) in
-            part-on (recordHead ws .site - 1) e l t (rw e at (from-log ws h (part-whole (w .merger .house) ws (t .ok)) (omega (arith, c .kind))))
+            part-on (recordHead ws .site - 1) e l t (rw e at (from-log ws h (part-shape (w .merger .house) ws (t .ok)) (omega (arith, c .kind))))
         go (inr (inr t)) =
             let c = state-clear (w .merger .house) (recordHead ws) (state-passed-good (w .merger .house) ws (t .ok) .head) in
             let (e, l) = index (recordHead ws .site) (c .site) in
-            state-on (recordHead ws .site - 1) e l t (rw e at (from-log ws h (state-whole (w .merger .house) ws (t .ok)) (omega (arith, c .kind))))
+            state-on (recordHead ws .site - 1) e l t (rw e at (from-log ws h (state-shape (w .merger .house) ws (t .ok)) (omega (arith, c .kind))))

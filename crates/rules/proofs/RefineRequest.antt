@@ -5,6 +5,7 @@ use mathlib.Core.Bool.{true, false}
 use mathlib.Core.List.{List, []}
 use native.Mathlib.Omega.{arith}
 use lib.ListN.{length}
+use Rattle.rules.specs.JoinLaws.{join-whole}
 use Rattle.laws.specs.Overlay.{putAt}
 use Rattle.kinds.specs.Sizes as sizes
 use Rattle.kinds.specs.Stage as stage
@@ -41,7 +42,7 @@ use Rattle.rules.proofs.RefineStep.{Elsewhere, row-same, row-other}
 use Rattle.rules.proofs.RefineMail.{none, grows-all}
 use Rattle.rules.proofs.RefineTurn.{AtPlace, course-is, tx-of}
 use Rattle.rules.proofs.RefineActs.{Acts, acts-then, settled-turn, settled-again, others-elsewhere, members, send-all-site, send-all-made}
-use Rattle.rules.proofs.RefineCertify.{covers, certifies, concurrent-low, join-within, join-whole}
+use Rattle.rules.proofs.RefineCertify.{covers, certifies, concurrent-low, join-within}
 use Rattle.rules.proofs.RefineLists.{list-first, lists-put}
 use Rattle.rules.proofs.RefineCourse.{lone, others-lone, cast-acts, settled-place}
 

@@ -25,7 +25,7 @@ use Rattle.rules.specs.Keys.{dependent}
 use Rattle.rules.specs.Live.{partAt, isPrepared, isPartOf, placeOf, isHeld}
 use Rattle.rules.specs.History.{recall, remembered, forgotten, within, recallPlace}
 use Rattle.rules.specs.HistoryLaws.{remembered-few}
-use Rattle.rules.specs.JoinLaws.{count-le, count-joined, length-joined}
+use Rattle.rules.specs.JoinLaws.{count-le, count-joined, join-whole}
 use Rattle.rules.specs.Certify.{markOf, concurrentWords, preparedWords, installedWords, preparedList, installedList, candidates, concurrent, conflictsAt, conflictsWith, isRecorded, uncertainOf, voteOf}
 use Rattle.rules.specs.EntryLaws.{gathered, Entries, gathered-at, gathered-marks, Holds, Listing, Marks, joined-lists, joined-ascends, append-left, append-right, append-marks}
 
@@ -126,7 +126,7 @@ installed-holds history installs own seen n i h =
     gathered-holds (λ i. installedWords own (recall history installs (seen + i))) (λ i. inr refl) n i own (e .tx) (e .mask) (e .keys) h refl
 
 module _ (s : Site) (place : ℕ) where
-  candidates-marks : Marks (candidates s place)
+  pub candidates-marks : Marks (candidates s place)
   unfolding candidates preparedList installedList installedWords
   candidates-marks =
       let n = s .counters .installs in
@@ -152,9 +152,7 @@ module _ (s : Site) (place : ℕ) where
   -- The list is of whole entries, at most 47,
   pub concurrent-whole : length (concurrent s place) ≡ sizes.entry * entryCount (concurrent s place)
   unfolding concurrent
-  concurrent-whole =
-      let es = candidates s place in
-      length-joined es (entryCount es) ∙ ap (λ (x : ℕ). sizes.entry * x) (sym (count-joined es (entryCount es)))
+  concurrent-whole = join-whole (candidates s place) (entryCount (candidates s place))
 
   pub concurrent-few : place < sizes.live → entryCount (concurrent s place) ≤ sizes.concEntries
   unfolding concurrent entryCount

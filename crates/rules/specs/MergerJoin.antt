@@ -136,7 +136,7 @@ module _ (ws p : List ℕ) (a : ℕ) (e : length ws ≡ sizes.write * a) where
 no-writes : (low high : ℕ) → Ascending [] 0 low high
 no-writes low high = record { above = λ k h. absurd (omega arith); from = λ k h. absurd (omega arith); to = λ k h. absurd (omega arith) }
 
-halved : (n k : ℕ) → n ≡ sizes.write * k → n / sizes.write ≡ k
+pub halved : (n k : ℕ) → n ≡ sizes.write * k → n / sizes.write ≡ k
 halved n k e = omega arith
 
 -- The parts at the heads of a mask's sites.

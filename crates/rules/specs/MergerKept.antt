@@ -12,7 +12,7 @@ use native.Mathlib.Omega.{arith}
 use Rattle.kinds.specs.declared.House.{House}
 use Rattle.kinds.specs.declared.Merger.{Merger}
 use Rattle.kinds.specs.declared.Source.{Source}
-use Rattle.laws.specs.Choice.{by-test, every-at, pick, some}
+use Rattle.laws.specs.Choice.{by-test, pick, some}
 use Rattle.laws.specs.Overlay.{putAt}
 use Rattle.laws.specs.Scan.{foldBelow, split-last}
 use Rattle.rules.specs.House.{inMask}
@@ -21,11 +21,10 @@ use Rattle.rules.specs.MergerClear.{MergerClear, QueuedClear, merge-clea
 use Rattle.rules.specs.MergerLaws.{Queued, due-queued, pop-later}
 use Rattle.rules.specs.MergerWords.{above, kept-place, length-popped, length-put, popped-place, put-elsewhere, put-length, put-part-back}
 use Rattle.rules.specs.MessageLaws.{SiteClear, site-clear}
-use Rattle.rules.specs.Record.{partOk, partTests, recordHead, stateOk}
-use Rattle.rules.specs.RecordLaws.{part-clear, part-passed-good, shape-clear, state-clear, state-passed-good}
+use Rattle.rules.specs.Record.{partOk, recordHead, stateOk}
+use Rattle.rules.specs.RecordLaws.{part-clear, part-passed-good, shape-clear, state-clear, state-passed-good, part-shape}
 use Rattle.kinds.specs.Kind as kind
 use Rattle.kinds.specs.Sizes as sizes
-use Rattle.kinds.specs.Word as word
 
 -- eight sources, as every merger of the code has, and the state is possible
 pub record Holds (g : Merger) (queues : List ℕ) : Type 0 where
@@ -69,10 +68,6 @@ module _ (g : Merger) (queues m : List ℕ) (i : ℕ) (s : Source) where
   source-other : (k : ℕ) → (k ≡ i → ⊥) → sourceAt (withSource g i s) k ≡ sourceAt g k
   source-other k f = getD-set-other (g .sources) i k s pastSource f
 
-part-whole : (o : House) (m : List ℕ) → partOk o m ≡ true → getD m word.length 0 ≡ length m
-unfolding partOk
-part-whole o m e = shape-clear m (every-at (partTests o m) 0 e) .whole
-
 module _ (g : Merger) (queues m : List ℕ) (i : ℕ) (s : Source) (c : Holds g queues) (b : i < g .house .sites) where
   -- the places of the sites, as the counts with the new source say
   counted : (k : ℕ) → k < g .house .sites → s .queued ≤ sizes.queue → sourceAt (withSource g i s) k .queued ≤ sizes.queue
@@ -112,7 +107,7 @@ module _ (g : Merger) (queues m : List ℕ) (i : ℕ) (s : Source) (c : Holds g 
         let q = sourceAt g i .queued in
         let h = part-long (g .house) m p in
         let l = part-short (g .house) m p in
-        let w = part-whole (g .house) m p in
+        let w = shape-clear m (part-shape (g .house) m p) .whole in
         let f = c .clear .few in
         let k = put-length queues m i q (c .clear .size) (omega arith) r l (omega arith) w in
         let z = put-part-back queues m i q (c .clear .size) (omega arith) r l (omega arith) w in
@@ -209,7 +204,7 @@ merge-kept g queues m c =
     (λ t. rw t c)
 
 -- Emit: the sites of the mask are without their heads.
-pop-house : (g : Merger) (mask n : ℕ) → popMerger g mask n .house ≡ g .house
+pub pop-house : (g : Merger) (mask n : ℕ) → popMerger g mask n .house ≡ g .house
 unfolding popMerger foldBelow popMergerAt
 pop-house g mask zero = refl
 pop-house g mask (suc n) = by-test (inMask mask (n + 1)) (λ t. rw t (pop-house g mask n)) (λ t. rw t (pop-house g mask n))
