@@ -19,7 +19,6 @@ use Rattle.rules.specs.Merger.{sourceAt, headsOf, headIn, hasPart, isDue
 use Rattle.rules.specs.MergerLaws.{LeastOf, IsDue, WholeAt, HasPart, has-part, part-had, least-is, is-due, parts-whole}
 use Rattle.rules.specs.World.{World, step, mergerStep}
 use Rattle.rules.specs.Progress.{DueIsWhole}
-use Rattle.rules.proofs.Ascends.{Ascends}
 use Rattle.rules.proofs.Refines.{partHeadOf}
 use Rattle.rules.proofs.Stream as stream
 use Rattle.rules.proofs.Stream.{Stream, rankOf, DueAt}
@@ -43,7 +42,7 @@ due-other g heads least f =
     (λ d. rw (d, f d) (λ e. omega arith))
     (λ d. rw d (λ e. omega arith))
 
-module _ {sites : ℕ} {w : World} {v : Stream} (x : StreamIs sites w v) (z : Standing sites v) (a : Ascends (v .protocol)) where
+module _ {sites : ℕ} {w : World} {v : Stream} (x : StreamIs sites w v) (z : Standing sites v) where
   abbrev m : stream.Merger
   m = v .merger
 
@@ -93,7 +92,7 @@ module _ {sites : ℕ} {w : World} {v : Stream} (x : StreamIs sites w v) (z : St
 
     whole-at : IsDue g heads k → (i : ℕ) → i < sites → WholeAt g heads (headIn heads k) i
     unfolding partHeadOf
-    whole-at d i b = go (m .queue (i + 1)) refl (due-whole (x .refines .few) (z .invariant) (z .streamed) a (k + 1) G r (omega arith) q (i + 1) (omega arith) (due-at d i b))
+    whole-at d i b = go (m .queue (i + 1)) refl (due-whole (x .refines .few) (z .invariant) (z .streamed) (k + 1) G r (omega arith) q (i + 1) (omega arith) (due-at d i b))
       where
         none : inMask (G .mask) (i + 1) ≡ false → hasPart g heads (headIn heads k) i ≡ false → WholeAt g heads (headIn heads k) i
         none e h = record { there = mask-is (i + 1) ∙ e ∙ sym h; tx = λ t. absurd (set-not _ t h); mask = λ t. absurd (set-not _ t h) }

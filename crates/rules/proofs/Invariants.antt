@@ -137,20 +137,21 @@ pub record Clocks (p : Protocol) : Type 0 where
   pub once : (t u : ℕ) → 0 < p .num t → p .num t ≡ p .num u → coordinatorOf t ≡ coordinatorOf u → t ≡ u
   pub mark : (s t i : ℕ) → p .yes s t ≡ true → i < p .snap s t → at p s i .number ≤ p .mark s t
 
--- Order (S6): at its coordinator a decided transaction lies above all that its log has, until it is installed there.
+-- Order (S6): every log ascends. An open mark is at or above all that its site's log has, a decided pair above it, and each part above
+-- what stands before it. A committed transaction is decided at its coordinator until it is installed there.
 abbrev pub RecBelow : ℕ → ℕ → Rec → Type 0
 RecBelow n c (rPart e) = rank (e .number) (coordinatorOf (e .tx)) < rank n c
 RecBelow n c (rState k) = k < n
 
--- in a log, what stands before a part of its own is below it
-abbrev pub OwnAbove : ℕ → List Rec → List Rec → Type 0
-OwnAbove c before [] = Unit {0}
-OwnAbove c before (rPart e ∷ l) = (coordinatorOf (e .tx) ≡ c → All (RecBelow (e .number) c) before) × OwnAbove c (before ++ (rPart e ∷ [])) l
-OwnAbove c before (rState k ∷ l) = OwnAbove c (before ++ (rState k ∷ [])) l
+abbrev pub Ascending : List Rec → List Rec → Type 0
+Ascending before [] = Unit {0}
+Ascending before (rPart e ∷ l) = All (RecBelow (e .number) (coordinatorOf (e .tx))) before × Ascending (before ++ (rPart e ∷ [])) l
+Ascending before (rState k ∷ l) = Ascending (before ++ (rState k ∷ [])) l
 
 pub record Order (p : Protocol) : Type 0 where
-  pub decided : (t : ℕ) → AtStage p (coordinatorOf t) t stage.decided → All (RecBelow (p .num t) (coordinatorOf t)) (p .log (coordinatorOf t))
-  pub own : (s : ℕ) → OwnAbove s [] (p .log s)
+  pub queued : (s t : ℕ) → AtStage p s t stage.queued → All (RecLow (courseAt p s t .number)) (p .log s)
+  pub decided : (s t : ℕ) → AtStage p s t stage.decided → All (RecBelow (p .num t) (coordinatorOf t)) (p .log s)
+  pub ascends : (s : ℕ) → Ascending [] (p .log s)
   pub held : (t : ℕ) → 0 < p .num t → AtStage p (coordinatorOf t) t stage.decided ⊎ Installed p (coordinatorOf t) t
 
 -- Writers (S2, S3): the first writer of a key wins.

@@ -41,6 +41,7 @@ pub mod Told
 pub mod Booked
 pub mod StreamInv
 pub mod StreamTake
+pub mod StreamDue
 pub mod StreamEmit
 pub mod StreamReached
 pub mod StreamClaims
@@ -87,7 +88,6 @@ pub mod Spoken
 pub mod GoesOn
 pub mod KnownWords
 pub mod Progress
-pub mod Ascends
 pub mod StreamNext
 pub mod Written
 pub mod LogsAscend

@@ -33,7 +33,6 @@ use Rattle.rules.proofs.Tables.{all-at}
 use Rattle.rules.proofs.Protocol.{Protocol, Rec, rPart, rState}
 use Rattle.rules.proofs.Invariants.{RecBelow, Invariant}
 use Rattle.rules.proofs.Committed.{low-coordinator}
-use Rattle.rules.proofs.Ascends.{Ascends}
 use Rattle.rules.proofs.Refines.{recWords, partHeadOf}
 use Rattle.rules.proofs.Stream as stream
 use Rattle.rules.proofs.Stream.{Stream, rankOf}
@@ -45,13 +44,13 @@ use Rattle.rules.proofs.RefineMerge.{logged}
 use Rattle.rules.proofs.Written.{NotFalls, Written, house-is}
 
 -- Two records of a log, by their heads.
-module _ {sites : ℕ} {p : Protocol} (few : sites ≤ 8) (inv : Invariant sites p) (a : Ascends p) (s i j : ℕ) (l : i < j) (h : j < length (p .log s)) where
+module _ {sites : ℕ} {p : Protocol} (few : sites ≤ 8) (inv : Invariant sites p) (s i j : ℕ) (l : i < j) (h : j < length (p .log s)) where
   abbrev recAt : ℕ → Rec
   recAt k = getD (p .log s) k (rState 0)
 
   below : (e : Entry) → recAt j ≡ rPart e → RecBelow (e .number) (coordinatorOf (e .tx)) (recAt i)
   below e q =
-      let b = above-at (coordinatorOf (e .tx)) [] (p .log s) j e (a .above s (coordinatorOf (e .tx))) h q refl in
+      let b = above-at [] (p .log s) j e (inv .order .ascends s) h q in
       let n = length-take-le j (p .log s) (omega arith) in
       rw getD-take at (all-at b (rState 0) i (omega arith))
 
@@ -107,7 +106,7 @@ end-upto n k (rPart e ∷ l) f h = end-upto n k l (λ i j b q. f (suc i) j (omeg
 end-upto n k (rState c ∷ l) f h = end-upto n c l (λ i j b q. f (suc i) j (omega arith) q) (f 0 c (omega arith) refl)
 
 -- The logs of a house.
-module _ {sites : ℕ} {w : World} {v : Stream} (x : StreamIs sites w v) (z : Standing sites v) (a : Ascends (v .protocol)) (l : Lasts (v .protocol) (v .merger)) (f : (s : ℕ) → Written sites (w .log s)) where
+module _ {sites : ℕ} {w : World} {v : Stream} (x : StreamIs sites w v) (z : Standing sites v) (l : Lasts (v .protocol) (v .merger)) (f : (s : ℕ) → Written sites (w .log s)) where
   abbrev p : Protocol
   p = v .protocol
 
@@ -118,7 +117,7 @@ module _ {sites : ℕ} {w : World} {v : Stream} (x : StreamIs sites w v) (z : St
   logs-ascend s i j b h =
       let (y, q) = logged x s i (omega arith) in
       let (c, k) = logged x s j h in
-      rw (q, k) (follow (x .refines .few) (z .invariant) a s i j b c _ _ refl refl (rw (q, k) at (f s .rise i j b h)))
+      rw (q, k) (follow (x .refines .few) (z .invariant) s i j b c _ _ refl refl (rw (q, k) at (f s .rise i j b h)))
 
   -- The next of the log of s.
   module _ (s : ℕ) (h : w .merged s < length (w .log s)) where
@@ -171,7 +170,7 @@ module _ {sites : ℕ} {w : World} {v : Stream} (x : StreamIs sites w v) (z : St
         let d : recordHead ws ≡ partHeadOf s e = ap recordHead (next .1 ∙ ap (recWords s) q) ∙ part-head s e in
         let (b, c) = rw d at inside in
         let k = source b c in
-        let (u, y) = next-part (z .invariant) a (z .streamed) l s e (next .0) q in
+        let (u, y) = next-part (z .invariant) (z .streamed) l s e (next .0) q in
         let low = low-coordinator (x .refines .few) (z .invariant .parts) s (e .tx) (part-real (z .invariant) s (m .took s) e (next .0) q .has) in
         rw (eq-eqb (recordHead ws .kind) kind.part (ap (λ (r : RecordHead). r .kind) d))
         (part-answer g (w .queues) ws

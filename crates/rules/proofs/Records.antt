@@ -19,7 +19,6 @@ use Rattle.rules.specs.Claim.{Committed}
 use Rattle.rules.specs.Progress.{Drained, InStream, RecordsProgress}
 use Rattle.rules.proofs.Tables.{all-at}
 use Rattle.rules.proofs.Protocol.{Protocol, rState, freshProtocol}
-use Rattle.rules.proofs.Ascends.{Ascends, ascends-fresh, ascends-steps}
 use Rattle.rules.proofs.Refines.{recWords}
 use Rattle.rules.proofs.Stream as stream
 use Rattle.rules.proofs.Stream.{Stream, freshStream}
@@ -36,21 +35,19 @@ use Rattle.rules.proofs.EmitDrains.{emit-drains}
 
 -- A house whose logs ascend.
 record Climbs (sites : ℕ) (w : World) (v : Stream) : Type 0 where
-  ascends : Ascends (v .protocol)
   lasts : Lasts (v .protocol) (v .merger)
   written : (s : ℕ) → Written sites (w .log s)
 
 call-climbs : {sites : ℕ} → sites ≤ 8 → Keeps (Climbs sites) sites
 call-climbs few w v u c h i z ss e j m =
     record {
-      ascends = ascends-steps few ss z (m .ascends);
       lasts = lasts-steps few ss z (m .lasts);
-      written = call-written (i .refines) (z .invariant) (m .ascends) (m .written) c;
+      written = call-written (i .refines) (z .invariant) (m .written) c;
     }
 
 fresh-climbs : (sites : ℕ) → Climbs sites (freshWorld sites) freshStream
 unfolding freshWorld freshStream
-fresh-climbs sites = record { ascends = ascends-fresh; lasts = lasts-fresh freshProtocol; written = λ s. written-none sites }
+fresh-climbs sites = record { lasts = lasts-fresh freshProtocol; written = λ s. written-none sites }
 
 -- A drained house, at the machine's tables.
 module _ {sites : ℕ} {w : World} {b : List Fact} (x : Stands (Climbs sites) sites w b) where
@@ -63,7 +60,7 @@ module _ {sites : ℕ} {w : World} {b : List Fact} (x : Stands (Climbs sites) si
   drained-at : (n : ℕ) → Drained sites w n → (s : ℕ) → 1 ≤ s → s ≤ sites → DrainedAt p m n s
   drained-at n d s l h =
       let (e, (i, k, u, v)) = d s l h in
-      let (c, q) = state-in (x .is .refines) (x .standing .invariant) (x .more .ascends) (x .more .written) s i k u in
+      let (c, q) = state-in (x .is .refines) (x .standing .invariant) (x .more .written) s i k u in
       let y = x .standing .streamed .source s in
       let o : length (w .log s) ≡ length (p .log s) = ap length (x .is .refines .log s) ∙ length-map (p .log s) (recWords s) in
       let t : m .took s ≡ length (p .log s) = sym (x .is .merged s) ∙ e ∙ o in
@@ -99,7 +96,7 @@ drain few zero n t k c out x d h u room l =
 drain {sites} few (suc f) {w} n t k c out x d h u room l =
     let (y, q, e) = x .booked .commits .commit t k c h in
     go (λ g. drain few f n t k c out (call-stands (Climbs sites) few (call-climbs few) (world.emit out) tt x) (emit-drained sites w n out d) (is-kept _ h) u room (omega arith))
-    (emit-drains (x .is) (x .standing) (x .more .ascends) n (drained-at x n d) t y (omega arith) out room)
+    (emit-drains (x .is) (x .standing) n (drained-at x n d) t y (omega arith) out room)
   where
     go : (length (step w (world.emit out) .world .stream) ≡ length (w .stream) + 1 → (j : ℕ) × InStream (run (step w (world.emit out) .world) (replicate j (world.emit out))) t)
         → Out (x .stream .merger) t ⊎ (length (step w (world.emit out) .world .stream) ≡ length (w .stream) + 1) → (j : ℕ) × InStream (run w (replicate j (world.emit out))) t
@@ -112,8 +109,8 @@ records-progress sites calls some few lawful =
     let x = list-stands (Climbs sites) few (call-climbs few) some (fresh-climbs sites) calls lawful in
     let z = x .standing in
     let y = x .more in (
-      logs-ascend (x .is) z (y .ascends) (y .lasts) (y .written),
-      next-taken (x .is) z (y .ascends) (y .lasts) (y .written),
-      due-is-whole (x .is) z (y .ascends),
+      logs-ascend (x .is) z (y .lasts) (y .written),
+      next-taken (x .is) z (y .lasts) (y .written),
+      due-is-whole (x .is) z,
       λ n t k c out d h u room. drain few (rank k c + 1) n t k c out x d h u room (omega arith),
     )

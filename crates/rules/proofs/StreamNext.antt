@@ -15,23 +15,22 @@ use Rattle.rules.specs.House.{coordinatorOf}
 use Rattle.rules.specs.World.{upd}
 use Rattle.rules.proofs.Tables.{All, a-nil, a-cons}
 use Rattle.rules.proofs.Protocol.{Protocol, Rec, rPart, rState, partsOf}
-use Rattle.rules.proofs.Invariants.{RecBelow, OwnAbove, Invariant}
+use Rattle.rules.proofs.Invariants.{RecBelow, Ascending, Invariant}
 use Rattle.rules.proofs.Changes.{change}
-use Rattle.rules.proofs.Ascends.{Ascends}
 use Rattle.rules.proofs.Stream.{Merger, rankOf, Merging, takePart, takeState, emit, Stream, Steps, stop, more, moves, merges, replays, freshMerger}
 use Rattle.rules.proofs.StreamInv.{Real, real-at, Streamed}
 use Rattle.rules.proofs.StreamTake.{taken-more, grown}
-use Rattle.rules.proofs.StreamEmit.{end-below}
+use Rattle.rules.proofs.StreamDue.{end-below}
 use Rattle.rules.proofs.StreamReached.{Standing, standing-steps}
 
 -- A part in a log: what stands before it is below it, and it is one that its site installed.
-pub above-at : (c : ℕ) (before l : List Rec) (i : ℕ) (e : Entry) → OwnAbove c before l → i < length l → getD l i (rState 0) ≡ rPart e → coordinatorOf (e .tx) ≡ c
-    → All (RecBelow (e .number) c) (before ++ take i l)
-above-at c before [] i e o h q k = absurd (omega arith)
-above-at c before (rPart x ∷ l) zero e (a, o) h q k = let z : x ≡ e = cc in rw append-nil (rw z at a k)
-above-at c before (rState n ∷ l) zero e o h q k = absurd (let z : _≡_ {A = ℕ} 0 1 = cc in omega arith)
-above-at c before (rPart x ∷ l) (suc i) e (a, o) h q k = rw append-assoc at (above-at c (before ++ (rPart x ∷ [])) l i e o (omega arith) q k)
-above-at c before (rState n ∷ l) (suc i) e o h q k = rw append-assoc at (above-at c (before ++ (rState n ∷ [])) l i e o (omega arith) q k)
+pub above-at : (before l : List Rec) (i : ℕ) (e : Entry) → Ascending before l → i < length l → getD l i (rState 0) ≡ rPart e
+    → All (RecBelow (e .number) (coordinatorOf (e .tx))) (before ++ take i l)
+above-at before [] i e o h q = absurd (omega arith)
+above-at before (rPart x ∷ l) zero e (a, o) h q = let z : x ≡ e = cc in rw append-nil (rw z at a)
+above-at before (rState n ∷ l) zero e o h q = absurd (let z : _≡_ {A = ℕ} 0 1 = cc in omega arith)
+above-at before (rPart x ∷ l) (suc i) e (a, o) h q = rw append-assoc at (above-at (before ++ (rPart x ∷ [])) l i e o (omega arith) q)
+above-at before (rState n ∷ l) (suc i) e o h q = rw append-assoc at (above-at (before ++ (rState n ∷ [])) l i e o (omega arith) q)
 
 part-index : (l : List Rec) (i : ℕ) (e : Entry) → i < length l → getD l i (rState 0) ≡ rPart e → (j : ℕ) × (j < length (partsOf l)) × (getD (partsOf l) j pastEntry ≡ e)
 part-index [] i e h q = absurd (omega arith)
@@ -88,10 +87,10 @@ unfolding freshMerger
 lasts-fresh p s = refl
 
 -- The next, where it is a part, is above the last part and beyond the last state.
-pub next-part : {sites : ℕ} {p : Protocol} {m : Merger} → Invariant sites p → Ascends p → Streamed sites p m → Lasts p m → (s : ℕ) (e : Entry)
+pub next-part : {sites : ℕ} {p : Protocol} {m : Merger} → Invariant sites p → Streamed sites p m → Lasts p m → (s : ℕ) (e : Entry)
     → m .took s < length (p .log s) → getD (p .log s) (m .took s) (rState 0) ≡ rPart e → (m .last s < rankOf e) × (m .state s < e .number)
-next-part {p = p} {m = m} inv a i f s e h q =
+next-part {p = p} {m = m} inv i f s e h q =
     let r = part-real inv s (m .took s) e h q in
     let n : 0 < e .number = rw (r .number) (r .committed) in
-    let b = above-at (coordinatorOf (e .tx)) [] (p .log s) (m .took s) e (a .above s (coordinatorOf (e .tx))) h q refl in
+    let b = above-at [] (p .log s) (m .took s) e (inv .order .ascends s) h q in
     (omega (arith, f s, rank-below 0 b (omega arith)), omega (arith, i .source s .ends, end-below 0 b n))

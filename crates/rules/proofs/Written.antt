@@ -34,7 +34,6 @@ use Rattle.rules.proofs.Tables.{upd-cases, all-at}
 use Rattle.rules.proofs.Protocol.{Protocol, Rec, rPart, rState, AtStage}
 use Rattle.rules.proofs.Invariants.{Invariant}
 use Rattle.rules.proofs.StepParts.{last-cases}
-use Rattle.rules.proofs.Ascends.{Ascends}
 use Rattle.rules.proofs.Refines.{recWords, partHeadOf, LiveIs, Refines}
 use Rattle.rules.proofs.RefineTurn.{part-place}
 use Rattle.rules.proofs.RefineStep.{by-code, inside}
@@ -77,7 +76,7 @@ pub house-is : (o : House) (n : ℕ) → o .sites ≡ n → o ≡ record { sites
 house-is o n e = λ i. record { sites = e i }
 
 -- The state number is at or above every state before it.
-module _ {sites : ℕ} {p : Protocol} (inv : Invariant sites p) (a : Ascends p) (s : ℕ) where
+module _ {sites : ℕ} {p : Protocol} (inv : Invariant sites p) (s : ℕ) where
   state-above : (live : List Sub) (clock i k : ℕ) → LiveIs live (p .live s) → clock ≡ p .clock s → i < length (p .log s) → getD (p .log s) i (rState 0) ≡ rState k
       → k ≤ stateNumber live clock sizes.live
   state-above live clock i k l e h q = go (state-is live clock sizes.live)
@@ -91,16 +90,16 @@ module _ {sites : ℕ} {p : Protocol} (inv : Invariant sites p) (a : Ascends p) 
           let t = partAt live j .tx in
           let x = here j (λ f. omega arith) b in
           let y : AtStage p s t stage.queued = sym (ap (λ (b : Sub). b .course .stage) x) ∙ g in
-          let z : k ≤ p .live s t .course .number = rw q at (all-at (a .queued s t y) (rState 0) i h) in
+          let z : k ≤ p .live s t .course .number = rw q at (all-at (inv .order .queued s t y) (rState 0) i h) in
           omega (arith, ap (λ (b : Sub). b .course .number) x)
       go (inr (inr (j, b, g, n))) =
           let t = partAt live j .tx in
           let x = here j (λ f. omega arith) b in
           let y : AtStage p s t stage.decided = sym (ap (λ (b : Sub). b .course .stage) x) ∙ g in
-          let z : k < p .num t = rw q at (all-at (a .decided s t y) (rState 0) i h) in
+          let z : k < p .num t = rw q at (all-at (inv .order .decided s t y) (rState 0) i h) in
           omega (arith, ap (λ (b : Sub). b .course .number) x, inv .courses .decided s t y .1)
 
-module _ {sites : ℕ} {w : World} {p : Protocol} (r : Refines sites w p) (inv : Invariant sites p) (a : Ascends p) (f : (s : ℕ) → Written sites (w .log s)) where
+module _ {sites : ℕ} {w : World} {p : Protocol} (r : Refines sites w p) (inv : Invariant sites p) (f : (s : ℕ) → Written sites (w .log s)) where
   -- a call that writes nothing, or one record, into the log of s
   same-log : (s : ℕ) (e : Effect) (base : List Value) → e .words ≡ [] → (j : ℕ) → Written sites (logStep w s e base .world .log j)
   unfolding logStep
@@ -144,7 +143,7 @@ module _ {sites : ℕ} {w : World} {p : Protocol} (r : Refines sites w p) (inv :
         let y = r .site s l h in
         more-log s reported (w .base s) _ [] refl
         (inr (rw (house-is (site .house) sites (y .house)) at (state-good site number v)))
-        (λ i b k z. let (c, q) = state-in s i b k in state-above inv a s (site .live) (site .counters .clock) i _ (y .live) (y .counters .clock-is) c q)
+        (λ i b k z. let (c, q) = state-in s i b k in state-above inv s (site .live) (site .counters .clock) i _ (y .live) (y .counters .clock-is) c q)
 
     report-written : (j : ℕ) → Written sites (step w (world.report s out) .world .log j)
     unfolding step reportOf
