@@ -29,8 +29,8 @@ use Rattle.rules.proofs.StreamReached.{Standing}
 use Rattle.rules.proofs.Committed.{coordinator-site}
 use Rattle.rules.proofs.StreamDrain.{DrainedAt, HeadUpTo, drained-head}
 use Rattle.rules.proofs.RefineMerger.{StreamIs}
-use Rattle.rules.proofs.RefineEmit.{some-queued}
-use Rattle.rules.proofs.DueWhole.{inside, due-is, least-rank, due-whole-at}
+use Rattle.rules.proofs.RefineHeads.{inside, some-queued, due-is, least-rank}
+use Rattle.rules.proofs.DueWhole.{due-whole-at}
 
 -- an emit that is not refused writes one record
 emit-code : (g : Merger) (queues : List ℕ) (room : ℕ) → sizes.merged ≤ room → mergerOk g queues ≡ true → emitCode g queues room ≡ 0

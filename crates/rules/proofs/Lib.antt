@@ -54,6 +54,7 @@ pub mod RefineCommit
 pub mod RefineMerger
 pub mod RefineQueue
 pub mod RefineMerge
+pub mod RefineHeads
 pub mod RefineEmit
 pub mod RefineTake
 pub mod RefineQuiet
