@@ -14,11 +14,9 @@ use Rattle.rules.specs.World.{Is, here}
 use Rattle.rules.specs.Book as book
 use Rattle.rules.specs.Book.{Fact}
 use Rattle.rules.specs.Claim.{Before, LastWrite}
-use Rattle.rules.proofs.Tables.{upd₂, upd₂-same, upd₂-cases, all-one}
+use Rattle.rules.proofs.Tables.{upd₂, upd₂-same, upd₂-cases, all-one, upd₂-both, all-is, is-append}
 use Rattle.rules.proofs.Protocol.{Protocol, inst}
-use Rattle.rules.proofs.Frames.{kept₂, was₂, upd₂-both}
-use Rattle.rules.proofs.RefineHanded.{all-is}
-use Rattle.rules.proofs.BookReplays.{is-append}
+use Rattle.rules.proofs.Frames.{kept₂, was₂}
 use Rattle.rules.proofs.BookLists.{is-kept, is-last, OfKind, old, before-second, before-kept, before-here, before-append, not-alone, last-kept}
 use Rattle.rules.proofs.Booked.{home, PairAt, UsedIn, Begins, Writes, Booked}
 use Rattle.rules.proofs.BookKept.{commits-kept, installs-kept}

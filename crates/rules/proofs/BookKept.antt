@@ -9,10 +9,9 @@ use Rattle.kinds.specs.declared.Entry.{Entry}
 use Rattle.kinds.specs.State.{pastEntry}
 use Rattle.rules.specs.Book as book
 use Rattle.rules.specs.Book.{Fact}
-use Rattle.rules.proofs.Tables.{a-nil, all-one}
+use Rattle.rules.proofs.Tables.{a-nil, all-one, all-is}
 use Rattle.rules.proofs.Protocol.{Protocol, inst}
 use Rattle.rules.proofs.Invariants.{at}
-use Rattle.rules.proofs.RefineHanded.{all-is}
 use Rattle.rules.proofs.BookLists.{is-kept, OfKind, old, before-second, before-kept, before-old, last-kept}
 use Rattle.rules.proofs.Booked.{Commits, Begins, Writes, Installs, Sees, Booked}
 

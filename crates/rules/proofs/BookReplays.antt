@@ -25,8 +25,7 @@ use Rattle.rules.specs.World as world
 use Rattle.rules.specs.Book as book
 use Rattle.rules.specs.Book.{Fact, factsOf, bookFrom}
 use Rattle.rules.specs.Claim.{lastReplay}
-use Rattle.rules.proofs.Tables.{All, a-nil, a-cons, all-append, all-one, upd-cases}
-use Rattle.rules.proofs.RefineHanded.{all-is}
+use Rattle.rules.proofs.Tables.{All, a-nil, a-cons, all-append, all-one, upd-cases, all-is, is-append}
 use Rattle.rules.proofs.RefineLaid.{put-header}
 use Rattle.rules.proofs.RefineReplay.{Replays, replay-cases}
 
@@ -128,12 +127,6 @@ installs-none s a = on-installed NoReplay a-nil (λ n c. all-one refl) a
 
 commits-none : (t : ℕ) (a : Answer) → NoReplay (book.commits t a)
 commits-none t a = on-committed NoReplay a-nil (λ n. all-one refl) a
-
--- What is behind stays last.
-pub is-append : {A : Type 0} {a : A} (l m : List A) → Is a (l ++ m) → Is a l ⊎ Is a m
-is-append [] m i = inr i
-is-append (x ∷ l) m here = inl here
-is-append (x ∷ l) m (there i) = ⊎-elim (λ j. inl (there j)) (λ j. inr j) (is-append l m i)
 
 still-last : (c : ℕ) (b l : List Fact) (n d : ℕ) → ((m e : ℕ) → Is (book.replayed c m e) l → ⊥) → lastReplay c b n d → lastReplay c (b ++ l) n d
 still-last c b l n d f (inl (p, q, e, g)) =

@@ -25,12 +25,11 @@ use Rattle.rules.specs.World.{World, Call, upd, step, siteStep, logStep,
 use Rattle.rules.specs.World as world
 use Rattle.rules.specs.Book as book
 use Rattle.rules.specs.Book.{Fact}
-use Rattle.rules.proofs.Tables.{upd-same, upd-other, upd-cases, All, a-nil, a-cons, all-append, all-one}
+use Rattle.rules.proofs.Tables.{upd-same, upd-other, upd-cases, All, a-nil, a-cons, all-append, all-one, all-is}
 use Rattle.rules.proofs.Protocol.{Protocol}
 use Rattle.rules.proofs.Invariants.{Invariant}
 use Rattle.rules.proofs.Refines.{Refines}
 use Rattle.rules.proofs.RefineStep.{toldBy, by-code}
-use Rattle.rules.proofs.RefineHanded.{all-is}
 use Rattle.rules.proofs.BookReplays.{on-begun, on-found, on-done, on-committed, on-installed}
 use Rattle.rules.proofs.BookLists.{none-is, factKind, OfKind}
 use Rattle.rules.proofs.MovesTold.{NoAccess, NoInstall, WritesOnce}

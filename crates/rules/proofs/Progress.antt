@@ -21,14 +21,14 @@ use Rattle.rules.specs.World.{World, Call, Handed, step, siteStep, logSt
 use Rattle.rules.specs.World as world
 use Rattle.rules.specs.Book.{Fact}
 use Rattle.rules.specs.Progress.{NoneOutOfTurn, MessagesProgress}
-use Rattle.rules.proofs.Tables.{All, a-nil, all-append}
+use Rattle.rules.proofs.Tables.{All, a-nil, all-append, all-is}
 use Rattle.rules.proofs.Protocol.{Protocol, Msg}
 use Rattle.rules.proofs.Invariants.{Invariant}
 use Rattle.rules.proofs.Refines.{Refines}
 use Rattle.rules.proofs.RefineStep.{by-code, inside}
 use Rattle.rules.proofs.RefineMail.{Made, made-in}
 use Rattle.rules.proofs.RefineMessage.{headIn}
-use Rattle.rules.proofs.RefineHanded.{all-is, posted, arrives}
+use Rattle.rules.proofs.RefineHanded.{posted, arrives}
 use Rattle.rules.proofs.Stream.{Stream, freshStream}
 use Rattle.rules.proofs.Stands.{Stands, Keeps, list-stands}
 use Rattle.rules.proofs.Phases.{Phases}

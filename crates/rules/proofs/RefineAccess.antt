@@ -35,7 +35,7 @@ use Rattle.rules.specs.World.{World, step, siteStep, messagesIn, splitWo
 use Rattle.rules.specs.World as world
 use Rattle.rules.specs.Book as book
 use Rattle.rules.specs.Book.{Fact}
-use Rattle.rules.proofs.Tables.{a-nil}
+use Rattle.rules.proofs.Tables.{a-nil, row-same, row-other}
 use Rattle.rules.proofs.Protocol.{Protocol, inst, Accessed, access, stop, more}
 use Rattle.rules.proofs.Protocol as protocol
 use Rattle.rules.proofs.Invariants.{at}
@@ -43,7 +43,7 @@ use Rattle.rules.proofs.KeysTold.{read-wrote, read-value, read-sized, r
 use Rattle.rules.proofs.Refines.{IsFree, Sized, LiveIs, HistoryIs, Refines}
 use Rattle.rules.proofs.RefineLive.{place-held, place-spot}
 use Rattle.rules.proofs.RefineSite.{site-sub}
-use Rattle.rules.proofs.RefineStep.{Follows, toldBy, by-code, row-same, row-other, grows-none, inside, stays, site-step}
+use Rattle.rules.proofs.RefineStep.{Follows, toldBy, by-code, grows-none, inside, stays, site-step}
 
 -- Nobody else holds a key: no part at another place,
 key-free : (live : List Sub) (row : ℕ → Sub) (t k : ℕ) → LiveIs live row → placeOf live t < sizes.live → keyHeld live (placeOf live t) k ≡ false

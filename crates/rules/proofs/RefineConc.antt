@@ -30,7 +30,7 @@ use Rattle.rules.specs.Course.{quietly, withCourseOf, withReply, isOutst
 use Rattle.rules.specs.Deliver.{arrived}
 use Rattle.rules.specs.World.{upd}
 use Rattle.rules.specs.Book as book
-use Rattle.rules.proofs.Tables.{upd₂-same, upd-same, upd-other}
+use Rattle.rules.proofs.Tables.{upd₂-same, upd-same, upd-other, row-same, row-other}
 use Rattle.rules.proofs.Protocol.{Protocol, mConc, Next, AtStage, courseAt, Within, withCourseAt, set-gathered, took, gathers}
 use Rattle.rules.proofs.Invariants.{Invariant}
 use Rattle.rules.proofs.Masks.{outstanding-unheard}
@@ -39,7 +39,6 @@ use Rattle.rules.proofs.Reached.{invariant-moves}
 use Rattle.rules.proofs.Refines.{IsFree, ListIs, sliceOf, SiteIs}
 use Rattle.rules.proofs.RefineLive.{live-set}
 use Rattle.rules.proofs.RefineSite.{channels-taken}
-use Rattle.rules.proofs.RefineStep.{row-same, row-other}
 use Rattle.rules.proofs.RefineTurn.{AtPlace, course-is, tx-of}
 use Rattle.rules.proofs.RefineActs.{Acts, acts-then, settled-turn, settled-again}
 use Rattle.rules.proofs.RefineCertify.{certifies, join-within}

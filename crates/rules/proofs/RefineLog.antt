@@ -32,12 +32,12 @@ use Rattle.rules.specs.CallLaws.{install-clear, report-clear}
 use Rattle.rules.specs.World.{World, upd, step, logStep, recordIn}
 use Rattle.rules.specs.World as world
 use Rattle.rules.specs.Book as book
-use Rattle.rules.proofs.Tables.{upd-same, upd-other}
+use Rattle.rules.proofs.Tables.{upd-same, upd-other, row-other}
 use Rattle.rules.proofs.Protocol.{Protocol, Rec, rPart, rState, partsOf, LeastQueued, StateAt, install, report, stop, more}
 use Rattle.rules.proofs.StepParts.{parts-append, parts-state}
 use Rattle.rules.proofs.Refines.{IsFree, HistoryIs, LiveIs, recWords, entryWords, partHeadOf, Refines}
 use Rattle.rules.proofs.RefineTurn.{part-place, site-gone}
-use Rattle.rules.proofs.RefineStep.{Follows, toldBy, by-code, row-other, inside, unlogged, log-step}
+use Rattle.rules.proofs.RefineStep.{Follows, toldBy, by-code, inside, unlogged, log-step}
 
 -- a record written behind the log
 log-more : (s : ℕ) (l : List (List ℕ)) (m : List Rec) (a : Rec) (ws : List ℕ) → l ≡ map (recWords s) m → recordIn ws ≡ recWords s a ∷ []

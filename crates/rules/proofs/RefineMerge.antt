@@ -29,7 +29,7 @@ use Rattle.rules.specs.MergerClear.{PartTaken}
 use Rattle.rules.specs.MergerKept.{Holds, merge-kept}
 use Rattle.rules.specs.World.{World, Handed, upd, step, mergerStep, mergeStep, stepTaken, sameWords, recordIn}
 use Rattle.rules.specs.World as world
-use Rattle.rules.proofs.Tables.{upd-cases, upd-same, upd-other, all-at}
+use Rattle.rules.proofs.Tables.{upd-cases, upd-same, upd-other, all-at, all-is}
 use Rattle.rules.proofs.Protocol.{Protocol, Rec, rPart, rState}
 use Rattle.rules.proofs.Frames.{in-range}
 use Rattle.rules.proofs.Refines.{recWords, entryWords, partHeadOf}
@@ -38,7 +38,6 @@ use Rattle.rules.proofs.Stream.{Stream, Steps, NextRecord, rankOf}
 use Rattle.rules.proofs.StreamInv.{NotAbove}
 use Rattle.rules.proofs.StreamReached.{Standing}
 use Rattle.rules.proofs.Told.{toldSteps}
-use Rattle.rules.proofs.RefineHanded.{all-is}
 use Rattle.rules.proofs.RefineMerger.{itemWords, MergerIs, StreamIs, Onward, one-step, posted-no-record, is-map, part-head, state-head, item-head, map-at, same-words, words-same}
 use Rattle.rules.proofs.RefineQueue.{TakesPart, TakesState, merge-cases, tx-low, more-queued, still-queued}
 

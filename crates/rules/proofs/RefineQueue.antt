@@ -28,7 +28,7 @@ use Rattle.rules.specs.Merger.{doneMerger, refusedMerger, sourceAt, with
 use Rattle.rules.specs.MergerClear.{PartTaken, part-taken, merge-clear, taken-part, part-short}
 use Rattle.rules.specs.MergerKept.{Holds}
 use Rattle.rules.specs.MergerWords.{put-part-back, put-elsewhere}
-use Rattle.rules.proofs.StepParts.{last-cases}
+use Rattle.rules.proofs.Tables.{last-cases}
 use Rattle.rules.proofs.Refines.{entryWords}
 use Rattle.rules.proofs.Stream.{rankOf}
 use Rattle.rules.proofs.RefineMerger.{SourceIs}

@@ -31,14 +31,14 @@ use Rattle.rules.specs.CourseLaws.{no-entries}
 use Rattle.rules.specs.Course.{withCourseOf, sendAll, withRequest, prepareStep, castStep}
 use Rattle.rules.specs.World.{upd}
 use Rattle.rules.specs.Book as book
-use Rattle.rules.proofs.Tables.{upd₂, upd₂-same, upd-same, upd-other}
+use Rattle.rules.proofs.Tables.{upd₂, upd₂-same, upd-same, upd-other, row-same, row-other}
 use Rattle.rules.proofs.Protocol.{Protocol, Msg, mPrepare, inst, Within, Moves, courseAt, AtStage, Certified, postedAll, withCourseAt, set-gathered, set-asked, set-mask, set-made, set-list, request, stop, more}
 use Rattle.rules.proofs.Invariants.{In, Invariant}
 use Rattle.rules.proofs.Reached.{invariant-moves}
 use Rattle.rules.proofs.Refines.{IsFree, kindOf, clockIn, argumentIn, entriesIn, sliceOf, SiteIs}
 use Rattle.rules.proofs.RefineLive.{live-set}
 use Rattle.rules.proofs.RefineSite.{site-channels}
-use Rattle.rules.proofs.RefineStep.{Elsewhere, row-same, row-other}
+use Rattle.rules.proofs.RefineStep.{Elsewhere}
 use Rattle.rules.proofs.RefineMail.{none, grows-all}
 use Rattle.rules.proofs.RefineTurn.{AtPlace, course-is, tx-of}
 use Rattle.rules.proofs.RefineActs.{Acts, acts-then, settled-turn, settled-again, others-elsewhere, members, send-all-site, send-all-made}

@@ -16,12 +16,11 @@ use Rattle.kinds.specs.State.{noSub, subAt, withSub, withCourse}
 use Rattle.rules.specs.House.{coordinatorOf}
 use Rattle.rules.specs.Live.{placeOf}
 use Rattle.rules.specs.Course.{withMark, withDecision}
-use Rattle.rules.proofs.Tables.{upd₂}
+use Rattle.rules.proofs.Tables.{upd₂, row-same}
 use Rattle.rules.proofs.Protocol.{Protocol, courseAt}
 use Rattle.rules.proofs.Refines.{IsFree, Sized, LiveIs, Slice, SiteIs}
 use Rattle.rules.proofs.RefineLive.{Spot, place-held, place-spot, place-none}
 use Rattle.rules.proofs.RefineSite.{live-in, site-sub}
-use Rattle.rules.proofs.RefineStep.{row-same}
 
 -- stages of a part freed, marked and decided
 gone : noSub .course .stage ≡ stage.free

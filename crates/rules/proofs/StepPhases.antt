@@ -16,13 +16,12 @@ use Rattle.rules.specs.Message.{entryCount}
 use Rattle.rules.specs.Live.{allHeard}
 use Rattle.rules.specs.Course.{newSub, withParticipant, withReply, withDecision, withMark, withRequest, withStage}
 use Rattle.rules.specs.World.{upd}
-use Rattle.rules.proofs.Tables.{upd₂, upd-same, upd-other, upd₂-same, upd₂-cases}
+use Rattle.rules.proofs.Tables.{upd₂, upd-same, upd-other, upd₂-same, upd₂-cases, upd₂-other}
 use Rattle.rules.proofs.Protocol.{Protocol, Msg, mJoin, mJoined, mPrepare, mConc, mCert, mVote, mCommit, mAbort, inst, AtStage, courseAt, Move, begin, enlist, access, request, abort, cast, decide, install, report, joins, full, joined, prepared, lost, unknown, gathers, certified, rejects, votes, commits, aborts, passes, freshProtocol}
 use Rattle.rules.proofs.Invariants.{Held, In, MsgOk, Invariant}
 use Rattle.rules.proofs.Masks.{none-in, in-or-left, in-or-right, own-mask, all-heard}
 use Rattle.rules.proofs.Frames.{said, ends, tx-coordinator, new-tx, new-join}
 use Rattle.rules.proofs.RoundOk.{heard-more}
-use Rattle.rules.proofs.Turns.{upd₂-other}
 use Rattle.rules.proofs.Refines.{txIn}
 use Rattle.rules.proofs.Stream.{Stream, moves, merges, replays, Steps, stop, more}
 use Rattle.rules.proofs.StreamReached.{Standing, standing-steps}

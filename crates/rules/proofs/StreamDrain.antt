@@ -11,11 +11,12 @@ use Rattle.laws.specs.Pair.{rank}
 use Rattle.kinds.specs.Stage as stage
 use Rattle.kinds.specs.declared.Entry.{Entry}
 use Rattle.rules.specs.House.{coordinatorOf}
+use Rattle.rules.proofs.Tables.{all-take}
 use Rattle.rules.proofs.Protocol.{Protocol, inst, AtStage}
 use Rattle.rules.proofs.Invariants.{at, Installed, Invariant}
 use Rattle.rules.proofs.Stream.{Merger, rankOf, itemRank}
 use Rattle.rules.proofs.StreamInv.{itemAt, Out, Streamed, gone, inst-split, head-at, not-gone}
-use Rattle.rules.proofs.StreamDue.{all-take, end-below, parts-ascend}
+use Rattle.rules.proofs.StreamDue.{end-below, parts-ascend}
 use Rattle.rules.proofs.Committed.{coordinator-site}
 
 abbrev pub DrainedAt : Protocol → Merger → ℕ → ℕ → Type 0

@@ -5,33 +5,18 @@ use mathlib.Core.Logic.{_⊎_, inl, inr, ⊎-elim}
 use mathlib.Core.List.{List, [], _∷_, _++_, append-assoc, append-nil}
 use native.Mathlib.Nat.{eq-or-lt-of-le}
 use native.Mathlib.Omega.{arith}
-use lib.ListN.{length, getD, take, drop, length-append, take-append-drop}
+use lib.ListN.{length, getD, take, length-append, take-append-drop}
 use lib.Seq.{getD-append-add}
 use Rattle.laws.specs.Pair.{rank}
 use Rattle.kinds.specs.declared.Entry.{Entry}
 use Rattle.kinds.specs.State.{pastEntry}
 use Rattle.rules.specs.House.{coordinatorOf}
-use Rattle.rules.proofs.Tables.{All, a-nil, a-cons}
+use Rattle.rules.proofs.Tables.{All, a-nil, a-cons, all-left, all-right, all-take, all-head}
 use Rattle.rules.proofs.Protocol.{Protocol, Rec, rPart, rState, partsOf, inst}
 use Rattle.rules.proofs.Invariants.{at, In, RecLow, RecBelow, Invariant, Ascending}
 use Rattle.rules.proofs.Committed.{low-coordinator, committed-in}
 use Rattle.rules.proofs.Stream.{Merger, rankOf, DueAt}
 use Rattle.rules.proofs.StreamInv.{Out, endState, Streamed, gone, rest, inst-split, head-at, head-real, item-at, item-mask, real-at}
-
--- Every record of a log.
-all-left : {A : Type 0} {P : A → Type 0} (l m : List A) → All P (l ++ m) → All P l
-all-left [] m h = a-nil
-all-left (x ∷ l) m (a-cons p ps) = a-cons p (all-left l m ps)
-
-all-right : {A : Type 0} {P : A → Type 0} (l m : List A) → All P (l ++ m) → All P m
-all-right [] m h = h
-all-right (x ∷ l) m (a-cons p ps) = all-right l m ps
-
-pub all-take : {A : Type 0} {P : A → Type 0} (n : ℕ) (l : List A) → All P l → All P (take n l)
-all-take n l h = all-left (take n l) (drop n l) (rw (take-append-drop n l) h)
-
-all-head : {A : Type 0} {P : A → Type 0} {x : A} {l : List A} → All P (x ∷ l) → P x
-all-head (a-cons p ps) = p
 
 pub all-parts : {P : Rec → Type 0} {l : List Rec} → All P l → (i : ℕ) → i < length (partsOf l) → P (rPart (getD (partsOf l) i pastEntry))
 all-parts a-nil i h = absurd (omega arith)

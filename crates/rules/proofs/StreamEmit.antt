@@ -16,9 +16,9 @@ use Rattle.laws.specs.Pair.{rank}
 use Rattle.kinds.specs.Stage as stage
 use Rattle.kinds.specs.declared.Entry.{Entry}
 use Rattle.rules.specs.House.{coordinatorOf, inMask}
+use Rattle.rules.proofs.Tables.{last-cases}
 use Rattle.rules.proofs.Protocol.{Protocol, inst, AtStage}
 use Rattle.rules.proofs.Invariants.{at, In, Installed, Invariant}
-use Rattle.rules.proofs.StepParts.{last-cases}
 use Rattle.rules.proofs.Committed.{low-coordinator, committed-asked}
 use Rattle.rules.proofs.Stream.{Item, Merger, rankOf, itemRank, DueAt, SameHead, WholeAt, Emits, headKeys, behindHead, itemOf, emitted}
 use Rattle.rules.proofs.StreamInv.{pastItem, itemAt, Out, partsAt, Streamed, Real, gone, parts-at-append, head-real, not-gone}

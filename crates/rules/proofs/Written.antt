@@ -30,10 +30,9 @@ use Rattle.rules.specs.InstallLaws.{due-low, due-decided, part-good, sta
 use Rattle.rules.specs.CallLaws.{install-clear, report-clear}
 use Rattle.rules.specs.World.{World, Call, step, siteStep, logStep, mergerStep, mergeStep, copyStep, replayStep, recordIn}
 use Rattle.rules.specs.World as world
-use Rattle.rules.proofs.Tables.{upd-cases, all-at}
+use Rattle.rules.proofs.Tables.{upd-cases, all-at, last-cases}
 use Rattle.rules.proofs.Protocol.{Protocol, Rec, rPart, rState, AtStage}
 use Rattle.rules.proofs.Invariants.{Invariant}
-use Rattle.rules.proofs.StepParts.{last-cases}
 use Rattle.rules.proofs.Refines.{recWords, partHeadOf, LiveIs, Refines}
 use Rattle.rules.proofs.RefineTurn.{part-place}
 use Rattle.rules.proofs.RefineStep.{by-code, inside}
