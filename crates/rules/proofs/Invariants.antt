@@ -137,16 +137,21 @@ pub record Clocks (p : Protocol) : Type 0 where
   pub once : (t u : ℕ) → 0 < p .num t → p .num t ≡ p .num u → coordinatorOf t ≡ coordinatorOf u → t ≡ u
   pub mark : (s t i : ℕ) → p .yes s t ≡ true → i < p .snap s t → at p s i .number ≤ p .mark s t
 
--- Order (S6): every log ascends. An open mark is at or above all that its site's log has, a decided pair above it, and each part above
--- what stands before it. A committed transaction is decided at its coordinator until it is installed there.
+-- Order (S6): every log ascends. An open mark is at or above all that its site's log has, a decided pair above it. A committed transaction
+-- is decided at its coordinator until it is installed there.
 abbrev pub RecBelow : ℕ → ℕ → Rec → Type 0
 RecBelow n c (rPart e) = rank (e .number) (coordinatorOf (e .tx)) < rank n c
 RecBelow n c (rState k) = k < n
 
+-- r may stand before: below a part, by pair or number, and before a state no state above it
+abbrev pub Precedes : Rec → Rec → Type 0
+Precedes (rPart e) r = RecBelow (e .number) (coordinatorOf (e .tx)) r
+Precedes (rState n) (rPart e) = Unit {0}
+Precedes (rState n) (rState k) = k ≤ n
+
 abbrev pub Ascending : List Rec → List Rec → Type 0
 Ascending before [] = Unit {0}
-Ascending before (rPart e ∷ l) = All (RecBelow (e .number) (coordinatorOf (e .tx))) before × Ascending (before ++ (rPart e ∷ [])) l
-Ascending before (rState k ∷ l) = Ascending (before ++ (rState k ∷ [])) l
+Ascending before (r ∷ l) = All (Precedes r) before × Ascending (before ++ (r ∷ [])) l
 
 pub record Order (p : Protocol) : Type 0 where
   pub queued : (s t : ℕ) → AtStage p s t stage.queued → All (RecLow (courseAt p s t .number)) (p .log s)

@@ -209,11 +209,16 @@ Within es fs = (j : ℕ) → j < entryCount es → 0 < entryTx es j → Listed f
 abbrev pub LeastQueued : Protocol → ℕ → ℕ → Type 0
 LeastQueued p s t = (u : ℕ) → isQueued (p .live s u) ≡ true → queuedBefore (p .live s u) (p .live s t) ≡ false
 
--- a state number at s: at most the clock, each open mark, and below each decided number
+-- the clock, an open mark, or a decided number less 1
+abbrev pub Bound : Protocol → ℕ → ℕ → Type 0
+Bound p s n = (n ≡ p .clock s) ⊎ (((u : ℕ) × AtStage p s u stage.queued × (n ≡ courseAt p s u .number)) ⊎ ((u : ℕ) × AtStage p s u stage.decided × (n ≡ courseAt p s u .number - 1)))
+
+-- the state number at s: at most the clock, each open mark, and below each decided number, and one of these
 pub record StateAt (p : Protocol) (s n : ℕ) : Type 0 where
   pub clock : n ≤ p .clock s
   pub marks : (u : ℕ) → AtStage p s u stage.queued → n ≤ courseAt p s u .number
   pub numbers : (u : ℕ) → AtStage p s u stage.decided → n ≤ courseAt p s u .number - 1
+  pub is : Bound p s n
 
 -- t's part begins at s
 abbrev pub beganAt : Protocol → ℕ → ℕ → ℕ → Protocol

@@ -9,6 +9,7 @@ use lib.ListN.{length, getD, replicate, length-map}
 use lib.Seq.{getD-take, length-take-le}
 use Rattle.laws.specs.Pair.{rank}
 use Rattle.kinds.specs.Sizes as sizes
+use Rattle.kinds.specs.Kind as kind
 use Rattle.kinds.specs.declared.RecordHead.{RecordHead}
 use Rattle.rules.specs.House.{coordinatorOf}
 use Rattle.rules.specs.Record.{recordHead}
@@ -16,19 +17,19 @@ use Rattle.rules.specs.World.{World, step, mergerStep, run, freshWorld}
 use Rattle.rules.specs.World as world
 use Rattle.rules.specs.Book.{Fact}
 use Rattle.rules.specs.Claim.{Committed}
-use Rattle.rules.specs.Progress.{Drained, InStream, RecordsProgress}
-use Rattle.rules.proofs.Tables.{all-at}
-use Rattle.rules.proofs.Protocol.{Protocol, rState, freshProtocol}
-use Rattle.rules.proofs.Refines.{recWords}
+use Rattle.rules.specs.Progress.{Drained, InStream, RecordsProgress, recordAt}
+use Rattle.rules.proofs.Tables.{all-at, All, a-nil}
+use Rattle.rules.proofs.Protocol.{Protocol, rState, freshProtocol, Rec, rPart}
+use Rattle.rules.proofs.Refines.{recWords, partHeadOf}
 use Rattle.rules.proofs.Stream as stream
 use Rattle.rules.proofs.Stream.{Stream, freshStream}
 use Rattle.rules.proofs.StreamInv.{pastItem, Out, NotAbove}
 use Rattle.rules.proofs.StreamNext.{Lasts, lasts-fresh, lasts-steps}
 use Rattle.rules.proofs.StreamDrain.{DrainedAt, rank-index}
-use Rattle.rules.proofs.RefineMerger.{itemWords, item-head, map-at}
+use Rattle.rules.proofs.RefineMerger.{itemWords, item-head, map-at, part-head, state-head}
 use Rattle.rules.proofs.Stands.{Stands, Keeps, call-stands, list-stands}
 use Rattle.rules.proofs.BookLists.{is-kept}
-use Rattle.rules.proofs.Written.{Written, written-none, call-written, state-in}
+use Rattle.rules.proofs.Written.{RecordOk, call-written}
 use Rattle.rules.proofs.LogsAscend.{logs-ascend, next-taken}
 use Rattle.rules.proofs.DueWhole.{due-is-whole}
 use Rattle.rules.proofs.EmitDrains.{emit-drains}
@@ -36,7 +37,7 @@ use Rattle.rules.proofs.EmitDrains.{emit-drains}
 -- A house whose logs ascend.
 record Climbs (sites : ℕ) (w : World) (v : Stream) : Type 0 where
   lasts : Lasts (v .protocol) (v .merger)
-  written : (s : ℕ) → Written sites (w .log s)
+  written : (s : ℕ) → All (RecordOk sites) (w .log s)
 
 call-climbs : {sites : ℕ} → sites ≤ 8 → Keeps (Climbs sites) sites
 call-climbs few w v u c h i z ss e j m =
@@ -47,7 +48,7 @@ call-climbs few w v u c h i z ss e j m =
 
 fresh-climbs : (sites : ℕ) → Climbs sites (freshWorld sites) freshStream
 unfolding freshWorld freshStream
-fresh-climbs sites = record { lasts = lasts-fresh freshProtocol; written = λ s. written-none sites }
+fresh-climbs sites = record { lasts = lasts-fresh freshProtocol; written = λ s. a-nil }
 
 -- A drained house, at the machine's tables.
 module _ {sites : ℕ} {w : World} {b : List Fact} (x : Stands (Climbs sites) sites w b) where
@@ -57,10 +58,23 @@ module _ {sites : ℕ} {w : World} {b : List Fact} (x : Stands (Climbs sites) si
   abbrev m : stream.Merger
   m = x .stream .merger
 
+  -- a state of the log, as the protocol has it
+  state-in : (s i : ℕ) → i < length (w .log s) → recordAt w s i .kind ≡ kind.state
+      → (i < length (p .log s)) × (getD (p .log s) i (rState 0) ≡ rState (recordAt w s i .number))
+  unfolding partHeadOf
+  state-in s i h k =
+      let (b, q) = map-at (recWords s) (p .log s) (rState 0) i (rw (x .is .refines .log s) at h) in
+      let e : getD (w .log s) i [] ≡ recWords s (getD (p .log s) i (rState 0)) = rw (x .is .refines .log s) q in
+      (b, go (getD (p .log s) i (rState 0)) (ap recordHead e))
+    where
+      go : (x : Rec) → recordAt w s i ≡ recordHead (recWords s x) → x ≡ rState (recordAt w s i .number)
+      go (rPart e) q = absurd (let z : kind.state ≡ kind.part = sym k ∙ ap (λ (h : RecordHead). h .kind) (q ∙ part-head s e) in omega arith)
+      go (rState n) q = ap rState (sym (ap (λ (h : RecordHead). h .number) (q ∙ state-head s n)))
+
   drained-at : (n : ℕ) → Drained sites w n → (s : ℕ) → 1 ≤ s → s ≤ sites → DrainedAt p m n s
   drained-at n d s l h =
       let (e, (i, k, u, v)) = d s l h in
-      let (c, q) = state-in (x .is .refines) (x .standing .invariant) (x .more .written) s i k u in
+      let (c, q) = state-in s i k u in
       let y = x .standing .streamed .source s in
       let o : length (w .log s) ≡ length (p .log s) = ap length (x .is .refines .log s) ∙ length-map (p .log s) (recWords s) in
       let t : m .took s ≡ length (p .log s) = sym (x .is .merged s) ∙ e ∙ o in

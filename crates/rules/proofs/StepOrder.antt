@@ -19,8 +19,8 @@ use Rattle.rules.specs.Live.{isQueued}
 use Rattle.rules.specs.Queue.{queuedBefore}
 use Rattle.rules.specs.Install.{entryOf}
 use Rattle.rules.proofs.Tables.{All, a-nil, a-cons, all-append, all-one, all-map}
-use Rattle.rules.proofs.Protocol.{Protocol, Rec, rPart, rState, partsOf, AtStage, LeastQueued, Move, freshProtocol, courseAt}
-use Rattle.rules.proofs.Invariants.{at, Installed, RecLow, RecBelow, Ascending, Order, Invariant, Held, Courses, Account}
+use Rattle.rules.proofs.Protocol.{Protocol, Rec, rPart, rState, partsOf, AtStage, LeastQueued, Move, freshProtocol, courseAt, Bound}
+use Rattle.rules.proofs.Invariants.{at, Installed, RecLow, RecBelow, Ascending, Order, Invariant, Held, Courses, Account, Precedes}
 use Rattle.rules.proofs.Turns.{Logged, l-same, l-part, l-state, installed-last, Turn, t-stays, t-moves, t-reads, t-aborts, t-installs, t-begins}
 use Rattle.rules.proofs.News.{OwnStage, NumNow, YesNow}
 use Rattle.rules.proofs.Changes.{Change, change, still-installed, decided-kept}
@@ -38,8 +38,16 @@ below-next c (a-cons {x = rState k} p ps) h = a-cons {x = rState k} (omega arith
 -- two logs, one behind the other
 ascending-append : (before l m : List Rec) → Ascending before l → Ascending (before ++ l) m → Ascending before (l ++ m)
 ascending-append before [] m o h = rw append-nil at h
-ascending-append before (rPart e ∷ l) m (a, o) h = (a, ascending-append (before ++ (rPart e ∷ [])) l m o (rw append-assoc h))
-ascending-append before (rState k ∷ l) m o h = ascending-append (before ++ (rState k ∷ [])) l m o (rw append-assoc h)
+ascending-append before (r ∷ l) m (a, o) h = (a, ascending-append (before ++ (r ∷ [])) l m o (rw append-assoc h))
+
+-- a number that bounds a log is a state that may stand behind it
+state-behind : (n m : ℕ) → n ≤ m → (r : Rec) → RecLow n r → Precedes (rState m) r
+state-behind n m h (rPart e) l = tt
+state-behind n m h (rState k) l = omega arith
+
+number-behind : (n c m : ℕ) → n ≤ m + 1 → (r : Rec) → RecBelow n c r → Precedes (rState m) r
+number-behind n c m h (rPart e) l = tt
+number-behind n c m h (rState k) l = omega arith
 
 coordinator-order : (x t : ℕ) → x ≤ t → coordinatorOf x ≤ coordinatorOf t
 unfolding coordinatorOf
@@ -177,7 +185,14 @@ module _ {sites : ℕ} (few : sites ≤ 8) {p : Protocol} (i : Invariant sites p
           let (y, n, z) = i .courses .decided s u x in
           let f = i .parts .tx s u (λ f. omega arith) in
           rw e (ascending-append [] (p .log s) _ (i .order .ascends s) (rw (n, f) (i .order .decided s u x), tt))
-      go (l-state n x e) = rw e (ascending-append [] (p .log s) _ (i .order .ascends s) tt)
+      go (l-state n x e) = rw e (ascending-append [] (p .log s) _ (i .order .ascends s) (behind (x .is), tt))
+        where
+          behind : Bound p s n → All (Precedes (rState n)) (p .log s)
+          behind (inl k) = all-map (state-behind (p .clock s) n (omega arith)) (i .clocks .log s)
+          behind (inr (inl (u, g, k))) = all-map (state-behind (courseAt p s u .number) n (omega arith)) (i .order .queued s u g)
+          behind (inr (inr (u, g, k))) =
+              let z = i .courses .decided s u g .1 in
+              all-map (number-behind (p .num u) (coordinatorOf u) n (omega arith)) (i .order .decided s u g)
 
   held : (t : ℕ) → 0 < q .num t → OwnStage q t stage.decided ⊎ Installed q (coordinatorOf t) t
   held t n = go (c .news .num t n)

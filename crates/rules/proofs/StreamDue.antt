@@ -13,7 +13,7 @@ use Rattle.kinds.specs.State.{pastEntry}
 use Rattle.rules.specs.House.{coordinatorOf}
 use Rattle.rules.proofs.Tables.{All, a-nil, a-cons, all-left, all-right, all-take, all-head}
 use Rattle.rules.proofs.Protocol.{Protocol, Rec, rPart, rState, partsOf, inst}
-use Rattle.rules.proofs.Invariants.{at, In, RecLow, RecBelow, Invariant, Ascending}
+use Rattle.rules.proofs.Invariants.{at, In, RecLow, RecBelow, Invariant, Ascending, Precedes}
 use Rattle.rules.proofs.Committed.{low-coordinator, committed-in}
 use Rattle.rules.proofs.Stream.{Merger, rankOf, DueAt}
 use Rattle.rules.proofs.StreamInv.{Out, endState, Streamed, gone, rest, inst-split, head-at, head-real, item-at, item-mask, real-at}
@@ -36,17 +36,15 @@ end-low k (a-cons {x = rPart e} p ps) h = end-low k ps h
 end-low k (a-cons {x = rState i} p ps) h = end-low i ps p
 
 -- What stands before a part is below it.
-pub part-above : (before l : List Rec) → Ascending before l → (i : ℕ) → i < length (partsOf l)
-    → (let e = getD (partsOf l) i pastEntry in All (RecBelow (e .number) (coordinatorOf (e .tx))) before)
+pub part-above : (before l : List Rec) → Ascending before l → (i : ℕ) → i < length (partsOf l) → All (Precedes (rPart (getD (partsOf l) i pastEntry))) before
 part-above before [] o i h = absurd (omega arith)
 part-above before (rPart x ∷ l) (a, o) zero h = a
 part-above before (rPart x ∷ l) (a, o) (suc i) h = all-left before (rPart x ∷ []) (part-above (before ++ (rPart x ∷ [])) l o i (omega arith))
-part-above before (rState k ∷ l) o i h = all-left before (rState k ∷ []) (part-above (before ++ (rState k ∷ [])) l o i h)
+part-above before (rState k ∷ l) (a, o) i h = all-left before (rState k ∷ []) (part-above (before ++ (rState k ∷ [])) l o i h)
 
-pub ascending-behind : (before l m : List Rec) → Ascending before (l ++ m) → Ascending (before ++ l) m
+ascending-behind : (before l m : List Rec) → Ascending before (l ++ m) → Ascending (before ++ l) m
 ascending-behind before [] m o = rw append-nil o
-ascending-behind before (rPart x ∷ l) m (a, o) = rw append-assoc at (ascending-behind (before ++ (rPart x ∷ [])) l m o)
-ascending-behind before (rState k ∷ l) m o = rw append-assoc at (ascending-behind (before ++ (rState k ∷ [])) l m o)
+ascending-behind before (x ∷ l) m (a, o) = rw append-assoc at (ascending-behind (before ++ (x ∷ [])) l m o)
 
 pub parts-ascend : (before l : List Rec) → Ascending before l → (j i : ℕ) → j < i → i < length (partsOf l)
     → rankOf (getD (partsOf l) j pastEntry) < rankOf (getD (partsOf l) i pastEntry)
@@ -54,7 +52,7 @@ parts-ascend before [] o j i x h = absurd (omega arith)
 parts-ascend before (rPart y ∷ l) (a, o) j zero x h = absurd (omega arith)
 parts-ascend before (rPart y ∷ l) (a, o) zero (suc i) x h = all-head (all-right before (rPart y ∷ []) (part-above (before ++ (rPart y ∷ [])) l o i (omega arith)))
 parts-ascend before (rPart y ∷ l) (a, o) (suc j) (suc i) x h = parts-ascend (before ++ (rPart y ∷ [])) l o j i (omega arith) (omega arith)
-parts-ascend before (rState k ∷ l) o j i x h = parts-ascend (before ++ (rState k ∷ [])) l o j i x h
+parts-ascend before (rState k ∷ l) (a, o) j i x h = parts-ascend (before ++ (rState k ∷ [])) l o j i x h
 
 module _ {sites : ℕ} (few : sites ≤ 8) {p : Protocol} {m : Merger} (inv : Invariant sites p) (i : Streamed sites p m) where
   pub head-low : (s : ℕ) (e : Entry) (l : List Entry) → 1 ≤ s → m .queue s ≡ e ∷ l → coordinatorOf (e .tx) ≤ 8
