@@ -1,4 +1,5 @@
 -- The protocol on plain tables: what an accepted call does, as moves. Nothing here knows of words, buffers, refusals or array lengths.
+-- The move `passes` drops any message: a transaction that loses one at most never commits, and no claim says that it does.
 use Prim.Native.Nat.{ℕ, _+_, _-_, _*_, _≤_, _<_, max}
 use mathlib.Core.Path.{_≡_}
 use mathlib.Core.Bool.{Bool, true, false, not}
