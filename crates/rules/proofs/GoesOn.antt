@@ -108,7 +108,7 @@ vote-in-turn c a v (inl e) o = rw (o, e)
 vote-in-turn c a v (inr (e, n)) o = rw (o, e, ne-eqb v 0 n)
 
 -- a list gathered, with the vote that the last one brings
-gather-speaks : (x : Site) (h : MessageHead) (place : ℕ) (lists : List ℕ) → Speaks (gatherChange x h place lists)
+pub gather-speaks : (x : Site) (h : MessageHead) (place : ℕ) (lists : List ℕ) → Speaks (gatherChange x h place lists)
 unfolding gatherChange
 gather-speaks x h place lists =
     let c = withReply (subAt x place .course) (h .from) 0 (h .count) in

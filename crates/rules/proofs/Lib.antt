@@ -88,6 +88,7 @@ pub mod InTurn
 pub mod Spoken
 pub mod GoesOn
 pub mod KnownWords
+pub mod Unaltered
 pub mod Progress
 pub mod StreamNext
 pub mod Written

@@ -40,6 +40,10 @@ upd-both P f g i a b new old = upd-three {C = ℕ} (λ j x y z. P j x y) f g (λ
 pub upd-cases : {A : Type 0} (P : ℕ → A → Type 0) (f : ℕ → A) (i : ℕ) (a : A) → P i a → ((j : ℕ) → (j ≡ i → ⊥) → P j (f j)) → (j : ℕ) → P j (upd f i a j)
 upd-cases P f i a new old = upd-both {B = ℕ} (λ j x y. P j x) f (λ j. 0) i a 0 new old
 
+-- an entry put where it was
+pub upd-self : {A : Type 0} (f : ℕ → A) (s j : ℕ) → upd f s (f s) j ≡ f j
+upd-self f s = upd-cases (λ j x. x ≡ f j) f s (f s) refl (λ j n. refl)
+
 -- The same for tables of two places.
 pub upd₂-same : {A : Type 0} (f : ℕ → ℕ → A) (s t : ℕ) (a : A) → upd₂ f s t a s t ≡ a
 unfolding upd₂

@@ -49,5 +49,6 @@ pub mod DispatchLaws
 pub mod CopyLaws
 pub mod ListLaws
 pub mod InstallLaws
+pub mod Refusals
 pub mod Progress
 pub mod Reads
