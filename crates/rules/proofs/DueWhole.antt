@@ -5,16 +5,16 @@ use mathlib.Core.Bool.{true, false}
 use mathlib.Core.Logic.{inl, inr}
 use mathlib.Core.List.{List, [], _∷_}
 use native.Mathlib.Omega.{arith}
-use lib.Dec.{eqb, ltb}
+use lib.Dec.{eqb}
 use lib.ListN.{length}
+use Rattle.laws.specs.Cause.{other-code}
 use Rattle.laws.specs.Choice.{by-test, unset, set-not}
-use Rattle.kinds.specs.Sizes as sizes
 use Rattle.kinds.specs.Reason as reason
 use Rattle.kinds.specs.declared.Entry.{Entry}
 use Rattle.kinds.specs.declared.RecordHead.{RecordHead}
 use Rattle.kinds.specs.declared.Merger.{Merger}
 use Rattle.rules.specs.House.{inMask}
-use Rattle.rules.specs.Merger.{headsOf, headIn, hasPart, isDue, isWhole, leastSite, dueCode, emitDue, emitCode, emitOf, mergerOk}
+use Rattle.rules.specs.Merger.{headsOf, headIn, hasPart, isDue, isWhole, leastSite, dueCode, emitDue, emitCode, emitOf, emitCauses}
 use Rattle.rules.specs.MergerLaws.{LeastOf, IsDue, WholeAt, has-part, part-had, least-is, is-due, parts-whole}
 use Rattle.rules.specs.World.{World, step, mergerStep}
 use Rattle.rules.specs.Progress.{DueIsWhole}
@@ -29,10 +29,7 @@ use Rattle.rules.proofs.RefineHeads.{head-is, due-is, mask-is, due-at, 
 -- The causes of emit: 16 only where the least head is due and not whole.
 emit-other : (g : Merger) (queues : List ℕ) (room : ℕ) → emitCode g queues room ≡ reason.notWhole → ⊥
 unfolding emitCode
-emit-other g queues room =
-    by-test (ltb room sizes.merged)
-    (λ s. rw s (λ e. omega arith))
-    (λ s. by-test (mergerOk g queues) (λ o. rw (s, o) (λ e. omega arith)) (λ o. rw (s, o) (λ e. omega arith)))
+emit-other g queues room e = other-code reason.notWhole (emitCauses g queues room) (λ z. omega arith) refl e
 
 due-other : (g : Merger) (heads : List RecordHead) (least : ℕ) → (isDue g heads least ≡ true → isWhole g heads (headIn heads least) ≡ true) → dueCode g heads least ≡ reason.notWhole → ⊥
 unfolding dueCode

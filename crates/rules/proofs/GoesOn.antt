@@ -5,12 +5,12 @@ use mathlib.Core.Bool.{Bool, true, false}
 use mathlib.Core.Logic.{_⊎_, inl, inr}
 use mathlib.Core.List.{List, [], _∷_}
 use native.Mathlib.Omega.{arith}
-use borrow.Author.Tests.{eqb-false, eq-eqb, ne-eqb, ltb-false, le-leb}
+use borrow.Author.Tests.{eq-eqb, ne-eqb, ltb-false, le-leb}
 use lib.Dec.{eqb, leb, ltb}
 use lib.ListN.{drop}
 use Rattle.rules.specs.JoinLaws.{join-whole}
-use Rattle.laws.specs.Choice.{pick, every, by-test, set-not}
-use Rattle.laws.specs.Cause.{Cause, codeOf}
+use Rattle.laws.specs.Choice.{every, by-test, set-not}
+use Rattle.laws.specs.Cause.{other-code}
 use Rattle.kinds.specs.Sizes as sizes
 use Rattle.kinds.specs.Stage as stage
 use Rattle.kinds.specs.Reason as reason
@@ -69,18 +69,6 @@ keeping-goes lists e x = record { in-turn = x .in-turn; known = x .known }
 passed-goes : (s : Site) (a : ℕ) → GoesOn (passed s a)
 unfolding passed
 passed-goes s a = record { in-turn = accepted _ refl; known = none }
-
--- no cause of this number
-abbrev unlisted : ℕ → List Cause → Bool
-unlisted n [] = true
-unlisted n (c ∷ l) = pick (eqb (c .number) n) false (unlisted n l)
-
-other-code : (n : ℕ) (l : List Cause) → (n ≡ 0 → ⊥) → unlisted n l ≡ true → codeOf l ≡ n → ⊥
-other-code n [] z u e = z (sym e)
-other-code n (c ∷ l) z u e =
-    by-test (eqb (c .number) n)
-    (λ x. set-not false (rw x at u) refl)
-    (λ x. by-test (c .holds) (λ y. eqb-false (c .number) n x (rw y at e)) (λ y. other-code n l z (rw x at u) (rw y at e)))
 
 pub arrival-other : (ok : Bool) (room : ℕ) (given fine : Bool) → arrivalCode ok room given fine ≡ reason.stage → ⊥
 unfolding arrivalCode
