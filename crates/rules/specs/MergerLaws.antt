@@ -1,4 +1,4 @@
--- Laws of the merger in 01's words: the least head, what is due and whole, what emit writes and leaves, and that a possible state stays so.
+-- 01, "Merger and copy": the least head, what is due and what is whole, in 01's words.
 use Prim.Native.Nat.{_+_, _-_, _<_, _≤_, suc, zero, ℕ}
 use borrow.Author.Tests.{eq-eqb, eqb-true, le-leb, le-ltb, leb-true, lt-ltb, ltb-false, ltb-true, not-true}
 use lib.Dec.{eqb, ltb}
