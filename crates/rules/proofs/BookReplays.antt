@@ -24,7 +24,7 @@ use Rattle.rules.specs.World.{World, Call, Is, here, there, step, siteSt
 use Rattle.rules.specs.World as world
 use Rattle.rules.specs.Book as book
 use Rattle.rules.specs.Book.{Fact, factsOf, bookFrom}
-use Rattle.rules.specs.Claim.{lastReplay}
+use Rattle.rules.specs.Claim.{LastReplay}
 use Rattle.rules.proofs.Tables.{All, a-nil, a-cons, all-append, all-one, upd-cases, all-is, is-append}
 use Rattle.rules.proofs.RefineLaid.{put-header}
 use Rattle.rules.proofs.RefineReplay.{Replays, replay-cases}
@@ -128,7 +128,7 @@ installs-none s a = on-installed NoReplay a-nil (λ n c. all-one refl) a
 commits-none : (t : ℕ) (a : Answer) → NoReplay (book.commits t a)
 commits-none t a = on-committed NoReplay a-nil (λ n. all-one refl) a
 
-still-last : (c : ℕ) (b l : List Fact) (n d : ℕ) → ((m e : ℕ) → Is (book.replayed c m e) l → ⊥) → lastReplay c b n d → lastReplay c (b ++ l) n d
+still-last : (c : ℕ) (b l : List Fact) (n d : ℕ) → ((m e : ℕ) → Is (book.replayed c m e) l → ⊥) → LastReplay c b n d → LastReplay c (b ++ l) n d
 still-last c b l n d f (inl (p, q, e, g)) =
     inl (p, q ++ l, rw e (append-assoc p (book.replayed c n d ∷ q) l), λ m r i. ⊎-elim (λ j. g m r j) (λ j. f m r j) (is-append q l i))
 still-last c b l n d f (inr (g, x, y)) = inr ((λ m r i. ⊎-elim (λ j. g m r j) (λ j. f m r j) (is-append b l i)), x, y)
@@ -150,7 +150,7 @@ number-after copy ws e =
 
 -- every copy's pair is that of its last replay
 abbrev pub LastReplays : List Fact → World → Type 0
-LastReplays b w = (c : ℕ) → lastReplay c b (copyNumber (w .copy c)) (copyCoordinator (w .copy c))
+LastReplays b w = (c : ℕ) → LastReplay c b (copyNumber (w .copy c)) (copyCoordinator (w .copy c))
 
 module _ (w : World) (b : List Fact) (h : LastReplays b w) where
   abbrev After : Call → Type 0
@@ -165,13 +165,13 @@ module _ (w : World) (b : List Fact) (h : LastReplays b w) where
     where
       go : ((n : ℕ) × (replayOf (w .copy c) ws ≡ record { answer = Refused n; copy = w .copy c })) ⊎ Replays (w .copy c) ws → After (world.replay c ws)
       go (inl (n, e)) =
-          rw (e, append-nil) (upd-cases (λ j y. lastReplay j b (copyNumber y) (copyCoordinator y)) (w .copy) c (w .copy c) (h c) (λ j x. h j))
+          rw (e, append-nil) (upd-cases (λ j y. LastReplay j b (copyNumber y) (copyCoordinator y)) (w .copy) c (w .copy c) (h c) (λ j x. h j))
       go (inr t) =
           let r = recordHead ws in
           let (x, y) = number-after (w .copy c) ws (t .size) in
           let l = book.replayed c (r .number) (r .coordinator) ∷ [] in
           rw (t .is)
-          (upd-cases (λ j z. lastReplay j (b ++ l) (copyNumber z) (copyCoordinator z)) (w .copy) c (replayed (w .copy c) ws)
+          (upd-cases (λ j z. LastReplay j (b ++ l) (copyNumber z) (copyCoordinator z)) (w .copy) c (replayed (w .copy c) ws)
           (rw (x, y) (inl (b, [], refl, λ m d i. none-replayed a-nil c m d i)))
           (λ j n. still-last j b l _ _ (λ m d i. other j (r .number) (r .coordinator) m d n i) (h j)))
         where

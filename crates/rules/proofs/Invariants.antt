@@ -144,14 +144,14 @@ RecBelow n c (rPart e) = rank (e .number) (coordinatorOf (e .tx)) < rank n c
 RecBelow n c (rState k) = k < n
 
 -- r may stand before: below a part, by pair or number, and before a state no state above it
-abbrev pub Precedes : Rec → Rec → Type 0
-Precedes (rPart e) r = RecBelow (e .number) (coordinatorOf (e .tx)) r
-Precedes (rState n) (rPart e) = Unit {0}
-Precedes (rState n) (rState k) = k ≤ n
+abbrev pub StandsBefore : Rec → Rec → Type 0
+StandsBefore (rPart e) r = RecBelow (e .number) (coordinatorOf (e .tx)) r
+StandsBefore (rState n) (rPart e) = Unit {0}
+StandsBefore (rState n) (rState k) = k ≤ n
 
 abbrev pub Ascending : List Rec → List Rec → Type 0
 Ascending before [] = Unit {0}
-Ascending before (r ∷ l) = All (Precedes r) before × Ascending (before ++ (r ∷ [])) l
+Ascending before (r ∷ l) = All (StandsBefore r) before × Ascending (before ++ (r ∷ [])) l
 
 pub record Order (p : Protocol) : Type 0 where
   pub queued : (s t : ℕ) → AtStage p s t stage.queued → All (RecLow (courseAt p s t .number)) (p .log s)

@@ -26,8 +26,8 @@ use Rattle.rules.specs.Effect.{Change, Effect, turnAt, changed, unless}
 use Rattle.rules.specs.Course.{quietly, channelSpent}
 use Rattle.rules.specs.Begin.{beginCode, begun, beginOf}
 use Rattle.rules.specs.Access.{accessCode, readCode, readVersion, readAt, readOf, writeCodeAt, written, writeAt, writeOf}
-use Rattle.rules.specs.Enlist.{enlistCode, joinerCode, enlistAt, enlistOf}
-use Rattle.rules.specs.Commit.{requestCode, commitCode, abandonCode, isFull, isLost, isMine, requestChange, commitChange, commitLists, commitOf, abandonOf}
+use Rattle.rules.specs.Enlist.{enlistCode, joinerCode, enlistAt, enlistOf, isMine}
+use Rattle.rules.specs.Commit.{requestCode, commitCode, abandonCode, isFull, isLost, requestChange, commitChange, commitLists, commitOf, abandonOf}
 use Rattle.rules.proofs.RefineStep.{by-code}
 use Rattle.rules.proofs.RefineMail.{Made, none}
 use Rattle.rules.proofs.Spoken.{Known, Speaks, enlist-speaks, abort-speaks, prepare-speaks, cast-speaks}

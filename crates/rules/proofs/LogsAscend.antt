@@ -30,7 +30,7 @@ use Rattle.rules.specs.World as world
 use Rattle.rules.specs.Progress.{Follows, LogsAscend}
 use Rattle.rules.proofs.Tables.{all-at, All}
 use Rattle.rules.proofs.Protocol.{Protocol, Rec, rPart, rState}
-use Rattle.rules.proofs.Invariants.{Invariant, Precedes}
+use Rattle.rules.proofs.Invariants.{Invariant, StandsBefore}
 use Rattle.rules.proofs.Committed.{low-coordinator}
 use Rattle.rules.proofs.Refines.{recWords, partHeadOf}
 use Rattle.rules.proofs.Stream as stream
@@ -46,7 +46,7 @@ module _ {sites : ℕ} {p : Protocol} (few : sites ≤ 8) (inv : Invariant sites
   abbrev recAt : ℕ → Rec
   recAt k = getD (p .log s) k (rState 0)
 
-  before : Precedes (recAt j) (recAt i)
+  before : StandsBefore (recAt j) (recAt i)
   before =
       let b = stands-before [] (p .log s) j (inv .order .ascends s) h in
       let n = length-take-le j (p .log s) (omega arith) in
@@ -55,7 +55,7 @@ module _ {sites : ℕ} {p : Protocol} (few : sites ≤ 8) (inv : Invariant sites
   low : (k : ℕ) (e : Entry) → k < length (p .log s) → recAt k ≡ rPart e → coordinatorOf (e .tx) < 16
   low k e b q = omega (arith, low-coordinator few (inv .parts) s (e .tx) (part-real inv s k e b q .has))
 
-  follow : (x y : Rec) → recAt i ≡ x → recAt j ≡ y → Precedes y x → Follows (recordHead (recWords s x)) (recordHead (recWords s y))
+  follow : (x y : Rec) → recAt i ≡ x → recAt j ≡ y → StandsBefore y x → Follows (recordHead (recWords s x)) (recordHead (recWords s y))
   unfolding partHeadOf
   follow (rPart d) (rPart e) u v b =
       rw (part-head s d, part-head s e)

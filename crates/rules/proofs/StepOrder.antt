@@ -20,7 +20,7 @@ use Rattle.rules.specs.Queue.{queuedBefore}
 use Rattle.rules.specs.Install.{entryOf}
 use Rattle.rules.proofs.Tables.{All, a-nil, a-cons, all-append, all-one, all-map}
 use Rattle.rules.proofs.Protocol.{Protocol, Rec, rPart, rState, partsOf, AtStage, LeastQueued, Move, freshProtocol, courseAt, Bound}
-use Rattle.rules.proofs.Invariants.{at, Installed, RecLow, RecBelow, Ascending, Order, Invariant, Held, Courses, Account, Precedes}
+use Rattle.rules.proofs.Invariants.{at, Installed, RecLow, RecBelow, Ascending, Order, Invariant, Held, Courses, Account, StandsBefore}
 use Rattle.rules.proofs.Turns.{Logged, l-same, l-part, l-state, installed-last, Turn, t-stays, t-moves, t-reads, t-aborts, t-installs, t-begins}
 use Rattle.rules.proofs.News.{OwnStage, NumNow, YesNow}
 use Rattle.rules.proofs.Changes.{Change, change, still-installed, decided-kept}
@@ -41,11 +41,11 @@ ascending-append before [] m o h = rw append-nil at h
 ascending-append before (r ∷ l) m (a, o) h = (a, ascending-append (before ++ (r ∷ [])) l m o (rw append-assoc h))
 
 -- a number that bounds a log is a state that may stand behind it
-state-behind : (n m : ℕ) → n ≤ m → (r : Rec) → RecLow n r → Precedes (rState m) r
+state-behind : (n m : ℕ) → n ≤ m → (r : Rec) → RecLow n r → StandsBefore (rState m) r
 state-behind n m h (rPart e) l = tt
 state-behind n m h (rState k) l = omega arith
 
-number-behind : (n c m : ℕ) → n ≤ m + 1 → (r : Rec) → RecBelow n c r → Precedes (rState m) r
+number-behind : (n c m : ℕ) → n ≤ m + 1 → (r : Rec) → RecBelow n c r → StandsBefore (rState m) r
 number-behind n c m h (rPart e) l = tt
 number-behind n c m h (rState k) l = omega arith
 
@@ -187,7 +187,7 @@ module _ {sites : ℕ} (few : sites ≤ 8) {p : Protocol} (i : Invariant sites p
           rw e (ascending-append [] (p .log s) _ (i .order .ascends s) (rw (n, f) (i .order .decided s u x), tt))
       go (l-state n x e) = rw e (ascending-append [] (p .log s) _ (i .order .ascends s) (behind (x .is), tt))
         where
-          behind : Bound p s n → All (Precedes (rState n)) (p .log s)
+          behind : Bound p s n → All (StandsBefore (rState n)) (p .log s)
           behind (inl k) = all-map (state-behind (p .clock s) n (omega arith)) (i .clocks .log s)
           behind (inr (inl (u, g, k))) = all-map (state-behind (courseAt p s u .number) n (omega arith)) (i .order .queued s u g)
           behind (inr (inr (u, g, k))) =

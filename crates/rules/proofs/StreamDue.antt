@@ -13,7 +13,7 @@ use Rattle.kinds.specs.State.{pastEntry}
 use Rattle.rules.specs.House.{coordinatorOf}
 use Rattle.rules.proofs.Tables.{All, a-nil, a-cons, all-left, all-right, all-take, all-head}
 use Rattle.rules.proofs.Protocol.{Protocol, Rec, rPart, rState, partsOf, inst}
-use Rattle.rules.proofs.Invariants.{at, In, RecLow, RecBelow, Invariant, Ascending, Precedes}
+use Rattle.rules.proofs.Invariants.{at, In, RecLow, RecBelow, Invariant, Ascending, StandsBefore}
 use Rattle.rules.proofs.Committed.{low-coordinator, committed-in}
 use Rattle.rules.proofs.Stream.{Merger, rankOf, DueAt}
 use Rattle.rules.proofs.StreamInv.{Out, endState, Streamed, gone, rest, inst-split, head-at, head-real, item-at, item-mask, real-at}
@@ -36,7 +36,7 @@ end-low k (a-cons {x = rPart e} p ps) h = end-low k ps h
 end-low k (a-cons {x = rState i} p ps) h = end-low i ps p
 
 -- What stands before a part is below it.
-pub part-above : (before l : List Rec) → Ascending before l → (i : ℕ) → i < length (partsOf l) → All (Precedes (rPart (getD (partsOf l) i pastEntry))) before
+pub part-above : (before l : List Rec) → Ascending before l → (i : ℕ) → i < length (partsOf l) → All (StandsBefore (rPart (getD (partsOf l) i pastEntry))) before
 part-above before [] o i h = absurd (omega arith)
 part-above before (rPart x ∷ l) (a, o) zero h = a
 part-above before (rPart x ∷ l) (a, o) (suc i) h = all-left before (rPart x ∷ []) (part-above (before ++ (rPart x ∷ [])) l o i (omega arith))

@@ -14,7 +14,7 @@ use Rattle.kinds.specs.State.{pastEntry}
 use Rattle.rules.specs.World.{upd}
 use Rattle.rules.proofs.Tables.{All, a-nil, a-cons}
 use Rattle.rules.proofs.Protocol.{Protocol, Rec, rPart, rState, partsOf}
-use Rattle.rules.proofs.Invariants.{RecBelow, Ascending, Invariant, Precedes}
+use Rattle.rules.proofs.Invariants.{RecBelow, Ascending, Invariant, StandsBefore}
 use Rattle.rules.proofs.Changes.{change}
 use Rattle.rules.proofs.Stream.{Merger, rankOf, Merging, takePart, takeState, emit, Stream, Steps, stop, more, moves, merges, replays, freshMerger}
 use Rattle.rules.proofs.StreamInv.{Real, real-at, Streamed, endState}
@@ -23,7 +23,7 @@ use Rattle.rules.proofs.StreamDue.{end-below}
 use Rattle.rules.proofs.StreamReached.{Standing, standing-steps}
 
 -- A record of a log: what stands before it.
-pub stands-before : (before l : List Rec) (i : ℕ) → Ascending before l → i < length l → All (Precedes (getD l i (rState 0))) (before ++ take i l)
+pub stands-before : (before l : List Rec) (i : ℕ) → Ascending before l → i < length l → All (StandsBefore (getD l i (rState 0))) (before ++ take i l)
 stands-before before [] i o h = absurd (omega arith)
 stands-before before (x ∷ l) zero (a, o) h = rw append-nil a
 stands-before before (x ∷ l) (suc i) (a, o) h = rw append-assoc at (stands-before (before ++ (x ∷ [])) l i o (omega arith))
@@ -83,7 +83,7 @@ pub lasts-fresh : (p : Protocol) → Lasts p freshMerger
 unfolding freshMerger
 lasts-fresh p s = refl
 
-state-upto : (n k : ℕ) {l : List Rec} → All (Precedes (rState n)) l → k ≤ n → endState k l ≤ n
+state-upto : (n k : ℕ) {l : List Rec} → All (StandsBefore (rState n)) l → k ≤ n → endState k l ≤ n
 state-upto n k a-nil h = h
 state-upto n k (a-cons {x = rPart e} p ps) h = state-upto n k ps h
 state-upto n k (a-cons {x = rState i} p ps) h = state-upto n i ps p
@@ -94,10 +94,10 @@ module _ {sites : ℕ} {p : Protocol} {m : Merger} (inv : Invariant sites p) (i 
   next-part f e q =
       let r = part-real inv s (m .took s) e h q in
       let n : 0 < e .number = rw (r .number) (r .committed) in
-      let b : All (Precedes (rPart e)) (take (m .took s) (p .log s)) = rw q at (stands-before [] (p .log s) (m .took s) (inv .order .ascends s) h) in
+      let b : All (StandsBefore (rPart e)) (take (m .took s) (p .log s)) = rw q at (stands-before [] (p .log s) (m .took s) (inv .order .ascends s) h) in
       (omega (arith, f s, rank-below 0 b (omega arith)), omega (arith, i .source s .ends, end-below 0 b n))
 
   pub next-state : (n : ℕ) → getD (p .log s) (m .took s) (rState 0) ≡ rState n → m .state s ≤ n
   next-state n q =
-      let b : All (Precedes (rState n)) (take (m .took s) (p .log s)) = rw q at (stands-before [] (p .log s) (m .took s) (inv .order .ascends s) h) in
+      let b : All (StandsBefore (rState n)) (take (m .took s) (p .log s)) = rw q at (stands-before [] (p .log s) (m .took s) (inv .order .ascends s) h) in
       omega (arith, i .source s .ends, state-upto n 0 b (omega arith))

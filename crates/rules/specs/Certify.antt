@@ -69,7 +69,7 @@ conflictsWith s place es i =
     let b = subAt s place in
     anyBelow (λ k. conflictsAt (b .keys) es i (recall (s .history) n k)) (within n (b .snapshot))
 
--- entry i has a record here: live, or in the history
+-- tx has a record here: live, or in the history
 unfoldable pub isRecorded : Site → ℕ → Bool
 isRecorded s tx =
     some (isHeld (s .live) tx

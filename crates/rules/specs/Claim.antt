@@ -34,8 +34,8 @@ abbrev pub Committed : List Fact → ℕ → ℕ → ℕ → Type 0
 Committed b tx n c = Is (committed tx n c) b
 
 -- the pair of a copy's last replay, (0, 0) before the first
-abbrev pub lastReplay : ℕ → List Fact → ℕ → ℕ → Type 0
-lastReplay copy b n c =
+abbrev pub LastReplay : ℕ → List Fact → ℕ → ℕ → Type 0
+LastReplay copy b n c =
     (((p : List Fact) × (q : List Fact) × (b ≡ p ++ (replayed copy n c ∷ q)) × ((m d : ℕ) → Is (replayed copy m d) q → ⊥))
     ⊎ (((m d : ℕ) → Is (replayed copy m d) b → ⊥) × (n ≡ 0) × (c ≡ 0)))
 
@@ -56,7 +56,7 @@ pub record CopyHolds (b : List Fact) (w : World) (copy key : ℕ) : Type 0 where
   pub number : ℕ
   pub coordinator : ℕ
   pub answers : valueOf (w .copy copy) key ≡ Standing value number coordinator
-  pub last : lastReplay copy b number coordinator
+  pub last : LastReplay copy b number coordinator
   pub up-to : ((number ≡ 0) × (coordinator ≡ 0)) ⊎ ((tx : ℕ) × Committed b tx number coordinator)
   pub left : LeftBy b number coordinator key value
 

@@ -12,7 +12,7 @@ use Rattle.kinds.specs.Stage as stage
 use Rattle.kinds.specs.Reason as reason
 use Rattle.kinds.specs.declared.Site.{Site}
 use Rattle.kinds.specs.State.{subAt}
-use Rattle.rules.specs.House.{coordinatorOf}
+use Rattle.rules.specs.Enlist.{isMine}
 use Rattle.rules.specs.Message.{entryCount}
 use Rattle.rules.specs.Send.{countsLow}
 use Rattle.rules.specs.Live.{placeOf, allHeard}
@@ -69,9 +69,6 @@ commitChange s place =
 
 unfoldable pub commitLists : Site → List ℕ → ℕ → List ℕ
 commitLists s lists place = pick (isFull s place) lists (pick (isLost s place) lists (putAt (sizes.gathered * place) lists (concurrent s place)))
-
-abbrev pub isMine : Site → ℕ → Bool
-isMine s tx = eqb (coordinatorOf tx) (s .counters .own)
 
 unfoldable pub commitOf : Site → ℕ → List ℕ → ℕ → Effect
 commitOf s room lists tx =

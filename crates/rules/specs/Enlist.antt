@@ -15,6 +15,10 @@ use Rattle.rules.specs.Valid.{siteOk}
 use Rattle.rules.specs.Effect.{Effect, turnAt, changed, unless}
 use Rattle.rules.specs.Course.{channelSpent, enlistStep}
 
+-- the site is the transaction's coordinator
+abbrev pub isMine : Site → ℕ → Bool
+isMine s tx = eqb (coordinatorOf tx) (s .counters .own)
+
 abbrev pub enlistCauses : Bool → ℕ → Bool → ℕ → Bool → List Cause
 enlistCauses ok room known place mine =
     cause (ltb room sizes.outgoing) reason.short
@@ -48,4 +52,4 @@ enlistAt s place site =
 unfoldable pub enlistOf : Site → ℕ → ℕ → ℕ → Effect
 enlistOf s room tx site =
     let place = placeOf (s .live) tx in
-    unless (enlistCode (siteOk s) room (isSite (s .house) site) place (eqb (coordinatorOf tx) (s .counters .own))) s [] (enlistAt s place site)
+    unless (enlistCode (siteOk s) room (isSite (s .house) site) place (isMine s tx)) s [] (enlistAt s place site)

@@ -14,6 +14,7 @@ use Rattle.kinds.specs.declared.House.{House}
 unfoldable pub houseOk : House → Bool
 houseOk h = every (leb 1 (h .sites) ∷ leb (h .sites) sizes.sites ∷ [])
 
+-- a site of the house
 unfoldable pub isSite : House → ℕ → Bool
 isSite h s = every (leb 1 s ∷ leb s (h .sites) ∷ [])
 

@@ -130,6 +130,6 @@ startOf sites own base lists =
     (record { answer = Done; words = 0; site = freshSite sites own })
     (record { answer = Refused code; words = 0; site = freshSite 0 0 })
 
--- a lent table of n words after it
+-- a lent table after it: 0 everywhere, or as it was
 unfoldable pub startTable : ℕ → List ℕ → List ℕ
 startTable code d = pick (eqb code 0) (replicate (length d) 0) d

@@ -59,7 +59,7 @@ head-part o queues i c =
     ))
 
 -- Keys that ascend, from low and below high.
-pub record Ascending (ws : List ℕ) (n low high : ℕ) : Type 0 where
+pub record KeysAscend (ws : List ℕ) (n low high : ℕ) : Type 0 where
   pub above : (k : ℕ) → suc k < n → writeKey ws k < writeKey ws (suc k)
   pub from : (k : ℕ) → k < n → low ≤ writeKey ws k
   pub to : (k : ℕ) → k < n → writeKey ws k < high
@@ -75,7 +75,7 @@ unfolding siteOf
 key-of-site o k s e = (omega arith, omega arith)
 
 part-ascending : (o : House) (m : List ℕ) (s : ℕ) → partOk o m ≡ true → recordHead m .site ≡ s + 1
-    → Ascending (recordWrites m) (recordHead m .count) (sizes.siteKeys * s) (sizes.siteKeys * (s + 1))
+    → KeysAscend (recordWrites m) (recordHead m .count) (sizes.siteKeys * s) (sizes.siteKeys * (s + 1))
 unfolding partWriteOk
 part-ascending o m s p e =
     let ws = recordWrites m in
@@ -111,8 +111,8 @@ module _ (ws p : List ℕ) (a : ℕ) (e : length ws ≡ sizes.write * a) where
       let y : writeKey (ws ++ p) k ≡ writeKey p (k - a) = ap (writeKey (ws ++ p)) z ∙ key-right (k - a) in
       rw y (g (k - a) (omega arith) z))
 
-  append-ascending : (b low mid high : ℕ) → low ≤ mid → mid ≤ high → Ascending ws a low mid → Ascending p b mid high
-      → Ascending (ws ++ p) (a + b) low high
+  append-ascending : (b low mid high : ℕ) → low ≤ mid → mid ≤ high → KeysAscend ws a low mid → KeysAscend p b mid high
+      → KeysAscend (ws ++ p) (a + b) low high
   append-ascending b low mid high x y s t =
       record {
         above = λ k h. by-test (ltb (suc k) a)
@@ -133,7 +133,7 @@ module _ (ws p : List ℕ) (a : ℕ) (e : length ws ≡ sizes.write * a) where
         to = λ k h. key-cases (λ i. i < high) b k h (λ l. omega (arith, s .to k l)) (λ j l q. t .to j l);
       }
 
-no-writes : (low high : ℕ) → Ascending [] 0 low high
+no-writes : (low high : ℕ) → KeysAscend [] 0 low high
 no-writes low high = record { above = λ k h. absurd (omega arith); from = λ k h. absurd (omega arith); to = λ k h. absurd (omega arith) }
 
 pub halved : (n k : ℕ) → n ≡ sizes.write * k → n / sizes.write ≡ k
@@ -144,7 +144,7 @@ pub PartsGood : House → List ℕ → ℕ → ℕ → Type 0
 PartsGood o queues mask n = (i : ℕ) → i < n → inMask mask (i + 1) ≡ true → QueuedClear o queues i 0
 
 writes-ascending : (o : House) (queues : List ℕ) (mask n i : ℕ) → PartsGood o queues mask n → i < n
-    → Ascending (partWrites queues mask i) (writesIn (partWrites queues mask i)) (sizes.siteKeys * i) (sizes.siteKeys * (i + 1))
+    → KeysAscend (partWrites queues mask i) (writesIn (partWrites queues mask i)) (sizes.siteKeys * i) (sizes.siteKeys * (i + 1))
 unfolding partWrites PartsGood
 writes-ascending o queues mask n i f h =
     by-test (inMask mask (i + 1))
@@ -158,7 +158,7 @@ unfolding HeadsFit HeadFits PartsGood
 good-fits o queues mask n f i h t = queued-fits o queues i (f i h t)
 
 joined-ascending : (o : House) (queues : List ℕ) (mask n : ℕ) → PartsGood o queues mask n
-    → Ascending (joinedWrites queues mask n) (writesIn (joinedWrites queues mask n)) 0 (sizes.siteKeys * n)
+    → KeysAscend (joinedWrites queues mask n) (writesIn (joinedWrites queues mask n)) 0 (sizes.siteKeys * n)
 unfolding joinedWrites foldBelow PartsGood
 joined-ascending o queues mask zero f = no-writes 0 0
 joined-ascending o queues mask (suc n) f =
@@ -175,14 +175,14 @@ joined-ascending o queues mask (suc n) f =
     (writes-ascending o queues mask (suc n) n f (omega arith)))
 
 -- The checks of the merged record.
-key-rises : (ws : List ℕ) (k n : ℕ) → Ascending ws n 0 sizes.keys → k < n → keyAscends ws k ≡ true
+key-rises : (ws : List ℕ) (k n : ℕ) → KeysAscend ws n 0 sizes.keys → k < n → keyAscends ws k ≡ true
 unfolding keyAscends
 key-rises ws zero n a h = refl
 key-rises ws (suc k) n a h =
     let z : suc k - 1 ≡ k = omega arith in
     rw (ne-eqb (suc k) 0 (λ q. omega arith), z, lt-ltb (writeKey ws k) (writeKey ws (suc k)) (a .above k h))
 
-merged-writes : (ws : List ℕ) (n : ℕ) → Ascending ws n 0 sizes.keys → allBelow (mergedWriteOk ws) n ≡ true
+merged-writes : (ws : List ℕ) (n : ℕ) → KeysAscend ws n 0 sizes.keys → allBelow (mergedWriteOk ws) n ≡ true
 unfolding mergedWriteOk
 merged-writes ws n a = sym (all-below (mergedWriteOk ws) n (λ k h. rw (key-rises ws k n a h, lt-ltb (writeKey ws k) sizes.keys (a .to k h))))
 
