@@ -32,7 +32,7 @@ module _ {sites : ℕ} (low : sites ≤ 8) {p : Protocol} {m : Merger} (inv : In
   g-low : coordinatorOf (g .tx) ≤ 8
   g-low = low-coordinator low (inv .parts) (d .site) (g .tx) (real .has)
 
-  -- M2: every clock is at or above g
+  -- every clock is at or above g
   clocks : (s : ℕ) → 1 ≤ s → s ≤ sites → g .number ≤ p .clock s
   clocks s l h = due-low low inv i g s l (d .due s l h) (p .clock s) (inv .clocks .log s)
 
@@ -97,7 +97,7 @@ module _ {sites : ℕ} (low : sites ≤ 8) {p : Protocol} {m : Merger} (inv : In
       go (inl (e, h)) = e
       go (inr (e, h)) = absurd (h refl)
 
-  -- M1: the heads at g's sites are its parts
+  -- the heads at g's sites are its parts
   abbrev part : ℕ → Entry
   part s = record { tx = g .tx; mask = g .mask; number = g .number; keys = headKeys (m .queue s) }
 

@@ -25,7 +25,7 @@ out-grows {m = m} (takePart s e r l k) = ([], sym (append-nil (m .out)))
 out-grows {m = m} (takeState s k r l) = ([], sym (append-nil (m .out)))
 out-grows {m = m} (emit g d) = (itemOf g (m .queue) ∷ [], refl)
 
--- P1 is `replayed`: a copy has replayed a prefix of what was emitted
+-- `replayed`: a copy has replayed a prefix of what was emitted
 pub record Standing (sites : ℕ) (w : Stream) : Type 0 where
   pub invariant : Invariant sites (w .protocol)
   pub streamed : Streamed sites (w .protocol) (w .merger)
