@@ -74,7 +74,7 @@ pub record Posts (sites : ℕ) (p : Protocol) : Type 0 where
   pub join-taken : (s t : ℕ) → p .has s t ≡ true → (s ≡ coordinatorOf t → ⊥)
       → (i : ℕ) × (i < p .taken (coordinatorOf t) s) × (getD (p .post (coordinatorOf t) s) i (mAbort 0) ≡ mJoin t)
 
--- Rounds (R): what the coordinator has heard.
+-- Rounds: what the coordinator has heard.
 pub record Rounds (p : Protocol) : Type 0 where
   pub small : (t : ℕ) → Held p (coordinatorOf t) t → (courseAt p (coordinatorOf t) t .mask < 2 ^ sizes.sites) × (courseAt p (coordinatorOf t) t .heard < 2 ^ sizes.sites)
   pub own : (t : ℕ) → Held p (coordinatorOf t) t → inMask (courseAt p (coordinatorOf t) t .mask) (coordinatorOf t) ≡ true
