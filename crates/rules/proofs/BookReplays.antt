@@ -16,7 +16,7 @@ use Rattle.kinds.specs.Reason as reason
 use Rattle.kinds.specs.State.{Value}
 use Rattle.kinds.specs.declared.Answer.{Answer}
 use Rattle.kinds.specs.declared.Answer.the-variants.{Refused, Done, Begun, Found, Committed, Aborted, Installed, Reported, Emitted, Standing}
-use Rattle.rules.specs.Answers.{onBegun, onFound, onDone, onCommitted, onInstalled}
+use Rattle.rules.specs.Answers.{onBegun, onFound, onDone, onCommitted, onInstalled, onAnswer}
 use Rattle.rules.specs.Record.{recordHead, recordWrites}
 use Rattle.rules.specs.Message.{messageHead}
 use Rattle.rules.specs.Copy.{copyNumber, copyCoordinator, replayed, replayOf, copyStartOf}
@@ -29,67 +29,36 @@ use Rattle.rules.proofs.Tables.{All, a-nil, a-cons, all-append, all-one
 use Rattle.rules.proofs.RefineLaid.{put-header}
 use Rattle.rules.proofs.RefineReplay.{Replays, replay-cases}
 
--- One case of an answer, and the rest.
+-- What holds of the case, and of the rest, holds of an answer.
 module _ {A : Type 0} (P : A → Type 0) {other : A} (o : P other) where
-  pub on-begun : {f : ℕ → A} → ((n : ℕ) → P (f n)) → (a : Answer) → P (onBegun other f a)
-  on-begun g (Refused n) = o
-  on-begun g Done = o
-  on-begun g (Begun n) = g n
-  on-begun g (Found n) = o
-  on-begun g (Committed n) = o
-  on-begun g (Aborted n) = o
-  on-begun g (Installed n c) = o
-  on-begun g (Reported n) = o
-  on-begun g (Emitted n c t) = o
-  on-begun g (Standing n c t) = o
-
-  pub on-found : {f : ℕ → A} → ((n : ℕ) → P (f n)) → (a : Answer) → P (onFound other f a)
-  on-found g (Refused n) = o
-  on-found g Done = o
-  on-found g (Begun n) = o
-  on-found g (Found n) = g n
-  on-found g (Committed n) = o
-  on-found g (Aborted n) = o
-  on-found g (Installed n c) = o
-  on-found g (Reported n) = o
-  on-found g (Emitted n c t) = o
-  on-found g (Standing n c t) = o
+  on-answer : {done : A} {begun found committed : ℕ → A} {installed : ℕ → ℕ → A}
+      → P done → ((n : ℕ) → P (begun n)) → ((n : ℕ) → P (found n)) → ((n : ℕ) → P (committed n)) → ((n c : ℕ) → P (installed n c))
+      → (a : Answer) → P (onAnswer other done begun found committed installed a)
+  on-answer d b f c i (Refused n) = o
+  on-answer d b f c i Done = d
+  on-answer d b f c i (Begun n) = b n
+  on-answer d b f c i (Found n) = f n
+  on-answer d b f c i (Committed n) = c n
+  on-answer d b f c i (Aborted n) = o
+  on-answer d b f c i (Installed n m) = i n m
+  on-answer d b f c i (Reported n) = o
+  on-answer d b f c i (Emitted n m t) = o
+  on-answer d b f c i (Standing n m t) = o
 
   pub on-done : {f : A} → P f → (a : Answer) → P (onDone other f a)
-  on-done g (Refused n) = o
-  on-done g Done = g
-  on-done g (Begun n) = o
-  on-done g (Found n) = o
-  on-done g (Committed n) = o
-  on-done g (Aborted n) = o
-  on-done g (Installed n c) = o
-  on-done g (Reported n) = o
-  on-done g (Emitted n c t) = o
-  on-done g (Standing n c t) = o
+  on-done g = on-answer g (λ n. o) (λ n. o) (λ n. o) (λ n c. o)
+
+  pub on-begun : {f : ℕ → A} → ((n : ℕ) → P (f n)) → (a : Answer) → P (onBegun other f a)
+  on-begun g = on-answer o g (λ n. o) (λ n. o) (λ n c. o)
+
+  pub on-found : {f : ℕ → A} → ((n : ℕ) → P (f n)) → (a : Answer) → P (onFound other f a)
+  on-found g = on-answer o (λ n. o) g (λ n. o) (λ n c. o)
 
   pub on-committed : {f : ℕ → A} → ((n : ℕ) → P (f n)) → (a : Answer) → P (onCommitted other f a)
-  on-committed g (Refused n) = o
-  on-committed g Done = o
-  on-committed g (Begun n) = o
-  on-committed g (Found n) = o
-  on-committed g (Committed n) = g n
-  on-committed g (Aborted n) = o
-  on-committed g (Installed n c) = o
-  on-committed g (Reported n) = o
-  on-committed g (Emitted n c t) = o
-  on-committed g (Standing n c t) = o
+  on-committed g = on-answer o (λ n. o) (λ n. o) g (λ n c. o)
 
   pub on-installed : {f : ℕ → ℕ → A} → ((n c : ℕ) → P (f n c)) → (a : Answer) → P (onInstalled other f a)
-  on-installed g (Refused n) = o
-  on-installed g Done = o
-  on-installed g (Begun n) = o
-  on-installed g (Found n) = o
-  on-installed g (Committed n) = o
-  on-installed g (Aborted n) = o
-  on-installed g (Installed n c) = g n c
-  on-installed g (Reported n) = o
-  on-installed g (Emitted n c t) = o
-  on-installed g (Standing n c t) = o
+  on-installed g = on-answer o (λ n. o) (λ n. o) (λ n. o) g
 
 -- Facts that are no replay.
 abbrev isReplayed : Fact → Bool
