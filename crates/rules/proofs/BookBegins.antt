@@ -6,9 +6,9 @@ use mathlib.Core.Logic.{_⊎_, inl, inr, ⊎-elim}
 use mathlib.Core.List.{List, [], _∷_, _++_}
 use native.Mathlib.Omega.{arith}
 use lib.ListN.{length}
-use Rattle.rules.specs.KeysLaws.{none-written}
 use Rattle.kinds.specs.declared.Keys.{Keys}
 use Rattle.kinds.specs.State.{noKeys}
+use Rattle.rules.specs.KeysLaws.{none-written}
 use Rattle.rules.specs.Keys.{wroteKey, wroteValue}
 use Rattle.rules.specs.World.{Is, here}
 use Rattle.rules.specs.Book as book

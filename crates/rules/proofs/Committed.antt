@@ -2,10 +2,10 @@
 use Prim.Native.Nat.{ℕ, _≤_, _<_}
 use mathlib.Core.Path.{_≡_}
 use mathlib.Core.Bool.{true, false}
-use native.Mathlib.Omega.{arith}
 use mathlib.Core.Logic.{_⊎_, inl, inr}
-use Rattle.kinds.specs.Stage as stage
+use native.Mathlib.Omega.{arith}
 use Rattle.laws.specs.Choice.{unset}
+use Rattle.kinds.specs.Stage as stage
 use Rattle.rules.specs.House.{coordinatorOf}
 use Rattle.rules.proofs.Protocol.{Protocol, AtStage}
 use Rattle.rules.proofs.Invariants.{In, Installed, Parts, Account, Invariant}

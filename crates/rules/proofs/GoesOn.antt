@@ -8,7 +8,6 @@ use native.Mathlib.Omega.{arith}
 use borrow.Author.Tests.{eq-eqb, ne-eqb, ltb-false, le-leb}
 use lib.Dec.{eqb, leb, ltb}
 use lib.ListN.{drop}
-use Rattle.rules.specs.JoinLaws.{join-whole}
 use Rattle.laws.specs.Choice.{every, by-test, set-not}
 use Rattle.laws.specs.Cause.{other-code}
 use Rattle.kinds.specs.Sizes as sizes
@@ -21,6 +20,7 @@ use Rattle.kinds.specs.declared.MessageHead.{MessageHead}
 use Rattle.kinds.specs.declared.Answer.{Answer}
 use Rattle.kinds.specs.declared.Answer.the-variants.{Refused}
 use Rattle.kinds.specs.State.{subAt}
+use Rattle.rules.specs.JoinLaws.{join-whole}
 use Rattle.rules.specs.Message.{entryCount}
 use Rattle.rules.specs.Live.{placeOf, freePlace, allHeard}
 use Rattle.rules.specs.Join.{joined}

@@ -5,12 +5,13 @@ use mathlib.Core.Bool.{true, false}
 use mathlib.Core.List.{List, []}
 use lib.Dec.{eqb}
 use lib.ListN.{length}
-use Rattle.rules.specs.JoinLaws.{join-whole}
 use Rattle.laws.specs.Choice.{by-test, set-not}
 use Rattle.kinds.specs.Sizes as sizes
 use Rattle.kinds.specs.Reason as reason
 use Rattle.kinds.specs.State.{Value, subAt}
 use Rattle.kinds.specs.declared.Site.{Site}
+use Rattle.kinds.specs.declared.Answer.the-variants.{Refused}
+use Rattle.rules.specs.JoinLaws.{join-whole}
 use Rattle.rules.specs.House.{coordinatorOf, isSite, inMask}
 use Rattle.rules.specs.Message.{entryCount}
 use Rattle.rules.specs.Send.{countsLow}
@@ -20,7 +21,6 @@ use Rattle.rules.specs.History.{isForgotten}
 use Rattle.rules.specs.Join.{joined}
 use Rattle.rules.specs.Certify.{concurrent}
 use Rattle.rules.specs.Valid.{siteOk}
-use Rattle.kinds.specs.declared.Answer.the-variants.{Refused}
 use Rattle.rules.specs.Answers.{isRefused}
 use Rattle.rules.specs.Effect.{Change, Effect, turnAt, changed, unless}
 use Rattle.rules.specs.Course.{quietly, channelSpent}

@@ -10,11 +10,11 @@ use borrow.Author.Tests.{eqb-true, eqb-false, ne-eqb, leb-true, leb-false, not-t
 use lib.Bits.{bitOr, or-lt}
 use lib.Dec.{eqb, leb}
 use lib.Pow.{pow-pos, pow-lt, pow-mono}
-use Rattle.rules.specs.EntryLaws.{in-digit, digit-in}
 use Rattle.laws.specs.Choice.{pick, by-test, every-at, set-not}
 use Rattle.laws.specs.Digits.{digit, digit-le, digit-or, onesBelow, digit-half}
 use Rattle.kinds.specs.Sizes as sizes
 use Rattle.kinds.specs.declared.Course.{Course}
+use Rattle.rules.specs.EntryLaws.{in-digit, digit-in}
 use Rattle.rules.specs.House.{inMask, maskOf, participants, repliesWanted, participants-sites}
 use Rattle.rules.specs.Live.{allHeard}
 use Rattle.rules.specs.Course.{isOutstanding}

@@ -14,8 +14,7 @@ use Rattle.kinds.specs.declared.Keys.{Keys}
 use Rattle.kinds.specs.declared.Course.{Course}
 use Rattle.kinds.specs.declared.Sub.{Sub}
 use Rattle.kinds.specs.declared.Entry.{Entry}
-use Rattle.kinds.specs.State.{noSub, noKeys, pastEntry, withCourse, withKeys}
-use Rattle.kinds.specs.State.{Value}
+use Rattle.kinds.specs.State.{noSub, noKeys, pastEntry, withCourse, withKeys, Value}
 use Rattle.rules.specs.House.{coordinatorOf, siteOf, txOf, inMask, maskOf}
 use Rattle.rules.specs.Message.{entryTx, entryMask, entryMark, entryCount}
 use Rattle.rules.specs.Keys.{wroteKey, wroteValue, readKey, dependent}

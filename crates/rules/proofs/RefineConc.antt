@@ -5,7 +5,6 @@ use mathlib.Core.Bool.{true, false}
 use mathlib.Core.List.{List, [], _++_}
 use native.Mathlib.Omega.{arith}
 use lib.ListN.{length, take, drop}
-use Rattle.rules.specs.JoinLaws.{join-whole}
 use Rattle.laws.specs.Choice.{pick, by-test}
 use Rattle.laws.specs.Overlay.{putAt}
 use Rattle.kinds.specs.Sizes as sizes
@@ -15,6 +14,7 @@ use Rattle.kinds.specs.declared.Sub.{Sub}
 use Rattle.kinds.specs.declared.Turn.{Turn}
 use Rattle.kinds.specs.declared.Site.{Site}
 use Rattle.kinds.specs.State.{subAt, withCourse}
+use Rattle.rules.specs.JoinLaws.{join-whole}
 use Rattle.rules.specs.House.{coordinatorOf, inMask}
 use Rattle.rules.specs.Message.{entryCount}
 use Rattle.rules.specs.KeysLaws.{by-order}

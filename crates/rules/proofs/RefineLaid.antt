@@ -8,7 +8,6 @@ use borrow.Author.Tests.{eqb-true, eqb-false, ne-eqb}
 use lib.Dec.{eqb}
 use lib.ListN.{length, getD, length-set, length-append, List·getD-append}
 use lib.Seq.{getD-set-same, getD-set-other, getD-append-add}
-use Rattle.rules.specs.MergerJoin.{halved}
 use Rattle.laws.specs.Choice.{pick, by-test, set-not, unset}
 use Rattle.laws.specs.Scan.{foldBelow, split-last}
 use Rattle.kinds.specs.Sizes as sizes
@@ -16,6 +15,7 @@ use Rattle.kinds.specs.Word as word
 use Rattle.kinds.specs.State.{Value}
 use Rattle.kinds.specs.declared.House.{House}
 use Rattle.kinds.specs.declared.Keys.{Keys}
+use Rattle.rules.specs.MergerJoin.{halved}
 use Rattle.rules.specs.House.{inMask, siteOf}
 use Rattle.rules.specs.Keys.{wroteKey, wroteValue, sortedKey, sortedCount}
 use Rattle.rules.specs.KeysLaws.{by-order, words-length, sorted-low, sorted-wrote, wrote-sorted, word-key, word-value}

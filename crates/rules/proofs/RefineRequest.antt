@@ -5,7 +5,6 @@ use mathlib.Core.Bool.{true, false}
 use mathlib.Core.List.{List, []}
 use native.Mathlib.Omega.{arith}
 use lib.ListN.{length}
-use Rattle.rules.specs.JoinLaws.{join-whole}
 use Rattle.laws.specs.Overlay.{putAt}
 use Rattle.kinds.specs.Sizes as sizes
 use Rattle.kinds.specs.Stage as stage
@@ -17,6 +16,7 @@ use Rattle.kinds.specs.declared.Turn.{Turn}
 use Rattle.kinds.specs.declared.Site.{Site}
 use Rattle.kinds.specs.declared.Answer.the-variants.{Done}
 use Rattle.kinds.specs.State.{subAt, withCourse, withSub}
+use Rattle.rules.specs.JoinLaws.{join-whole}
 use Rattle.rules.specs.House.{coordinatorOf}
 use Rattle.rules.specs.Message.{entryCount}
 use Rattle.rules.specs.Live.{partAt, allHeard}

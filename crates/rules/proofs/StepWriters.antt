@@ -7,9 +7,9 @@ use native.Mathlib.Omega.{arith}
 use borrow.Author.Tests.{ltb-true, ltb-false}
 use lib.Dec.{ltb}
 use lib.ListN.{length}
-use Rattle.rules.specs.KeysLaws.{none-written}
 use Rattle.laws.specs.Choice.{by-test, unset, set-not}
 use Rattle.kinds.specs.State.{noSub}
+use Rattle.rules.specs.KeysLaws.{none-written}
 use Rattle.rules.specs.Keys.{wroteKey}
 use Rattle.rules.specs.Install.{entryOf}
 use Rattle.rules.proofs.Protocol.{Protocol, inst, Move, freshProtocol}

@@ -19,11 +19,10 @@ use Rattle.rules.specs.House.{coordinatorOf, inMask}
 use Rattle.rules.proofs.Tables.{last-cases}
 use Rattle.rules.proofs.Protocol.{Protocol, inst, AtStage}
 use Rattle.rules.proofs.Invariants.{at, In, Installed, Invariant}
-use Rattle.rules.proofs.Committed.{low-coordinator, committed-asked}
+use Rattle.rules.proofs.Committed.{low-coordinator, committed-asked, coordinator-site}
 use Rattle.rules.proofs.Stream.{Item, Merger, rankOf, itemRank, DueAt, SameHead, WholeAt, Emits, headKeys, behindHead, itemOf, emitted}
 use Rattle.rules.proofs.StreamInv.{pastItem, itemAt, Out, partsAt, Streamed, Real, gone, parts-at-append, head-real, not-gone}
 use Rattle.rules.proofs.StreamDue.{due-low, due-below, due-behind, head-not-out}
-use Rattle.rules.proofs.Committed.{coordinator-site}
 
 module _ {sites : ℕ} (low : sites ≤ 8) {p : Protocol} {m : Merger} (inv : Invariant sites p) (i : Streamed sites p m) {g : Entry} (d : Emits sites m g) where
   real : Real p (d .site) g

@@ -16,6 +16,7 @@ use Rattle.kinds.specs.declared.Keys.{Keys}
 use Rattle.kinds.specs.declared.Sub.{Sub}
 use Rattle.kinds.specs.declared.Site.{Site}
 use Rattle.kinds.specs.State.{subAt}
+use Rattle.kinds.specs.declared.Answer.the-variants.{Reported}
 use Rattle.rules.specs.House.{houseOk, isSite, isTx, inMask, siteOf, coordinatorOf}
 use Rattle.rules.specs.Keys.{sortedKey, sortedCount, sortedWords}
 use Rattle.rules.specs.KeysLaws.{by-order, words-length, word-key, sorted-low, sorted-ascends, sorted-wrote, wrote-among}
@@ -27,7 +28,6 @@ use Rattle.rules.specs.Valid.{countersOk, liveOk, historyOk, siteOk}
 use Rattle.rules.specs.ValidLaws.{valid-site, counters-own}
 use Rattle.rules.specs.Install.{partHead, partWords, installedAt, installOf, stateWords, installCode, reportCode, reportOf}
 use Rattle.rules.specs.Effect.{refused}
-use Rattle.kinds.specs.declared.Answer.the-variants.{Reported}
 
 -- What is due is a place of the table, and decided.
 pub due-low : (live : List Sub) (place : ℕ) → isDue live place ≡ true → place < sizes.live

@@ -6,6 +6,8 @@ use mathlib.Core.Bool.{true}
 use mathlib.Core.Logic.{_⊎_, inl, inr}
 use native.Mathlib.Omega.{arith}
 use lib.ListN.{length, getD, length-append, List·getD-append}
+use lib.Seq.{getD-append-add}
+use Rattle.laws.specs.Digits.{digit}
 use Rattle.kinds.specs.Sizes as sizes
 use Rattle.kinds.specs.declared.Site.{Site}
 use Rattle.kinds.specs.State.{subAt}
@@ -17,8 +19,6 @@ use Rattle.rules.specs.History.{recall, remembered, within}
 use Rattle.rules.specs.JoinLaws.{count-joined, of-site, of-mark, listed-from, joined-member}
 use Rattle.rules.specs.Certify.{markOf, concurrentWords, preparedWords, installedWords, preparedList, installedList, candidates, concurrent}
 use Rattle.rules.specs.EntryLaws.{gathered-from, joined-tx, joined-mask, joined-mark, in-digit, digit-in}
-use lib.Seq.{getD-append-add}
-use Rattle.laws.specs.Digits.{digit}
 use Rattle.rules.specs.KeysLaws.{by-order}
 use Rattle.rules.specs.Join.{joinTx, joinCount}
 use Rattle.rules.specs.CertifyLaws.{prepared-is, prepared-each, prepared-few}

@@ -3,13 +3,13 @@ use Prim.Native.Nat.{ℕ}
 use mathlib.Core.Path.{_≡_, refl}
 use mathlib.Core.Bool.{Bool, true}
 use mathlib.Core.List.{List, [], _++_}
+use Rattle.laws.specs.Cause.{Cause, ascending}
 use Rattle.kinds.specs.declared.Answer.the-variants.{Refused}
 use Rattle.kinds.specs.declared.House.{House}
 use Rattle.kinds.specs.declared.Counters.{Counters}
 use Rattle.kinds.specs.declared.Merger.{Merger}
 use Rattle.kinds.specs.declared.Source.{Source}
 use Rattle.kinds.specs.declared.RecordHead.{RecordHead}
-use Rattle.laws.specs.Cause.{Cause, ascending}
 use Rattle.rules.specs.Begin.{beginCauses}
 use Rattle.rules.specs.Access.{accessCauses, readCauses, writeCauses}
 use Rattle.rules.specs.Enlist.{enlistCauses, joinerCauses}

@@ -4,9 +4,9 @@ use Prim.Native.Nat.{ℕ, _+_, _<_}
 use mathlib.Core.List.{List, [], _∷_, _++_}
 use mathlib.Core.Bool.{Bool, true, not}
 use mathlib.Core.Path.{_≡_}
+use borrow.Author.Tests.{ltb-true}
 use lib.ListN.{getD, set}
 use lib.Dec.{eqb, ltb}
-use borrow.Author.Tests.{ltb-true}
 use Rattle.laws.specs.Choice.{pick, every}
 use Rattle.laws.specs.Digits.{digit}
 use Rattle.laws.specs.Scan.{allBelow, foldBelow, all-below-at}
