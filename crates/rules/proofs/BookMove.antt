@@ -15,13 +15,13 @@ use Rattle.rules.proofs.Protocol.{Protocol, inst, AtStage, courseAt, Mo
 use Rattle.rules.proofs.Told.{told, toldStep, toldSteps}
 use Rattle.rules.proofs.Invariants.{at, Held, Invariant}
 use Rattle.rules.proofs.Frames.{new-tx, new-join}
-use Rattle.rules.proofs.StepParts.{inst-report}
+use Rattle.rules.proofs.StepParts.{inst-report, same}
 use Rattle.rules.proofs.Stream as stream
 use Rattle.rules.proofs.Stream.{Stream, Steps}
 use Rattle.rules.proofs.StreamReached.{Standing, standing-steps}
 use Rattle.rules.proofs.BookLists.{none-is, before-second}
 use Rattle.rules.proofs.Booked.{PairAt, Booked}
-use Rattle.rules.proofs.BookKept.{same, booked-quiet}
+use Rattle.rules.proofs.BookKept.{booked-quiet}
 use Rattle.rules.proofs.BookBegins.{booked-began}
 use Rattle.rules.proofs.BookAccess.{tells, booked-accessed}
 use Rattle.rules.proofs.BookInstalls.{booked-decided, booked-installed}

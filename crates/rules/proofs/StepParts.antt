@@ -215,8 +215,8 @@ parts-install sites p s t held i =
     k : (j u : ℕ) → Kept (p .live j u) (upd₂ (p .live) s t noSub j u)
     k = one-kept p s t noSub (kept-gone (p .live s t))
 
--- the rest as it was, where it computes
-abbrev same : {A B C D : Type 0} {a : A} {b : B} {c : C} {d : D} {f : ℕ → List Entry} → (a ≡ a) × (b ≡ b) × (c ≡ c) × (d ≡ d) × ((s : ℕ) → f s ≡ f s)
+-- tables that stay, where they compute
+abbrev pub same : {A B C D : Type 0} {a : A} {b : B} {c : C} {d : D} {f : ℕ → List Entry} → (a ≡ a) × (b ≡ b) × (c ≡ c) × (d ≡ d) × ((s : ℕ) → f s ≡ f s)
 same = (refl, refl, refl, refl, λ s. refl)
 
 module _ (sites : ℕ) (p : Protocol) (i : Invariant sites p) where
