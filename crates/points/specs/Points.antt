@@ -1,7 +1,7 @@
 -- One list of what the rules give and what 01 says, and one statement: they are the same.
 use Prim.Native.Nat.{ℕ, _-_}
 use mathlib.Core.Path.{_≡_}
-use mathlib.Core.Bool.{Bool, true, false}
+use mathlib.Core.Bool.{Bool, true}
 use mathlib.Core.List.{List, [], _∷_, _++_, map}
 use lib.Bits.{bitOr}
 use lib.ListN.{replicate, length}
@@ -9,12 +9,9 @@ use Rattle.laws.specs.Choice.{pick}
 use Rattle.laws.specs.Pair.{precedes}
 use Rattle.kinds.specs.Sizes as sizes
 use Rattle.kinds.specs.Stage as stage
-use Rattle.kinds.specs.Reason as reason
-use Rattle.kinds.specs.declared.House.{House}
 use Rattle.kinds.specs.declared.Answer.{Answer}
 use Rattle.rules.specs.House.{siteOf, maskOf, wholeHouse}
 use Rattle.rules.specs.Keys.{dependent}
-use Rattle.rules.specs.Live.{stageAt}
 use Rattle.rules.specs.Queue.{leastQueued, isDue, stateNumber}
 use Rattle.rules.specs.Effect.{Said, ok, abort, no, saidOf}
 use Rattle.rules.specs.Begin.{beginOf}

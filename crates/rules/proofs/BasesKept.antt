@@ -6,7 +6,7 @@ use mathlib.Core.List.{List}
 use native.Mathlib.Omega.{arith}
 use borrow.Author.Tests.{le-leb, lt-leb}
 use lib.ListN.{length, getD}
-use Rattle.laws.specs.Choice.{by-test}
+use Rattle.laws.specs.Choice.{by-test, by-same}
 use Rattle.kinds.specs.Sizes as sizes
 use Rattle.kinds.specs.declared.Entry.{Entry}
 use Rattle.kinds.specs.declared.Site.{Site}
@@ -19,7 +19,6 @@ use Rattle.rules.specs.World.{World}
 use Rattle.rules.proofs.Protocol.{Protocol, inst}
 use Rattle.rules.proofs.Invariants.{at}
 use Rattle.rules.proofs.Refines.{HistoryIs, Refines}
-use Rattle.rules.proofs.RefineLive.{by-same}
 use Rattle.rules.proofs.BookKept.{at-same}
 use Rattle.rules.proofs.KeysOnce.{EachOnce, forget-other, forget-wrote}
 use Rattle.rules.proofs.Versions.{leftBelow, left-wrote, left-other, left-same}

@@ -5,27 +5,21 @@ use mathlib.Core.Bool.{true}
 use mathlib.Core.Logic.{_⊎_, inl, inr, ⊎-elim}
 use mathlib.Core.List.{List, [], _∷_, _++_}
 use native.Mathlib.Omega.{arith}
-use borrow.Author.Tests.{ltb-true}
 use lib.ListN.{length}
 use Rattle.kinds.specs.declared.Keys.{Keys}
 use Rattle.kinds.specs.State.{noKeys}
-use Rattle.rules.specs.Keys.{keyPlace, wroteKey, wroteValue}
+use Rattle.rules.specs.KeysLaws.{none-written}
+use Rattle.rules.specs.Keys.{wroteKey, wroteValue}
 use Rattle.rules.specs.World.{Is, here}
 use Rattle.rules.specs.Book as book
 use Rattle.rules.specs.Book.{Fact}
 use Rattle.rules.specs.Claim.{Before, LastWrite}
-use Rattle.rules.proofs.Tables.{upd₂, upd₂-same, upd₂-cases, all-one}
+use Rattle.rules.proofs.Tables.{upd₂, upd₂-same, upd₂-cases, all-one, upd₂-both, all-is, is-append}
 use Rattle.rules.proofs.Protocol.{Protocol, inst}
-use Rattle.rules.proofs.Frames.{kept₂, was₂, upd₂-both}
-use Rattle.rules.proofs.RefineHanded.{all-is}
-use Rattle.rules.proofs.BookReplays.{is-append}
+use Rattle.rules.proofs.Frames.{kept₂, was₂}
 use Rattle.rules.proofs.BookLists.{is-kept, is-last, OfKind, old, before-second, before-kept, before-here, before-append, not-alone, last-kept}
 use Rattle.rules.proofs.Booked.{home, PairAt, UsedIn, Begins, Writes, Booked}
 use Rattle.rules.proofs.BookKept.{commits-kept, installs-kept}
-
-none-written : (k : ℕ) → wroteKey noKeys k ≡ true → ⊥
-unfolding wroteKey noKeys
-none-written k e = omega (arith, ltb-true (keyPlace (noKeys .writes) 0 k) 0 e)
 
 -- the one fact told
 is-began : {j u s t : ℕ} → Is (book.began j u) (book.began s t ∷ []) → (j ≡ s) × (u ≡ t)

@@ -5,6 +5,7 @@ use mathlib.Core.Path.{_≡_}
 use mathlib.Core.Logic.{inl, inr, ⊎-elim}
 use mathlib.Core.List.{List}
 use native.Mathlib.Omega.{arith}
+use Rattle.laws.specs.Choice.{unset}
 use Rattle.laws.specs.Pair.{rank, precedes, precedes-rank, not-precedes-rank}
 use Rattle.kinds.specs.State.{Value}
 use Rattle.kinds.specs.declared.House.{House}
@@ -13,9 +14,8 @@ use Rattle.rules.specs.Keys.{wroteValue}
 use Rattle.rules.specs.Copy.{copyNumber, copyCoordinator}
 use Rattle.rules.specs.World.{World}
 use Rattle.rules.specs.Book.{Fact}
-use Rattle.rules.specs.Claim.{Committed, Wrote, LastWrite, UpTo, LeftBy, lastReplay, CopyHolds}
+use Rattle.rules.specs.Claim.{Committed, Wrote, LastWrite, UpTo, LeftBy, LastReplay, CopyHolds}
 use Rattle.rules.proofs.Protocol.{Protocol}
-use Rattle.rules.proofs.Frames.{unset}
 use Rattle.rules.proofs.StreamClaims.{rankIn, WroteIn, LeftUpTo}
 use Rattle.rules.proofs.RefineCopies.{CopyStands}
 
@@ -56,7 +56,7 @@ module _ {o : House} {b : List Fact} {p : Protocol} (i : BookIs o b p) (n c k : 
 
 -- what is claimed of a copy
 pub copy-holds : {sites : ℕ} {b : List Fact} {p : Protocol} {w : World} {c k : ℕ} → BookIs (record { sites = sites }) b p → CopyStands sites p (w .copy c) k
-    → lastReplay c b (copyNumber (w .copy c)) (copyCoordinator (w .copy c)) → CopyHolds b w c k
+    → LastReplay c b (copyNumber (w .copy c)) (copyCoordinator (w .copy c)) → CopyHolds b w c k
 copy-holds {b = b} {p = p} i s r =
     record {
       value = s .value;

@@ -14,11 +14,10 @@ use Rattle.rules.specs.World.{Is, here, upd}
 use Rattle.rules.specs.Book as book
 use Rattle.rules.specs.Book.{Fact}
 use Rattle.rules.specs.Claim.{Before}
-use Rattle.rules.proofs.Tables.{upd-same, upd-cases, all-one}
+use Rattle.rules.proofs.Tables.{upd-same, upd-cases, all-one, last-cases, is-append}
 use Rattle.rules.proofs.Protocol.{Protocol, rPart, inst}
 use Rattle.rules.proofs.Invariants.{at}
-use Rattle.rules.proofs.StepParts.{parts-append, last-cases, inst-cases}
-use Rattle.rules.proofs.BookReplays.{is-append}
+use Rattle.rules.proofs.StepParts.{parts-append, inst-cases}
 use Rattle.rules.proofs.BookLists.{is-kept, is-last, before-append, not-alone, OfKind}
 use Rattle.rules.proofs.Booked.{PairAt, Booked}
 use Rattle.rules.proofs.BookKept.{commits-kept, begins-kept, writes-kept, installs-kept, sees-kept, at-same}

@@ -9,10 +9,10 @@ use Rattle.kinds.specs.declared.Entry.{Entry}
 use Rattle.kinds.specs.State.{pastEntry}
 use Rattle.rules.specs.Book as book
 use Rattle.rules.specs.Book.{Fact}
-use Rattle.rules.proofs.Tables.{a-nil, all-one}
+use Rattle.rules.proofs.StepParts.{same}
+use Rattle.rules.proofs.Tables.{a-nil, all-one, all-is}
 use Rattle.rules.proofs.Protocol.{Protocol, inst}
 use Rattle.rules.proofs.Invariants.{at}
-use Rattle.rules.proofs.RefineHanded.{all-is}
 use Rattle.rules.proofs.BookLists.{is-kept, OfKind, old, before-second, before-kept, before-old, last-kept}
 use Rattle.rules.proofs.Booked.{Commits, Begins, Writes, Installs, Sees, Booked}
 
@@ -68,10 +68,6 @@ module _ {b l : List Fact} {p q : Protocol} {k : ℕ} (a : OfKind k l) where
 -- The tables that the book is about, as they were.
 abbrev pub Same : Protocol → Protocol → Type 0
 Same p q = (q .has ≡ p .has) × (q .snap ≡ p .snap) × (q .keys ≡ p .keys) × (q .num ≡ p .num) × ((s : ℕ) → inst q s ≡ inst p s)
-
--- where they compute
-abbrev pub same : {A B C D : Type 0} {a : A} {b : B} {c : C} {d : D} {f : ℕ → List Entry} → (a ≡ a) × (b ≡ b) × (c ≡ c) × (d ≡ d) × ((s : ℕ) → f s ≡ f s)
-same = (refl, refl, refl, refl, λ s. refl)
 
 -- an install at the same place
 pub at-same : (p q : Protocol) → ((s : ℕ) → inst q s ≡ inst p s) → (s j : ℕ) → at q s j ≡ at p s j

@@ -10,9 +10,7 @@ use Rattle.rules.specs.World.{Is, here, there}
 use Rattle.rules.specs.Book as book
 use Rattle.rules.specs.Book.{Fact}
 use Rattle.rules.specs.Claim.{Before, LastWrite}
-use Rattle.rules.proofs.Tables.{All}
-use Rattle.rules.proofs.RefineHanded.{all-is}
-use Rattle.rules.proofs.BookReplays.{is-append}
+use Rattle.rules.proofs.Tables.{All, all-is, is-append}
 
 -- What stands in a list.
 pub none-is : {A : Type 0} {a : A} → Is a [] → ⊥

@@ -1,8 +1,8 @@
 -- The book after any moves: each tells what it did to the tables that the book is about.
-use Prim.Native.Nat.{ℕ, _+_, _≤_, _<_}
+use Prim.Native.Nat.{ℕ, _≤_, _<_}
 use mathlib.Core.Path.{_≡_, refl, sym, _∙_}
-use mathlib.Core.Bool.{true, false, true≢false}
-use mathlib.Core.List.{List, [], _∷_, _++_, append-assoc}
+use mathlib.Core.Bool.{true≢false}
+use mathlib.Core.List.{List, [], _∷_, _++_}
 use native.Mathlib.Omega.{arith}
 use lib.ListN.{length}
 use Rattle.kinds.specs.Stage as stage
@@ -10,17 +10,18 @@ use Rattle.rules.specs.House.{coordinatorOf}
 use Rattle.rules.specs.Install.{entryOf}
 use Rattle.rules.specs.Book as book
 use Rattle.rules.specs.Book.{Fact}
+use Rattle.rules.proofs.Tables.{regroup}
 use Rattle.rules.proofs.Protocol.{Protocol, inst, AtStage, courseAt, Move, begin, enlist, access, request, abort, cast, decide, install, report, joins, full, joined, prepared, lost, unknown, gathers, certified, rejects, votes, commits, aborts, passes, freshProtocol}
 use Rattle.rules.proofs.Told.{told, toldStep, toldSteps}
 use Rattle.rules.proofs.Invariants.{at, Held, Invariant}
 use Rattle.rules.proofs.Frames.{new-tx, new-join}
-use Rattle.rules.proofs.StepParts.{inst-report}
+use Rattle.rules.proofs.StepParts.{inst-report, same}
 use Rattle.rules.proofs.Stream as stream
 use Rattle.rules.proofs.Stream.{Stream, Steps}
 use Rattle.rules.proofs.StreamReached.{Standing, standing-steps}
 use Rattle.rules.proofs.BookLists.{none-is, before-second}
 use Rattle.rules.proofs.Booked.{PairAt, Booked}
-use Rattle.rules.proofs.BookKept.{same, booked-quiet}
+use Rattle.rules.proofs.BookKept.{booked-quiet}
 use Rattle.rules.proofs.BookBegins.{booked-began}
 use Rattle.rules.proofs.BookAccess.{tells, booked-accessed}
 use Rattle.rules.proofs.BookInstalls.{booked-decided, booked-installed}
@@ -84,9 +85,6 @@ module _ {sites : ℕ} {p : Protocol} {b : List Fact} (i : Invariant sites p) (x
 pub booked-move : {sites : ℕ} {p q : Protocol} {b : List Fact} → sites ≤ 8 → Invariant sites p → (m : Move sites p q) → Booked sites b p → Booked sites (b ++ told m) q
 booked-move {q = q} h i m x = step i x q m
 
-regroup : {sites : ℕ} {p : Protocol} (b l f : List Fact) → Booked sites ((b ++ l) ++ f) p → Booked sites (b ++ (l ++ f)) p
-regroup b l f x = rw append-assoc at x
-
 -- the merger and the copies leave the sites as they are
 booked-step : {sites : ℕ} {v u : Stream} {b : List Fact} → sites ≤ 8 → Invariant sites (v .protocol) → (s : stream.Step sites v u) → Booked sites b (v .protocol)
     → Booked sites (b ++ toldStep s) (u .protocol)
@@ -97,8 +95,8 @@ booked-step h i (stream.replays c l) x = booked-quiet same x
 pub booked-steps : {sites : ℕ} {v u : Stream} {b : List Fact} → sites ≤ 8 → Standing sites v → (ss : Steps sites v u) → Booked sites b (v .protocol)
     → Booked sites (b ++ toldSteps ss) (u .protocol)
 booked-steps h z stream.stop x = booked-quiet same x
-booked-steps {b = b} h z (stream.more ss s) x =
-    regroup b (toldSteps ss) (toldStep s) (booked-step h (standing-steps h ss z .invariant) s (booked-steps h z ss x))
+booked-steps {sites} {u = u} {b = b} h z (stream.more ss s) x =
+    regroup (λ l. Booked sites l (u .protocol)) b (toldSteps ss) (toldStep s) (booked-step h (standing-steps h ss z .invariant) s (booked-steps h z ss x))
 
 -- an empty book of the fresh tables
 pub booked-fresh : (sites : ℕ) → Booked sites [] freshProtocol

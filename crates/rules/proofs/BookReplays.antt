@@ -8,7 +8,7 @@ use native.Mathlib.Omega.{arith}
 use lib.Dec.{eqb}
 use lib.ListN.{length, getD, set, length-set}
 use lib.Seq.{getD-set-same, getD-set-other}
-use Rattle.laws.specs.Choice.{pick, every}
+use Rattle.laws.specs.Choice.{pick, every, set-not}
 use Rattle.kinds.specs.Sizes as sizes
 use Rattle.kinds.specs.Word as word
 use Rattle.kinds.specs.Kind as kind
@@ -16,7 +16,7 @@ use Rattle.kinds.specs.Reason as reason
 use Rattle.kinds.specs.State.{Value}
 use Rattle.kinds.specs.declared.Answer.{Answer}
 use Rattle.kinds.specs.declared.Answer.the-variants.{Refused, Done, Begun, Found, Committed, Aborted, Installed, Reported, Emitted, Standing}
-use Rattle.rules.specs.Answers.{onBegun, onFound, onDone, onCommitted, onInstalled}
+use Rattle.rules.specs.Answers.{onBegun, onFound, onDone, onCommitted, onInstalled, onAnswer}
 use Rattle.rules.specs.Record.{recordHead, recordWrites}
 use Rattle.rules.specs.Message.{messageHead}
 use Rattle.rules.specs.Copy.{copyNumber, copyCoordinator, replayed, replayOf, copyStartOf}
@@ -24,74 +24,41 @@ use Rattle.rules.specs.World.{World, Call, Is, here, there, step, siteSt
 use Rattle.rules.specs.World as world
 use Rattle.rules.specs.Book as book
 use Rattle.rules.specs.Book.{Fact, factsOf, bookFrom}
-use Rattle.rules.specs.Claim.{lastReplay}
-use Rattle.rules.proofs.Tables.{All, a-nil, a-cons, all-append, all-one, upd-cases}
-use Rattle.rules.proofs.Frames.{set-not}
-use Rattle.rules.proofs.RefineHanded.{all-is}
+use Rattle.rules.specs.Claim.{LastReplay}
+use Rattle.rules.proofs.Tables.{All, a-nil, a-cons, all-append, all-one, upd-cases, all-is, is-append}
 use Rattle.rules.proofs.RefineLaid.{put-header}
 use Rattle.rules.proofs.RefineReplay.{Replays, replay-cases}
 
--- One case of an answer, and the rest.
+-- What holds of the case, and of the rest, holds of an answer.
 module _ {A : Type 0} (P : A → Type 0) {other : A} (o : P other) where
-  pub on-begun : {f : ℕ → A} → ((n : ℕ) → P (f n)) → (a : Answer) → P (onBegun other f a)
-  on-begun g (Refused n) = o
-  on-begun g Done = o
-  on-begun g (Begun n) = g n
-  on-begun g (Found n) = o
-  on-begun g (Committed n) = o
-  on-begun g (Aborted n) = o
-  on-begun g (Installed n c) = o
-  on-begun g (Reported n) = o
-  on-begun g (Emitted n c t) = o
-  on-begun g (Standing n c t) = o
-
-  pub on-found : {f : ℕ → A} → ((n : ℕ) → P (f n)) → (a : Answer) → P (onFound other f a)
-  on-found g (Refused n) = o
-  on-found g Done = o
-  on-found g (Begun n) = o
-  on-found g (Found n) = g n
-  on-found g (Committed n) = o
-  on-found g (Aborted n) = o
-  on-found g (Installed n c) = o
-  on-found g (Reported n) = o
-  on-found g (Emitted n c t) = o
-  on-found g (Standing n c t) = o
+  on-answer : {done : A} {begun found committed : ℕ → A} {installed : ℕ → ℕ → A}
+      → P done → ((n : ℕ) → P (begun n)) → ((n : ℕ) → P (found n)) → ((n : ℕ) → P (committed n)) → ((n c : ℕ) → P (installed n c))
+      → (a : Answer) → P (onAnswer other done begun found committed installed a)
+  on-answer d b f c i (Refused n) = o
+  on-answer d b f c i Done = d
+  on-answer d b f c i (Begun n) = b n
+  on-answer d b f c i (Found n) = f n
+  on-answer d b f c i (Committed n) = c n
+  on-answer d b f c i (Aborted n) = o
+  on-answer d b f c i (Installed n m) = i n m
+  on-answer d b f c i (Reported n) = o
+  on-answer d b f c i (Emitted n m t) = o
+  on-answer d b f c i (Standing n m t) = o
 
   pub on-done : {f : A} → P f → (a : Answer) → P (onDone other f a)
-  on-done g (Refused n) = o
-  on-done g Done = g
-  on-done g (Begun n) = o
-  on-done g (Found n) = o
-  on-done g (Committed n) = o
-  on-done g (Aborted n) = o
-  on-done g (Installed n c) = o
-  on-done g (Reported n) = o
-  on-done g (Emitted n c t) = o
-  on-done g (Standing n c t) = o
+  on-done g = on-answer g (λ n. o) (λ n. o) (λ n. o) (λ n c. o)
+
+  pub on-begun : {f : ℕ → A} → ((n : ℕ) → P (f n)) → (a : Answer) → P (onBegun other f a)
+  on-begun g = on-answer o g (λ n. o) (λ n. o) (λ n c. o)
+
+  pub on-found : {f : ℕ → A} → ((n : ℕ) → P (f n)) → (a : Answer) → P (onFound other f a)
+  on-found g = on-answer o (λ n. o) g (λ n. o) (λ n c. o)
 
   pub on-committed : {f : ℕ → A} → ((n : ℕ) → P (f n)) → (a : Answer) → P (onCommitted other f a)
-  on-committed g (Refused n) = o
-  on-committed g Done = o
-  on-committed g (Begun n) = o
-  on-committed g (Found n) = o
-  on-committed g (Committed n) = g n
-  on-committed g (Aborted n) = o
-  on-committed g (Installed n c) = o
-  on-committed g (Reported n) = o
-  on-committed g (Emitted n c t) = o
-  on-committed g (Standing n c t) = o
+  on-committed g = on-answer o (λ n. o) (λ n. o) g (λ n c. o)
 
   pub on-installed : {f : ℕ → ℕ → A} → ((n c : ℕ) → P (f n c)) → (a : Answer) → P (onInstalled other f a)
-  on-installed g (Refused n) = o
-  on-installed g Done = o
-  on-installed g (Begun n) = o
-  on-installed g (Found n) = o
-  on-installed g (Committed n) = o
-  on-installed g (Aborted n) = o
-  on-installed g (Installed n c) = g n c
-  on-installed g (Reported n) = o
-  on-installed g (Emitted n c t) = o
-  on-installed g (Standing n c t) = o
+  on-installed g = on-answer o (λ n. o) (λ n. o) (λ n. o) g
 
 -- Facts that are no replay.
 abbrev isReplayed : Fact → Bool
@@ -130,13 +97,7 @@ installs-none s a = on-installed NoReplay a-nil (λ n c. all-one refl) a
 commits-none : (t : ℕ) (a : Answer) → NoReplay (book.commits t a)
 commits-none t a = on-committed NoReplay a-nil (λ n. all-one refl) a
 
--- What is behind stays last.
-pub is-append : {A : Type 0} {a : A} (l m : List A) → Is a (l ++ m) → Is a l ⊎ Is a m
-is-append [] m i = inr i
-is-append (x ∷ l) m here = inl here
-is-append (x ∷ l) m (there i) = ⊎-elim (λ j. inl (there j)) (λ j. inr j) (is-append l m i)
-
-still-last : (c : ℕ) (b l : List Fact) (n d : ℕ) → ((m e : ℕ) → Is (book.replayed c m e) l → ⊥) → lastReplay c b n d → lastReplay c (b ++ l) n d
+still-last : (c : ℕ) (b l : List Fact) (n d : ℕ) → ((m e : ℕ) → Is (book.replayed c m e) l → ⊥) → LastReplay c b n d → LastReplay c (b ++ l) n d
 still-last c b l n d f (inl (p, q, e, g)) =
     inl (p, q ++ l, rw e (append-assoc p (book.replayed c n d ∷ q) l), λ m r i. ⊎-elim (λ j. g m r j) (λ j. f m r j) (is-append q l i))
 still-last c b l n d f (inr (g, x, y)) = inr ((λ m r i. ⊎-elim (λ j. g m r j) (λ j. f m r j) (is-append b l i)), x, y)
@@ -158,7 +119,7 @@ number-after copy ws e =
 
 -- every copy's pair is that of its last replay
 abbrev pub LastReplays : List Fact → World → Type 0
-LastReplays b w = (c : ℕ) → lastReplay c b (copyNumber (w .copy c)) (copyCoordinator (w .copy c))
+LastReplays b w = (c : ℕ) → LastReplay c b (copyNumber (w .copy c)) (copyCoordinator (w .copy c))
 
 module _ (w : World) (b : List Fact) (h : LastReplays b w) where
   abbrev After : Call → Type 0
@@ -173,13 +134,13 @@ module _ (w : World) (b : List Fact) (h : LastReplays b w) where
     where
       go : ((n : ℕ) × (replayOf (w .copy c) ws ≡ record { answer = Refused n; copy = w .copy c })) ⊎ Replays (w .copy c) ws → After (world.replay c ws)
       go (inl (n, e)) =
-          rw (e, append-nil) (upd-cases (λ j y. lastReplay j b (copyNumber y) (copyCoordinator y)) (w .copy) c (w .copy c) (h c) (λ j x. h j))
+          rw (e, append-nil) (upd-cases (λ j y. LastReplay j b (copyNumber y) (copyCoordinator y)) (w .copy) c (w .copy c) (h c) (λ j x. h j))
       go (inr t) =
           let r = recordHead ws in
           let (x, y) = number-after (w .copy c) ws (t .size) in
           let l = book.replayed c (r .number) (r .coordinator) ∷ [] in
           rw (t .is)
-          (upd-cases (λ j z. lastReplay j (b ++ l) (copyNumber z) (copyCoordinator z)) (w .copy) c (replayed (w .copy c) ws)
+          (upd-cases (λ j z. LastReplay j (b ++ l) (copyNumber z) (copyCoordinator z)) (w .copy) c (replayed (w .copy c) ws)
           (rw (x, y) (inl (b, [], refl, λ m d i. none-replayed a-nil c m d i)))
           (λ j n. still-last j b l _ _ (λ m d i. other j (r .number) (r .coordinator) m d n i) (h j)))
         where

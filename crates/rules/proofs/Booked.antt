@@ -1,4 +1,4 @@
--- What the book has of the protocol's tables (B), by groups: commits, parts begun, writes with their last values and uses, installs, and
+-- What the book has of the protocol's tables, by groups: commits, parts begun, writes with their last values and uses, installs, and
 -- installs in their order against the begins.
 use Prim.Native.Nat.{ℕ, _<_}
 use mathlib.Core.Path.{_≡_}

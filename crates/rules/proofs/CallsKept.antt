@@ -21,16 +21,15 @@ use Rattle.rules.specs.Queue.{leastQueued, isDue}
 use Rattle.rules.specs.Valid.{siteOk}
 use Rattle.rules.specs.Effect.{Effect}
 use Rattle.rules.specs.Install.{installCode, installedAt, installOf, baseAfter}
-use Rattle.rules.specs.World.{World, Call, upd, step, siteStep, logStep, mergerStep, mergeStep, copyStep, replayStep}
+use Rattle.rules.specs.World.{World, Call, step, siteStep, logStep, mergerStep, mergeStep, copyStep, replayStep}
 use Rattle.rules.specs.World as world
 use Rattle.rules.specs.Book as book
 use Rattle.rules.specs.Book.{Fact}
-use Rattle.rules.proofs.Tables.{upd-same, upd-other, upd-cases, All, a-nil, a-cons, all-append, all-one}
+use Rattle.rules.proofs.Tables.{upd-same, upd-other, All, a-nil, a-cons, all-append, all-one, all-is, upd-self}
 use Rattle.rules.proofs.Protocol.{Protocol}
 use Rattle.rules.proofs.Invariants.{Invariant}
 use Rattle.rules.proofs.Refines.{Refines}
 use Rattle.rules.proofs.RefineStep.{toldBy, by-code}
-use Rattle.rules.proofs.RefineHanded.{all-is}
 use Rattle.rules.proofs.BookReplays.{on-begun, on-found, on-done, on-committed, on-installed}
 use Rattle.rules.proofs.BookLists.{none-is, factKind, OfKind}
 use Rattle.rules.proofs.MovesTold.{NoAccess, NoInstall, WritesOnce}
@@ -83,9 +82,6 @@ installs : {l : List Fact} → OfKind 3 l → NoAccess l
 installs a f i e = let z = all-is a i in omega arith
 
 -- The base values as they were.
-self : {A : Type 0} (f : ℕ → A) (s j : ℕ) → upd f s (f s) j ≡ f j
-self f s = upd-cases (λ j x. x ≡ f j) f s (f s) refl (λ j n. refl)
-
 module _ (sites : ℕ) (w : World) where
   quietly : (x : World) {fs : List Fact} → Quiet fs → ((s : ℕ) → x .base s ≡ w .base s) → CallKeeps sites w x fs
   quietly x a e = record { keys = inl (λ f i. all-is a i .0); bases = inl ((λ f i. all-is a i .1), e) }
@@ -93,12 +89,12 @@ module _ (sites : ℕ) (w : World) where
   -- a call of a site that leaves its base values
   at-site : {fs : List Fact} (s : ℕ) (e : Effect) (lists : List ℕ) → Quiet fs → CallKeeps sites w (siteStep w s e (w .base s) lists .world) fs
   unfolding siteStep
-  at-site s e lists a = quietly _ a (self (w .base) s)
+  at-site s e lists a = quietly _ a (upd-self (w .base) s)
 
   accessed : {fs : List Fact} (s : ℕ) (e : Effect) (lists : List ℕ) → OfKind 1 fs
       → ((j : ℕ) → 1 ≤ j → j ≤ sites → LiveOnce (siteStep w s e (w .base s) lists .world .site j .live)) → CallKeeps sites w (siteStep w s e (w .base s) lists .world) fs
   unfolding siteStep
-  accessed s e lists a o = record { keys = inr (accesses a, o); bases = inl (accesses a, self (w .base) s) }
+  accessed s e lists a o = record { keys = inr (accesses a, o); bases = inl (accesses a, upd-self (w .base) s) }
 
   module _ (s : ℕ) (out : List ℕ) where
     abbrev site : Site
@@ -121,7 +117,7 @@ module _ (sites : ℕ) (w : World) where
     install-bases =
         let code = installCode (siteOk site) (length out) (length (w .base s)) (isDue (site .live) due) (site .counters .installs) in
         by-code (λ e. BasesStay w (logStep w s e (e .lent) .world) (book.installs s (e .answer))) code site (w .base s)
-        (installedAt site (w .base s) due) (λ e. inr (s, one-more)) (inl ((λ f i. absurd (none-is i)), self (w .base) s))
+        (installedAt site (w .base s) due) (λ e. inr (s, one-more)) (inl ((λ f i. absurd (none-is i)), upd-self (w .base) s))
 
 pub call-kept : {sites : ℕ} {w : World} {p : Protocol} → Refines sites w p → Invariant sites p → WritesOnce p → (c : Call)
     → CallKeeps sites w (step w c .world) (toldBy c (step w c .answer) (step w c .words))
@@ -137,7 +133,7 @@ call-kept {sites} {w} r i o (world.message s out m) =
     at-site sites w s _ _ (all-append (joins-quiet s m (x .words) (x .answer)) (commits-quiet (messageHead m .tx) (x .answer)))
 call-kept {sites} {w} r i o (world.install s out) =
     record { keys = inl (installs (installs-told s (step w (world.install s out) .answer))); bases = install-bases sites w s out }
-call-kept {sites} {w} r i o (world.report s out) = quietly sites w _ a-nil (self (w .base) s)
+call-kept {sites} {w} r i o (world.report s out) = quietly sites w _ a-nil (upd-self (w .base) s)
 call-kept {sites} {w} r i o (world.merge m) = quietly sites w _ a-nil (λ s. refl)
 call-kept {sites} {w} r i o (world.emit out) = quietly sites w _ a-nil (λ s. refl)
 call-kept {sites} {w} r i o (world.replay c m) = quietly sites w _ a-nil (λ s. refl)

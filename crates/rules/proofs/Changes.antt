@@ -8,13 +8,13 @@ use native.Mathlib.Omega.{arith}
 use native.Mathlib.Nat.{eq-or-lt-of-le}
 use lib.ListN.{length, getD, length-append, List·getD-append}
 use lib.Seq.{getD-append-seam}
+use Rattle.laws.specs.Choice.{set-not}
 use Rattle.kinds.specs.Stage as stage
 use Rattle.kinds.specs.declared.Entry.{Entry}
 use Rattle.kinds.specs.State.{pastEntry}
 use Rattle.rules.specs.Install.{entryOf}
 use Rattle.rules.proofs.Protocol.{Protocol, Rec, rPart, partsOf, inst, AtStage, LeastQueued, Move}
 use Rattle.rules.proofs.Invariants.{Held, at, Installed, Parts, Courses, Invariant}
-use Rattle.rules.proofs.Frames.{set-not}
 use Rattle.rules.proofs.Later.{Later, later}
 use Rattle.rules.proofs.StepParts.{parts-append, parts-state, parts-step}
 use Rattle.rules.proofs.StepCourses.{courses-step}

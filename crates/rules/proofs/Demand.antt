@@ -6,18 +6,17 @@ use mathlib.Core.Logic.{_⊎_, inl, inr, ⊎-elim}
 use mathlib.Core.List.{List}
 use native.Mathlib.Omega.{arith}
 use lib.ListN.{length}
+use Rattle.laws.specs.Choice.{set-not}
 use Rattle.laws.specs.Pair.{precedes-rank}
-use Rattle.kinds.specs.Stage as stage
 use Rattle.rules.specs.House.{coordinatorOf}
 use Rattle.rules.specs.Keys.{dependent}
 use Rattle.rules.specs.KeysLaws.{conflict-dependent}
 use Rattle.rules.specs.World.{World}
 use Rattle.rules.specs.Book.{Fact}
 use Rattle.rules.specs.Claim.{Wrote, Used, Saw, Ordered, WritersInOrder, NoneHalfSeen, Holds}
-use Rattle.rules.proofs.Protocol.{Protocol, inst, AtStage}
-use Rattle.rules.proofs.Invariants.{at, Installed, Seen, Invariant}
-use Rattle.rules.proofs.Frames.{set-not}
-use Rattle.rules.proofs.Committed.{low-coordinator}
+use Rattle.rules.proofs.Protocol.{Protocol, inst}
+use Rattle.rules.proofs.Invariants.{at, Seen, Invariant}
+use Rattle.rules.proofs.Committed.{low-coordinator, coordinator-has}
 use Rattle.rules.proofs.MachineClaims.{pair-once, later-saw, independent}
 use Rattle.rules.proofs.Stream.{Stream}
 use Rattle.rules.proofs.StreamReached.{Standing}
@@ -30,11 +29,7 @@ use Rattle.rules.proofs.Booked.{home, PairAt, Booked}
 module _ {sites : ℕ} {p : Protocol} {b : List Fact} (few : sites ≤ 8) (i : Invariant sites p) (x : Booked sites b p) where
   -- a committed transaction has a part at its coordinator, which is a site
   pub low : (t : ℕ) → 0 < p .num t → coordinatorOf t < 16
-  low t z = let l = low-coordinator few (i .parts) (coordinatorOf t) t (own (i .order .held t z)) in omega arith
-    where
-      own : AtStage p (coordinatorOf t) t stage.decided ⊎ Installed p (coordinatorOf t) t → p .has (coordinatorOf t) t ≡ true
-      own (inl a) = i .parts .has (coordinatorOf t) t (λ f. omega arith)
-      own (inr (j, (l, e))) = rw e at (i .parts .entry-has (coordinatorOf t) j l)
+  low t z = let l = low-coordinator few (i .parts) (coordinatorOf t) t (coordinator-has i t z) in omega arith
 
   book-is : BookIs (record { sites = sites }) b p
   book-is =

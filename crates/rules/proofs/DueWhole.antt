@@ -1,42 +1,35 @@
 -- Emit is never refused 16: the least head, where it is due, is whole.
-use Prim.Native.Nat.{ℕ, _+_, _≤_, _<_}
+use Prim.Native.Nat.{ℕ, _+_, _<_}
 use mathlib.Core.Path.{_≡_, refl, sym, ap, _∙_}
 use mathlib.Core.Bool.{true, false}
-use mathlib.Core.Logic.{_⊎_, inl, inr, ⊎-elim}
+use mathlib.Core.Logic.{inl, inr}
 use mathlib.Core.List.{List, [], _∷_}
 use native.Mathlib.Omega.{arith}
-use lib.Dec.{eqb, ltb}
+use lib.Dec.{eqb}
 use lib.ListN.{length}
-use Rattle.laws.specs.Choice.{by-test}
-use Rattle.laws.specs.Pair.{precedes, not-precedes-rank}
-use Rattle.kinds.specs.Sizes as sizes
+use Rattle.laws.specs.Cause.{other-code}
+use Rattle.laws.specs.Choice.{by-test, unset, set-not}
 use Rattle.kinds.specs.Reason as reason
 use Rattle.kinds.specs.declared.Entry.{Entry}
 use Rattle.kinds.specs.declared.RecordHead.{RecordHead}
 use Rattle.kinds.specs.declared.Merger.{Merger}
-use Rattle.rules.specs.House.{coordinatorOf, inMask}
-use Rattle.rules.specs.Merger.{sourceAt, headsOf, headIn, hasPart, isDue, isWhole, leastSite, dueCode, emitDue, emitCode, emitOf, mergerOk}
-use Rattle.rules.specs.MergerLaws.{LeastOf, IsDue, WholeAt, HasPart, has-part, part-had, least-is, is-due, parts-whole}
+use Rattle.rules.specs.House.{inMask}
+use Rattle.rules.specs.Merger.{headsOf, headIn, hasPart, isDue, isWhole, leastSite, dueCode, emitDue, emitCode, emitOf, emitCauses}
+use Rattle.rules.specs.MergerLaws.{LeastOf, IsDue, WholeAt, has-part, part-had, least-is, is-due, parts-whole}
 use Rattle.rules.specs.World.{World, step, mergerStep}
 use Rattle.rules.specs.Progress.{DueIsWhole}
-use Rattle.rules.proofs.Protocol.{Protocol}
-use Rattle.rules.proofs.Frames.{unset, set-not}
-use Rattle.rules.proofs.Ascends.{Ascends}
 use Rattle.rules.proofs.Refines.{partHeadOf}
 use Rattle.rules.proofs.Stream as stream
-use Rattle.rules.proofs.Stream.{Stream, rankOf, DueAt}
+use Rattle.rules.proofs.Stream.{Stream}
 use Rattle.rules.proofs.StreamReached.{Standing}
 use Rattle.rules.proofs.StreamWhole.{due-whole}
 use Rattle.rules.proofs.RefineMerger.{StreamIs}
-use Rattle.rules.proofs.RefineEmit.{some-queued, head-is, head-low}
+use Rattle.rules.proofs.RefineHeads.{head-is, due-is, mask-is, due-at, rank-part, part-rank}
 
 -- The causes of emit: 16 only where the least head is due and not whole.
 emit-other : (g : Merger) (queues : List ℕ) (room : ℕ) → emitCode g queues room ≡ reason.notWhole → ⊥
 unfolding emitCode
-emit-other g queues room =
-    by-test (ltb room sizes.merged)
-    (λ s. rw s (λ e. omega arith))
-    (λ s. by-test (mergerOk g queues) (λ o. rw (s, o) (λ e. omega arith)) (λ o. rw (s, o) (λ e. omega arith)))
+emit-other g queues room e = other-code reason.notWhole (emitCauses g queues room) (λ z. omega arith) refl e
 
 due-other : (g : Merger) (heads : List RecordHead) (least : ℕ) → (isDue g heads least ≡ true → isWhole g heads (headIn heads least) ≡ true) → dueCode g heads least ≡ reason.notWhole → ⊥
 unfolding dueCode
@@ -45,10 +38,7 @@ due-other g heads least f =
     (λ d. rw (d, f d) (λ e. omega arith))
     (λ d. rw d (λ e. omega arith))
 
-module _ {sites : ℕ} {w : World} {v : Stream} (x : StreamIs sites w v) (z : Standing sites v) (a : Ascends (v .protocol)) where
-  abbrev p : Protocol
-  p = v .protocol
-
+module _ {sites : ℕ} {w : World} {v : Stream} (x : StreamIs sites w v) (z : Standing sites v) where
   abbrev m : stream.Merger
   m = v .merger
 
@@ -58,67 +48,22 @@ module _ {sites : ℕ} {w : World} {v : Stream} (x : StreamIs sites w v) (z : St
   abbrev heads : List RecordHead
   heads = headsOf (w .queues) (g .house .sites)
 
-  pub inside : (i : ℕ) → i < sites → i < g .house .sites
-  inside i l = rw (x .merger .house) l
-
-  -- the least head, at site k + 1
   module _ (k : ℕ) (l : LeastOf g heads (g .house .sites) k) (G : Entry) (r : List Entry) (q : m .queue (k + 1) ≡ G ∷ r) where
-    low : k < sites
-    low = omega (arith, l .below, x .merger .house)
-
-    pub due-is : headIn heads k ≡ partHeadOf (k + 1) G
-    due-is = head-is x z k low G r q
-
-    mask-is : (s : ℕ) → inMask (headIn heads k .mask) s ≡ inMask (G .mask) s
-    unfolding partHeadOf
-    mask-is s = ap (λ (h : RecordHead). inMask (h .mask) s) due-is
-
-    G-low : coordinatorOf (G .tx) ≤ 8
-    G-low = head-low x z k low G r q
-
-    pub least-rank : (i : ℕ) → i < sites → (e : Entry) (u : List Entry) → m .queue (i + 1) ≡ e ∷ u → rankOf G ≤ rankOf e
-    unfolding partHeadOf
-    least-rank i b e u f =
-        let c : precedes (e .number) (coordinatorOf (e .tx)) (G .number) (coordinatorOf (G .tx)) ≡ false =
-        rw (head-is x z i b e u f, due-is) at (l .least i (inside i b) (some-queued x z i b e u f)) in
-        not-precedes-rank (e .number) (coordinatorOf (e .tx)) (G .number) (coordinatorOf (G .tx)) (omega (arith, head-low x z i b e u f)) (omega (arith, G-low)) c
-
-    due-at : IsDue g heads k → (i : ℕ) → i < sites → DueAt G (m .state (i + 1)) (m .queue (i + 1))
-    unfolding partHeadOf
-    due-at d i b = go (m .queue (i + 1)) refl
-      where
-        go : (u : List Entry) → m .queue (i + 1) ≡ u → DueAt G (m .state (i + 1)) u
-        go [] e =
-            let c = x .merger .source i b in
-            ⊎-elim
-            (λ (y : 0 < sourceAt g i .queued). absurd (omega (arith, c .queued, ap length e)))
-            (λ (y : headIn heads k .number ≤ sourceAt g i .state). omega (arith, c .state-is, ap (λ (h : RecordHead). h .number) due-is))
-            (d .every i (inside i b))
-        go (e ∷ u) f = least-rank i b e u f
-
     whole-at : IsDue g heads k → (i : ℕ) → i < sites → WholeAt g heads (headIn heads k) i
     unfolding partHeadOf
-    whole-at d i b = go (m .queue (i + 1)) refl (due-whole (x .refines .few) (z .invariant) (z .streamed) a (k + 1) G r (omega arith) q (i + 1) (omega arith) (due-at d i b))
+    whole-at d i b = go (m .queue (i + 1)) refl (due-whole (x .refines .few) (z .invariant) (z .streamed) (k + 1) G r (omega arith) q (i + 1) (omega arith) (due-at x z k l G r q d i b))
       where
         none : inMask (G .mask) (i + 1) ≡ false → hasPart g heads (headIn heads k) i ≡ false → WholeAt g heads (headIn heads k) i
-        none e h = record { there = mask-is (i + 1) ∙ e ∙ sym h; tx = λ t. absurd (set-not _ t h); mask = λ t. absurd (set-not _ t h) }
+        none e h = record { there = mask-is x z k l G r q (i + 1) ∙ e ∙ sym h; tx = λ t. absurd (set-not _ t h); mask = λ t. absurd (set-not _ t h) }
 
         go : (u : List Entry) → m .queue (i + 1) ≡ u → stream.WholeAt G (i + 1) u → WholeAt g heads (headIn heads k) i
         go [] f e = none e (unset _ (λ t. let y = has-part g heads (headIn heads k) i t .queued in omega (arith, x .merger .source i b .queued, ap length f)))
         go (e ∷ u) f (inl (t, s)) =
             let h = head-is x z i b e u f in
-            let y = head-low x z i b e u f in
-            let o = part-had g heads (headIn heads k) i
-            (record { queued = some-queued x z i b e u f; number = rw (h, due-is) (omega (arith, s .0, G-low)); coordinator = rw (h, due-is) (omega (arith, s .0, G-low)) }) in
-            record { there = mask-is (i + 1) ∙ t ∙ sym o; tx = λ o. rw (h, due-is) (s .1); mask = λ o. rw (h, due-is) (s .2) }
-        go (e ∷ u) f (inr (t, n)) = none t (unset _ (λ o. n (same e u f (has-part g heads (headIn heads k) i o))))
-          where
-            same : (e : Entry) (u : List Entry) → m .queue (i + 1) ≡ e ∷ u → HasPart g heads (headIn heads k) i → rankOf e ≡ rankOf G
-            same e u f o =
-                let h = head-is x z i b e u f in
-                let c : e .number ≡ G .number = rw (h, due-is) at (o .number) in
-                let d : coordinatorOf (e .tx) ≡ coordinatorOf (G .tx) = rw (h, due-is) at (o .coordinator) in
-                omega arith
+            let y = due-is x z k l G r q in
+            let o = part-had g heads (headIn heads k) i (rank-part x z k l G r q i b e u f (s .0)) in
+            record { there = mask-is x z k l G r q (i + 1) ∙ t ∙ sym o; tx = λ o. rw (h, y) (s .1); mask = λ o. rw (h, y) (s .2) }
+        go (e ∷ u) f (inr (t, n)) = none t (unset _ (λ o. n (part-rank x z k l G r q i b e u f (has-part g heads (headIn heads k) i o))))
 
   pub due-whole-at : isDue g heads (leastSite g (w .queues)) ≡ true → isWhole g heads (headIn heads (leastSite g (w .queues))) ≡ true
   due-whole-at e =

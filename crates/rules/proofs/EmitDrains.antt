@@ -21,16 +21,16 @@ use Rattle.rules.specs.MergerLaws.{LeastOf, least-is, least-some}
 use Rattle.rules.specs.World.{World, step, mergerStep, recordIn}
 use Rattle.rules.specs.World as world
 use Rattle.rules.proofs.Protocol.{Protocol}
-use Rattle.rules.proofs.Ascends.{Ascends}
 use Rattle.rules.proofs.Refines.{partHeadOf}
 use Rattle.rules.proofs.Stream as stream
 use Rattle.rules.proofs.Stream.{Stream}
 use Rattle.rules.proofs.StreamInv.{Out}
 use Rattle.rules.proofs.StreamReached.{Standing}
-use Rattle.rules.proofs.StreamDrain.{DrainedAt, HeadUpTo, coordinator-site, drained-head}
+use Rattle.rules.proofs.Committed.{coordinator-site}
+use Rattle.rules.proofs.StreamDrain.{DrainedAt, HeadUpTo, drained-head}
 use Rattle.rules.proofs.RefineMerger.{StreamIs}
-use Rattle.rules.proofs.RefineEmit.{some-queued}
-use Rattle.rules.proofs.DueWhole.{inside, due-is, least-rank, due-whole-at}
+use Rattle.rules.proofs.RefineHeads.{inside, some-queued, due-is, least-rank}
+use Rattle.rules.proofs.DueWhole.{due-whole-at}
 
 -- an emit that is not refused writes one record
 emit-code : (g : Merger) (queues : List ℕ) (room : ℕ) → sizes.merged ≤ room → mergerOk g queues ≡ true → emitCode g queues room ≡ 0
@@ -46,7 +46,7 @@ one-written : (g : Merger) (queues : List ℕ) (room : ℕ) → emitCode g queue
 unfolding emitOf emitDue mergedWords recordWords
 one-written g queues room c d = rw (c, d)
 
-module _ {sites : ℕ} {w : World} {v : Stream} (x : StreamIs sites w v) (z : Standing sites v) (a : Ascends (v .protocol)) where
+module _ {sites : ℕ} {w : World} {v : Stream} (x : StreamIs sites w v) (z : Standing sites v) where
   abbrev p : Protocol
   p = v .protocol
 
@@ -72,14 +72,14 @@ module _ {sites : ℕ} {w : World} {v : Stream} (x : StreamIs sites w v) (z : St
         (record {
           some = omega (arith, l .below, c .few);
           every = λ i b. inr (let y : i < sites = rw (x .merger .house) at b in
-              let e = ap (λ (f : RecordHead). f .number) (due-is x z a k l G r q) in
+              let e = ap (λ (f : RecordHead). f .number) (due-is x z k l G r q) in
               omega (arith, x .merger .source i y .state-is, d (i + 1) (omega arith) (omega arith) .1));
         })
 
     module _ (t : ℕ) (committed : 0 < p .num t) (upto : p .num t ≤ n) where
       head-due : HeadUpTo p m t (coordinatorOf t) → isDue g heads k ≡ true
       head-due (e, u, q, h) =
-          let (b, c) = coordinator-site (z .invariant) (z .streamed) t committed in
+          let (b, c) = coordinator-site (z .invariant) t committed in
           let i = coordinatorOf t - 1 in
           let o : i + 1 ≡ coordinatorOf t = omega arith in
           go i (omega arith) (rw o q) (omega (arith, x .refines .few))
@@ -91,23 +91,23 @@ module _ {sites : ℕ} {w : World} {v : Stream} (x : StreamIs sites w v) (z : St
               few = x .merger .holds .clear .few
 
               least : LeastOf g heads (g .house .sites) k
-              least = least-is g heads (g .house .sites) few (least-some g heads (g .house .sites) i few (inside x z a i y) (some-queued x z i y e u f))
+              least = least-is g heads (g .house .sites) few (least-some g heads (g .house .sites) i few (inside x z i y) (some-queued x z i y e u f))
 
               some : (r : List Entry) → m .queue (k + 1) ≡ r → isDue g heads k ≡ true
               some [] j =
                   let b : k < sites = omega (arith, least .below, x .merger .house) in
                   absurd (omega (arith, least .queued, x .merger .source k b .queued, ap length j))
-              some (G ∷ r) j = least-due least G r j (omega (arith, least-rank x z a k least G r j i y e u f))
+              some (G ∷ r) j = least-due least G r j (omega (arith, least-rank x z k least G r j i y e u f))
 
       pub emit-drains : (out : List ℕ) → sizes.merged ≤ length out → Out m t ⊎ (length (step w (world.emit out) .world .stream) ≡ length (w .stream) + 1)
       unfolding step mergerStep
       emit-drains out room =
-          let (b, c) = coordinator-site (z .invariant) (z .streamed) t committed in
+          let (b, c) = coordinator-site (z .invariant) t committed in
           ⊎-elim (λ (o : Out m t). inl o) (λ (o : HeadUpTo p m t (coordinatorOf t)). inr (more (head-due o)))
           (drained-head (z .invariant) (z .streamed) t committed n upto (d (coordinatorOf t) b c))
         where
           more : isDue g heads k ≡ true → length (w .stream ++ recordIn (emitOf g (length out) (w .queues) .words)) ≡ length (w .stream) + 1
           more e =
               let y = one-written g (w .queues) (length out) (emit-code g (w .queues) (length out) room (clear-merger g (w .queues) (x .merger .holds .clear)))
-              (due-code g heads k e (due-whole-at x z a e)) in
+              (due-code g heads k e (due-whole-at x z e)) in
               omega (arith, length-append (w .stream) (recordIn (emitOf g (length out) (w .queues) .words)))

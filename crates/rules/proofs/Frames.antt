@@ -1,30 +1,23 @@
--- What the step lemmas share: flags that are only ever set, several tables changed at one place, messages to all others, the next
--- message of a channel, and transactions that have no part yet.
+-- What the step lemmas share: flags that are only ever set, messages to all others, the next message of a channel, and transactions
+-- that have no part yet.
 use Prim.Native.Nat.{ℕ, zero, suc, _+_, _≤_, _<_}
-use mathlib.Core.Path.{_≡_, refl, sym, ap, _∙_}
-use mathlib.Core.Bool.{Bool, true, false, not, true≢false}
+use mathlib.Core.Path.{_≡_, refl, ap, _∙_}
+use mathlib.Core.Bool.{Bool, true, false, not}
 use mathlib.Core.Logic.{_⊎_, inl, inr}
 use mathlib.Core.List.{List, [], _∷_, _++_}
 use native.Mathlib.Omega.{arith}
 use borrow.Author.Tests.{eqb-true, eqb-false, leb-true, not-true}
 use lib.Dec.{eqb, leb}
 use lib.ListN.{length, getD}
-use Rattle.laws.specs.Choice.{every, every-at, by-test}
+use Rattle.laws.specs.Choice.{every, every-at, by-test, unset}
 use Rattle.kinds.specs.Sizes as sizes
 use Rattle.rules.specs.House.{coordinatorOf, serialOf, txOf, inMask}
 use Rattle.rules.specs.World.{upd}
-use Rattle.rules.proofs.Tables.{upd₂, upd₂-same, upd-cases, upd₂-cases, Other₂, all-at}
+use Rattle.rules.proofs.Tables.{upd₂, upd-cases, upd₂-cases, all-at}
 use Rattle.rules.proofs.Protocol.{Protocol, Msg, mJoin, mAbort, Next, others}
 use Rattle.rules.proofs.Invariants.{Parts, MsgOk, Posts, Account, Invariant}
 
 -- Flags.
-pub unset : (b : Bool) → (b ≡ true → ⊥) → b ≡ false
-unset true n = absurd (n refl)
-unset false n = refl
-
-pub set-not : (b : Bool) → b ≡ true → b ≡ false → ⊥
-set-not b t f = true≢false (sym t ∙ f)
-
 pub kept₁ : (f : ℕ → Bool) (t u : ℕ) → f u ≡ true → upd f t true u ≡ true
 kept₁ f t = upd-cases (λ u b. f u ≡ true → b ≡ true) f t true (λ e. refl) (λ u n e. e)
 
@@ -34,33 +27,6 @@ kept₂ f s t = upd₂-cases (λ j u b. f j u ≡ true → b ≡ true) f s t tru
 -- set just now, or before
 pub was₂ : (f : ℕ → ℕ → Bool) (s t j u : ℕ) → upd₂ f s t true j u ≡ true → ((j ≡ s) × (u ≡ t)) ⊎ (f j u ≡ true)
 was₂ f s t = upd₂-cases (λ j u b. b ≡ true → ((j ≡ s) × (u ≡ t)) ⊎ (f j u ≡ true)) f s t true (λ e. inl (refl, refl)) (λ j u n e. inr e)
-
--- Several tables changed at one place.
-pub here₂ : {A : Type 0} (P : A → Type 0) (f : ℕ → ℕ → A) (s t : ℕ) (a : A) → P a → P (upd₂ f s t a s t)
-here₂ P f s t a h = rw (upd₂-same f s t a) h
-
-pub upd-both : {A B : Type 0} (P : ℕ → A → B → Type 0) (f : ℕ → A) (g : ℕ → B) (i : ℕ) (a : A) (b : B) → P i a b
-    → ((j : ℕ) → (j ≡ i → ⊥) → P j (f j) (g j)) → (j : ℕ) → P j (upd f i a j) (upd g i b j)
-unfolding upd
-upd-both P f g i a b h k j =
-    by-test (eqb j i)
-    (λ e. rw e (rw (eqb-true j i e) h))
-    (λ e. rw e (k j (eqb-false j i e)))
-
-pub upd₂-three : {A B C : Type 0} (P : ℕ → ℕ → A → B → C → Type 0) (f : ℕ → ℕ → A) (g : ℕ → ℕ → B) (h : ℕ → ℕ → C) (s t : ℕ) (a : A) (b : B) (c : C)
-    → P s t a b c → ((j u : ℕ) → Other₂ s t j u → P j u (f j u) (g j u) (h j u))
-    → (j u : ℕ) → P j u (upd₂ f s t a j u) (upd₂ g s t b j u) (upd₂ h s t c j u)
-unfolding upd₂ upd
-upd₂-three P f g h s t a b c new old j u =
-    by-test (eqb j s)
-    (λ e. by-test (eqb u t)
-    (λ q. rw (e, q) (rw (eqb-true j s e, eqb-true u t q) new))
-    (λ q. rw (e, q) (rw (eqb-true j s e) (old s u (λ z. eqb-false u t q (z .1))))))
-    (λ e. rw e (old j u (λ z. eqb-false j s e (z .0))))
-
-pub upd₂-both : {A B : Type 0} (P : ℕ → ℕ → A → B → Type 0) (f : ℕ → ℕ → A) (g : ℕ → ℕ → B) (s t : ℕ) (a : A) (b : B)
-    → P s t a b → ((j u : ℕ) → Other₂ s t j u → P j u (f j u) (g j u)) → (j u : ℕ) → P j u (upd₂ f s t a j u) (upd₂ g s t b j u)
-upd₂-both P f g s t a b new old = upd₂-three {C = ℕ} (λ j u x y z. P j u x y) f g (λ j u. 0) s t a b 0 new old
 
 -- One message to each other participant.
 pub others-cases : (P : ℕ → ℕ → List Msg → Type 0) (post : ℕ → ℕ → List Msg) (a mask : ℕ) (m : Msg)

@@ -1,15 +1,15 @@
 -- The next message of a channel goes on: by its phase it is in turn, and a PREPARE finds its transaction held.
 use Prim.Native.Nat.{ℕ, _*_}
 use mathlib.Core.Path.{_≡_, refl, sym, ap, _∙_}
-use mathlib.Core.Bool.{Bool, true, false, not}
+use mathlib.Core.Bool.{Bool, true, false}
 use mathlib.Core.Logic.{_⊎_, inl, inr}
 use mathlib.Core.List.{List, [], _∷_}
 use native.Mathlib.Omega.{arith}
-use borrow.Author.Tests.{eqb-false, eq-eqb, ne-eqb, ltb-true, ltb-false, le-leb}
+use borrow.Author.Tests.{eq-eqb, ne-eqb, ltb-false, le-leb}
 use lib.Dec.{eqb, leb, ltb}
 use lib.ListN.{drop}
-use Rattle.laws.specs.Choice.{pick, every, by-test}
-use Rattle.laws.specs.Cause.{Cause, codeOf}
+use Rattle.laws.specs.Choice.{every, by-test, set-not}
+use Rattle.laws.specs.Cause.{other-code}
 use Rattle.kinds.specs.Sizes as sizes
 use Rattle.kinds.specs.Stage as stage
 use Rattle.kinds.specs.Reason as reason
@@ -20,6 +20,7 @@ use Rattle.kinds.specs.declared.MessageHead.{MessageHead}
 use Rattle.kinds.specs.declared.Answer.{Answer}
 use Rattle.kinds.specs.declared.Answer.the-variants.{Refused}
 use Rattle.kinds.specs.State.{subAt}
+use Rattle.rules.specs.JoinLaws.{join-whole}
 use Rattle.rules.specs.Message.{entryCount}
 use Rattle.rules.specs.Live.{placeOf, freePlace, allHeard}
 use Rattle.rules.specs.Join.{joined}
@@ -31,12 +32,9 @@ use Rattle.rules.specs.Course.{headOf, raise, withReply, isOutstanding}
 use Rattle.rules.specs.Deliver.{arrivalCauses, arrivalCode, nextCauses, nextCode, arrived, passed, replyCode, spentTo, stepUnless, joinTurn, spoken, joinAt, takeJoin, joinedInTurn, takeJoined, takePrepare, concInTurn, gatherChange, takeConc, takeCert, voteInTurn, takeVote, takeCommit, takeAbort, keeping, takeHeld, takeOther, takeKind}
 use Rattle.rules.proofs.Protocol.{Protocol, Msg, mJoin, mJoined, mPrepare, mConc, mCert, mVote, mCommit, mAbort, Next, AtStage, courseAt}
 use Rattle.rules.proofs.Invariants.{Invariant}
-use Rattle.rules.proofs.Frames.{set-not}
-use Rattle.rules.proofs.Refines.{IsFree, kindOf, txIn, entriesIn, sliceOf, SiteIs}
-use Rattle.rules.proofs.RefineLive.{place-none}
+use Rattle.rules.proofs.Refines.{kindOf, txIn, entriesIn, sliceOf, SiteIs}
 use Rattle.rules.proofs.RefineStep.{by-code}
-use Rattle.rules.proofs.RefineTurn.{AtPlace, at-place, course-is}
-use Rattle.rules.proofs.RefineCertify.{join-whole}
+use Rattle.rules.proofs.RefineTurn.{AtPlace, course-is, by-held}
 use Rattle.rules.proofs.RefineMail.{Made, none}
 use Rattle.rules.proofs.RefineMessage.{headIn}
 use Rattle.rules.proofs.Phases.{Phases}
@@ -72,18 +70,6 @@ passed-goes : (s : Site) (a : ℕ) → GoesOn (passed s a)
 unfolding passed
 passed-goes s a = record { in-turn = accepted _ refl; known = none }
 
--- no cause of this number
-abbrev unlisted : ℕ → List Cause → Bool
-unlisted n [] = true
-unlisted n (c ∷ l) = pick (eqb (c .number) n) false (unlisted n l)
-
-other-code : (n : ℕ) (l : List Cause) → (n ≡ 0 → ⊥) → unlisted n l ≡ true → codeOf l ≡ n → ⊥
-other-code n [] z u e = z (sym e)
-other-code n (c ∷ l) z u e =
-    by-test (eqb (c .number) n)
-    (λ x. set-not false (rw x at u) refl)
-    (λ x. by-test (c .holds) (λ y. eqb-false (c .number) n x (rw y at e)) (λ y. other-code n l z (rw x at u) (rw y at e)))
-
 pub arrival-other : (ok : Bool) (room : ℕ) (given fine : Bool) → arrivalCode ok room given fine ≡ reason.stage → ⊥
 unfolding arrivalCode
 arrival-other ok room given fine e = other-code reason.stage (arrivalCauses ok room given fine) (λ z. omega arith) refl e
@@ -110,7 +96,7 @@ vote-in-turn c a v (inl e) o = rw (o, e)
 vote-in-turn c a v (inr (e, n)) o = rw (o, e, ne-eqb v 0 n)
 
 -- a list gathered, with the vote that the last one brings
-gather-speaks : (x : Site) (h : MessageHead) (place : ℕ) (lists : List ℕ) → Speaks (gatherChange x h place lists)
+pub gather-speaks : (x : Site) (h : MessageHead) (place : ℕ) (lists : List ℕ) → Speaks (gatherChange x h place lists)
 unfolding gatherChange
 gather-speaks x h place lists =
     let c = withReply (subAt x place .course) (h .from) 0 (h .count) in
@@ -119,14 +105,6 @@ gather-speaks x h place lists =
     (λ e. rw e (quietly-speaks _))
 
 module _ {sites : ℕ} {p : Protocol} (i : Invariant sites p) (f : Phases p) (s a n : ℕ) {x : Site} {base lists : List ℕ} (y : SiteIs sites s x base lists (sliceOf p s)) where
-  -- held, or not
-  by-held : {P : Type 0} (t : ℕ) → (AtPlace x p s t (placeOf (x .live) t) → ltb (placeOf (x .live) t) sizes.live ≡ true → P)
-      → (IsFree (p .live s t) → ltb (placeOf (x .live) t) sizes.live ≡ false → P) → P
-  by-held t g h =
-      by-test (ltb (placeOf (x .live) t) sizes.live)
-      (λ e. g (at-place x p s t (y .live) (ltb-true _ _ e)) e)
-      (λ e. h (place-none (y .live) t (ltb-false _ _ e)) e)
-
   stage-is : {t place : ℕ} → AtPlace x p s t place → (g : ℕ) → AtStage p s t g → eqb (subAt x place .course .stage) g ≡ true
   stage-is A g e = eq-eqb _ g (ap (λ (c : Course). c .stage) (course-is A) ∙ e)
 
@@ -145,7 +123,7 @@ module _ {sites : ℕ} {p : Protocol} (i : Invariant sites p) (f : Phases p) (s 
   join-goes t next =
       keeping-goes lists _
       (reply-goes (leb sizes.live (placeOf (x .live) t)) (spentTo x a) x [] _
-      (by-held t (λ A e. absurd (A .held (join-turn i f a s t next))) (λ g e. le-leb sizes.live (placeOf (x .live) t) (ltb-false _ _ e)))
+      (by-held x p s (y .live) t (λ A e. absurd (A .held (join-turn i f a s t next))) (λ g e. le-leb sizes.live (placeOf (x .live) t) (ltb-false _ _ e)))
       (by-test (ltb (freePlace (x .live)) sizes.live)
       (λ e. rw e (changed-goes x (freePlace (x .live)) _ [] (to-speaks _ kind.joined a 0 0 [] no-entries (λ k. omega arith))))
       (λ e. rw e (spoken-goes x _ (to-speaks _ kind.joined a 0 reason.full [] no-entries (λ k. omega arith))))))
@@ -161,35 +139,35 @@ module _ {sites : ℕ} {p : Protocol} (i : Invariant sites p) (f : Phases p) (s 
   unfolding takeKind takeHeld takeOther headOf takeJoined joinedInTurn arrived takePrepare takeCommit takeAbort takeVote takeCert raise
   takes-on (mJoin t) next o = join-goes t next
   takes-on (mJoined t v) next o =
-      by-held t
+      by-held x p s (y .live) t
       (λ A e. rw e
       (let (g, u) = joined-turn i f a s t v next (A .held) in
       step-goes _ false (placeOf (x .live) t) _ (both-true _ _ (stage-is A stage.active g) (outstanding-is A u)) (quietly-speaks _)))
       (λ g e. rw e pass-goes)
   takes-on (mPrepare t k mask) next o =
       let g = prepare-turn i f a s t k mask next in
-      by-held t
+      by-held x p s (y .live) t
       (λ A e. rw e (step-goes _ (spentTo x a) (placeOf (x .live) t) _ (stage-is A stage.active g) (prepared-speaks _ a mask _ (concurrent x (placeOf (x .live) t)) (concurrent-whole x (placeOf (x .live) t)))))
       (λ h e. absurd (omega arith))
-  takes-on (mConc t es) next o = by-held t (λ A e. rw e (conc-goes t es next A)) (λ g e. rw e pass-goes)
+  takes-on (mConc t es) next o = by-held x p s (y .live) t (λ A e. rw e (conc-goes t es next A)) (λ g e. rw e pass-goes)
   takes-on (mCert t es) next o =
       let g = cert-turn i f a s t es next in
       let place = placeOf (x .live) t in
-      by-held t
+      by-held x p s (y .live) t
       (λ A e. rw e (step-goes _ (spentTo x a) place _ (stage-is A stage.prepared g) (certified-speaks _ a (voteOf x place es (entryCount es)) (vote-known x place es (entryCount es)))))
       (λ h e. rw e pass-goes)
   takes-on (mVote t k v) next o =
       let place = placeOf (x .live) t in
-      by-held t
+      by-held x p s (y .live) t
       (λ A e. rw e
       (let (g, u) = vote-turn i f a s t k v next (A .held) in
       step-goes (voteInTurn (subAt x place .course) a v) _ place _ (vote-in-turn (subAt x place .course) a v (rw (course-is A) g) (outstanding-is A u)) (vote-speaks _ a v)))
       (λ h e. rw e pass-goes)
   takes-on (mCommit t k) next o =
       let g = commit-turn i f a s t k o next in
-      by-held t (λ A e. rw e (step-goes _ false (placeOf (x .live) t) _ (stage-is A stage.queued g) (quietly-speaks _))) (λ h e. rw e pass-goes)
+      by-held x p s (y .live) t (λ A e. rw e (step-goes _ false (placeOf (x .live) t) _ (stage-is A stage.queued g) (quietly-speaks _))) (λ h e. rw e pass-goes)
   takes-on (mAbort t) next o =
       let g = abort-turn i f a s t next in
-      by-held t
+      by-held x p s (y .live) t
       (λ A e. rw e (step-goes _ false (placeOf (x .live) t) _ (rw (ne-eqb _ stage.decided (λ z. g (sym (ap (λ (c : Course). c .stage) (course-is A)) ∙ z)))) (quietly-speaks _)))
       (λ h e. rw e pass-goes)

@@ -5,7 +5,7 @@ use mathlib.Core.Bool.{Bool, true}
 use mathlib.Core.Logic.{_⊎_, inl, inr}
 use mathlib.Core.List.{List, _∷_}
 use native.Mathlib.Omega.{arith}
-use Rattle.laws.specs.Choice.{by-test}
+use Rattle.laws.specs.Choice.{by-test, by-same}
 use Rattle.kinds.specs.Stage as stage
 use Rattle.kinds.specs.declared.Course.{Course}
 use Rattle.rules.specs.House.{coordinatorOf, inMask}
@@ -17,7 +17,6 @@ use Rattle.rules.proofs.Refines.{txIn}
 use Rattle.rules.proofs.Pending.{pending, taken-first}
 use Rattle.rules.proofs.Phases.{Waits, RepliedAt, Phase, asked, replied, deciding, aborting, overtaken, aborted, Phases, along}
 use Rattle.rules.proofs.PhaseTurns.{prepare-held}
-use Rattle.rules.proofs.PhaseParts.{by-eq}
 
 -- a reply that the coordinator waits for is outstanding
 waits-outstanding : (c : Course) (a : ℕ) → Waits a c → isOutstanding c a ≡ true
@@ -58,7 +57,7 @@ module _ {sites : ℕ} {p : Protocol} (i : Invariant sites p) (f : Phases p) (a 
   alive t c h d = h (rw c at (i .account .dead t d .1))
 
   pub join-turn : (t : ℕ) → Next p a s (mJoin t) → AtStage p s t stage.free
-  join-turn t n = by-eq (courseAt p s t .stage) stage.free (λ e. e) (λ h. absurd (new-join sites p a s t (i .posts) n (i .parts .has s t h)))
+  join-turn t n = by-same (courseAt p s t .stage) stage.free (λ e. e) (λ h. absurd (new-join sites p a s t (i .posts) n (i .parts .has s t h)))
 
   pub joined-turn : (t v : ℕ) → Next p a s (mJoined t v) → Held p s t → AtStage p s t stage.active × (isOutstanding (courseAt p s t) a ≡ true)
   joined-turn t v n h =

@@ -1,7 +1,7 @@
 -- What holds after any moves, by groups. A group's step lemma takes all groups before the move, and gives that group after it.
-use Prim.Native.Nat.{ℕ, zero, suc, _+_, _-_, _^_, _≤_, _<_, max}
+use Prim.Native.Nat.{ℕ, _^_, _≤_, _<_}
 use mathlib.Core.Path.{_≡_}
-use mathlib.Core.Bool.{Bool, true, false}
+use mathlib.Core.Bool.{true, false}
 use mathlib.Core.Logic.{_⊎_}
 use mathlib.Core.List.{List, [], _∷_, _++_}
 use lib.ListN.{length, getD}
@@ -38,7 +38,7 @@ Seen p s t u = (i : ℕ) × InstalledAs p s u i × (i < p .snap s t)
 abbrev pub In : ℕ → ℕ → Type 0
 In mask r = (1 ≤ r) × (inMask mask r ≡ true)
 
--- Parts (S0, S1): a part begins once at a site, and is held or installed, never both.
+-- Parts: a part begins once at a site, and is held or installed, never both.
 pub record Parts (sites : ℕ) (p : Protocol) : Type 0 where
   pub tx : (s t : ℕ) → Held p s t → p .live s t .tx ≡ t
   pub has : (s t : ℕ) → Held p s t → p .has s t ≡ true
@@ -53,7 +53,7 @@ pub record Parts (sites : ℕ) (p : Protocol) : Type 0 where
   pub coordinator : (s t : ℕ) → p .has s t ≡ true → p .has (coordinatorOf t) t ≡ true
   pub serial : (s t : ℕ) → p .has s t ≡ true → (1 ≤ serialOf t) × (serialOf t ≤ p .serial (coordinatorOf t))
 
--- Posts (N1, N2): where messages come from.
+-- Posts: where messages come from.
 abbrev pub MsgOk : ℕ → Protocol → ℕ → ℕ → Msg → Type 0
 MsgOk sites p a b (mJoin t) = (coordinatorOf t ≡ a) × (p .has a t ≡ true) × (b ≡ a → ⊥) × ((1 ≤ b) × (b ≤ sites)) × (Held p a t → inMask (courseAt p a t .mask) b ≡ true) × (p .asked t ≡ true → inMask (p .mask t) b ≡ true)
 MsgOk sites p a b (mJoined t r) = (coordinatorOf t ≡ b) × (a ≡ b → ⊥) × (r ≡ 0 → p .has a t ≡ true)
@@ -74,7 +74,7 @@ pub record Posts (sites : ℕ) (p : Protocol) : Type 0 where
   pub join-taken : (s t : ℕ) → p .has s t ≡ true → (s ≡ coordinatorOf t → ⊥)
       → (i : ℕ) × (i < p .taken (coordinatorOf t) s) × (getD (p .post (coordinatorOf t) s) i (mAbort 0) ≡ mJoin t)
 
--- Rounds (R): what the coordinator has heard.
+-- Rounds: what the coordinator has heard.
 pub record Rounds (p : Protocol) : Type 0 where
   pub small : (t : ℕ) → Held p (coordinatorOf t) t → (courseAt p (coordinatorOf t) t .mask < 2 ^ sizes.sites) × (courseAt p (coordinatorOf t) t .heard < 2 ^ sizes.sites)
   pub own : (t : ℕ) → Held p (coordinatorOf t) t → inMask (courseAt p (coordinatorOf t) t .mask) (coordinatorOf t) ≡ true
@@ -107,7 +107,7 @@ pub record Courses (p : Protocol) : Type 0 where
   pub decided : (s t : ℕ) → AtStage p s t stage.decided → (p .yes s t ≡ true) × (courseAt p s t .number ≡ p .num t) × (0 < p .num t)
   pub stages : (s t : ℕ) → courseAt p s t .stage ≤ stage.rejected
 
--- Account (T1 to T3, K2, T5): one transaction over all sites.
+-- Account: one transaction over all sites.
 pub record Account (p : Protocol) : Type 0 where
   pub asked-has : (t r : ℕ) → p .asked t ≡ true → In (p .mask t) r → p .has r t ≡ true
   pub has-asked : (t r : ℕ) → p .asked t ≡ true → p .has r t ≡ true → inMask (p .mask t) r ≡ true
@@ -124,7 +124,7 @@ pub record Account (p : Protocol) : Type 0 where
   pub entry : (s i : ℕ) → i < length (inst p s)
       → (at p s i .number ≡ p .num (at p s i .tx)) × (0 < p .num (at p s i .tx)) × (at p s i .mask ≡ p .mask (at p s i .tx)) × (p .yes s (at p s i .tx) ≡ true)
 
--- Clocks (S4, S5, K1): numbers and the clock.
+-- Clocks: numbers and the clock.
 abbrev pub RecLow : ℕ → Rec → Type 0
 RecLow n (rPart e) = e .number ≤ n
 RecLow n (rState k) = k ≤ n
@@ -137,23 +137,29 @@ pub record Clocks (p : Protocol) : Type 0 where
   pub once : (t u : ℕ) → 0 < p .num t → p .num t ≡ p .num u → coordinatorOf t ≡ coordinatorOf u → t ≡ u
   pub mark : (s t i : ℕ) → p .yes s t ≡ true → i < p .snap s t → at p s i .number ≤ p .mark s t
 
--- Order (S6): at its coordinator a decided transaction lies above all that its log has, until it is installed there.
+-- Order: every log ascends. An open mark is at or above all that its site's log has, a decided pair above it. A committed transaction
+-- is decided at its coordinator until it is installed there.
 abbrev pub RecBelow : ℕ → ℕ → Rec → Type 0
 RecBelow n c (rPart e) = rank (e .number) (coordinatorOf (e .tx)) < rank n c
 RecBelow n c (rState k) = k < n
 
--- in a log, what stands before a part of its own is below it
-abbrev pub OwnAbove : ℕ → List Rec → List Rec → Type 0
-OwnAbove c before [] = Unit {0}
-OwnAbove c before (rPart e ∷ l) = (coordinatorOf (e .tx) ≡ c → All (RecBelow (e .number) c) before) × OwnAbove c (before ++ (rPart e ∷ [])) l
-OwnAbove c before (rState k ∷ l) = OwnAbove c (before ++ (rState k ∷ [])) l
+-- r may stand before: below a part, by pair or number, and before a state no state above it
+abbrev pub StandsBefore : Rec → Rec → Type 0
+StandsBefore (rPart e) r = RecBelow (e .number) (coordinatorOf (e .tx)) r
+StandsBefore (rState n) (rPart e) = Unit {0}
+StandsBefore (rState n) (rState k) = k ≤ n
+
+abbrev pub Ascending : List Rec → List Rec → Type 0
+Ascending before [] = Unit {0}
+Ascending before (r ∷ l) = All (StandsBefore r) before × Ascending (before ++ (r ∷ [])) l
 
 pub record Order (p : Protocol) : Type 0 where
-  pub decided : (t : ℕ) → AtStage p (coordinatorOf t) t stage.decided → All (RecBelow (p .num t) (coordinatorOf t)) (p .log (coordinatorOf t))
-  pub own : (s : ℕ) → OwnAbove s [] (p .log s)
+  pub queued : (s t : ℕ) → AtStage p s t stage.queued → All (RecLow (courseAt p s t .number)) (p .log s)
+  pub decided : (s t : ℕ) → AtStage p s t stage.decided → All (RecBelow (p .num t) (coordinatorOf t)) (p .log s)
+  pub ascends : (s : ℕ) → Ascending [] (p .log s)
   pub held : (t : ℕ) → 0 < p .num t → AtStage p (coordinatorOf t) t stage.decided ⊎ Installed p (coordinatorOf t) t
 
--- Writers (S2, S3): the first writer of a key wins.
+-- Writers: the first writer of a key wins.
 pub record Writers (p : Protocol) : Type 0 where
   pub apart : (s t u k : ℕ) → (t ≡ u → ⊥) → Held p s t → Held p s u → wroteKey (p .keys s t) k ≡ true → wroteKey (p .keys s u) k ≡ false
   pub after : (s t i k : ℕ) → Held p s t → p .snap s t ≤ i → i < length (inst p s) → wroteKey (p .keys s t) k ≡ true
@@ -161,7 +167,7 @@ pub record Writers (p : Protocol) : Type 0 where
   pub seen : (s i j k : ℕ) → i < j → j < length (inst p s) → wroteKey (p .keys s (at p s i .tx)) k ≡ true
       → wroteKey (p .keys s (at p s j .tx)) k ≡ true → i < p .snap s (at p s j .tx)
 
--- Lists (T4, T6): what a site's list covers, and what a yes says.
+-- Lists: what a site's list covers, and what a yes says.
 pub record Lists (p : Protocol) : Type 0 where
   pub cover : (t u s r : ℕ) → (t ≡ u → ⊥) → p .made s t ≡ true → p .has s u ≡ true → Seen p r t u
       → Seen p s t u ⊎ Listed (p .list s t) u (p .mask u) (dependent (p .keys s t) (p .keys s u))

@@ -6,7 +6,7 @@ use mathlib.Core.List.{List}
 use native.Mathlib.Omega.{arith}
 use lib.ListN.{length, getD, set}
 use lib.Seq.{getD-set-same, getD-set-other}
-use Rattle.laws.specs.Choice.{by-test}
+use Rattle.laws.specs.Choice.{by-test, set-not}
 use Rattle.laws.specs.Scan.{split-last, foldBelow}
 use Rattle.kinds.specs.Sizes as sizes
 use Rattle.kinds.specs.declared.Keys.{Keys}
@@ -14,7 +14,6 @@ use Rattle.kinds.specs.State.{Value, fresh, noKeys}
 use Rattle.rules.specs.Keys.{keyPlace, wroteKey, wroteValue, readKey, withRead, withWrite}
 use Rattle.rules.specs.KeysLaws.{by-order, among-wrote}
 use Rattle.rules.specs.History.{forgetInto}
-use Rattle.rules.proofs.Frames.{set-not}
 use Rattle.rules.proofs.Refines.{Sized}
 use Rattle.rules.proofs.KeysTold.{place-low, place-is}
 use Rattle.rules.proofs.RefineLog.{forget-length}

@@ -9,14 +9,13 @@ use borrow.Author.Tests.{ltb-true, eqb-true, eq-eqb, ne-eqb}
 use lib.Dec.{eqb}
 use lib.ListN.{getD, set, length-set}
 use lib.Seq.{getD-set-same, getD-set-other}
-use Rattle.laws.specs.Choice.{by-test}
+use Rattle.laws.specs.Choice.{by-test, set-not}
 use Rattle.laws.specs.Scan.{firstBelow, first-below, before-first, at-first}
 use Rattle.kinds.specs.Sizes as sizes
 use Rattle.kinds.specs.declared.Keys.{Keys}
 use Rattle.kinds.specs.State.{Value, fresh}
 use Rattle.rules.specs.Keys.{keyPlace, wroteKey, wroteValue, readKey, withRead, withWrite}
 use Rattle.rules.specs.KeysLaws.{by-order, wrote-among, among-wrote, read-among, among-read}
-use Rattle.rules.proofs.Frames.{set-not}
 use Rattle.rules.proofs.Refines.{Sized}
 
 -- A read leaves the writes.

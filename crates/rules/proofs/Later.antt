@@ -6,15 +6,16 @@ use mathlib.Core.Bool.{Bool, true, false}
 use mathlib.Core.Logic.{_⊎_, inl, inr}
 use mathlib.Core.List.{List}
 use native.Mathlib.Omega.{arith}
+use Rattle.laws.specs.Choice.{set-not}
 use Rattle.kinds.specs.Stage as stage
 use Rattle.kinds.specs.declared.Keys.{Keys}
 use Rattle.kinds.specs.declared.Sub.{Sub}
 use Rattle.rules.specs.House.{coordinatorOf}
 use Rattle.rules.specs.World.{upd}
-use Rattle.rules.proofs.Tables.{upd₂, upd-cases, upd₂-same}
+use Rattle.rules.proofs.Tables.{upd₂, upd-cases, upd₂-same, upd-both, upd₂-both}
 use Rattle.rules.proofs.Protocol.{Protocol, Msg, mJoin, Rec, Next, AtStage, courseAt, Move, begin, enlist, access, request, abort, cast, decide, install, report, joins, full, joined, prepared, lost, unknown, gathers, certified, rejects, votes, commits, aborts, passes}
 use Rattle.rules.proofs.Invariants.{Invariant}
-use Rattle.rules.proofs.Frames.{set-not, kept₁, kept₂, was₂, upd-both, upd₂-both, said, tx-coordinator}
+use Rattle.rules.proofs.Frames.{kept₁, kept₂, was₂, said, tx-coordinator}
 
 -- t's part at s began in the move: at its coordinator, or by its JOIN, taken now
 abbrev pub Begins : Protocol → Protocol → ℕ → ℕ → Type 0

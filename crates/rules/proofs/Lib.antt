@@ -1,22 +1,25 @@
--- Why demand 3 holds: the protocol as moves, its invariants by groups, and the calls as moves.
+-- Why the claims hold. Tables and lists, masks and entries.
 pub mod Tables
+pub mod Masks
+pub mod Entries
+-- The protocol as moves, and its invariant.
 pub mod Protocol
 pub mod Invariants
-pub mod Masks
+-- What a move changes: what stays, what is new, and the messages.
 pub mod Frames
-pub mod StepParts
 pub mod Later
 pub mod Masked
 pub mod Mail
-pub mod StepPosts
-pub mod StepCourses
-pub mod Entries
-pub mod RoundOk
-pub mod StepRounds
 pub mod Turns
 pub mod News
 pub mod Changes
 pub mod Committed
+-- The invariant after a move, by groups, and after any.
+pub mod StepParts
+pub mod StepPosts
+pub mod StepCourses
+pub mod RoundOk
+pub mod StepRounds
 pub mod StepAccount
 pub mod StepClocks
 pub mod StepOrder
@@ -24,60 +27,67 @@ pub mod StepWriters
 pub mod StepLists
 pub mod Reached
 pub mod MachineClaims
+-- The merger and the copies, over any such logs.
+pub mod Stream
+pub mod StreamInv
+pub mod StreamTake
+pub mod StreamDue
+pub mod StreamEmit
+pub mod StreamReached
+pub mod StreamClaims
+-- The rules against the protocol: each call of a site as moves.
 pub mod Refines
 pub mod RefineLive
 pub mod RefineStep
 pub mod RefineFresh
-pub mod RefineBegin
 pub mod RefineSite
 pub mod KeysTold
-pub mod RefineAccess
 pub mod RefineMail
 pub mod RefineTurn
-pub mod RefineEnlist
-pub mod RefineLog
-pub mod RefineOther
-pub mod Stream
-pub mod Told
-pub mod Booked
-pub mod StreamInv
-pub mod StreamTake
-pub mod StreamEmit
-pub mod StreamReached
-pub mod StreamClaims
 pub mod RefineCertify
 pub mod RefineActs
 pub mod RefineCourse
 pub mod RefineLists
 pub mod RefineRequest
-pub mod RefineCommit
-pub mod RefineMerger
-pub mod RefineQueue
-pub mod RefineMerge
-pub mod RefineEmit
 pub mod RefineTake
 pub mod RefineQuiet
 pub mod RefineReply
 pub mod RefineJoined
+pub mod RefineGather
+pub mod RefineConc
+pub mod RefineBegin
+pub mod RefineAccess
+pub mod RefineEnlist
+pub mod RefineCommit
+pub mod RefineMessage
+pub mod RefineHanded
+pub mod RefineLog
+-- The rules against the merger and the copies, and every call as steps.
+pub mod RefineMerger
+pub mod RefineQueue
+pub mod RefineMerge
+pub mod RefineHeads
+pub mod RefineEmit
 pub mod RefineLaid
 pub mod RefineReplay
 pub mod RefineCopies
-pub mod RefineGather
-pub mod RefineRun
-pub mod RefineConc
-pub mod RefineMessage
-pub mod RefineHanded
 pub mod RefineCalls
-pub mod BookCopies
-pub mod BookReplays
+-- The book against the tables.
+pub mod Told
+pub mod Booked
 pub mod BookLists
 pub mod BookKept
 pub mod BookBegins
 pub mod BookAccess
 pub mod BookInstalls
 pub mod BookMove
+pub mod BookReplays
+pub mod BookCopies
+-- Demand 3.
 pub mod Demand
+pub mod Stands
 pub mod Theorem
+-- Beyond it: messages go on,
 pub mod Pending
 pub mod Phases
 pub mod PhaseTurns
@@ -88,7 +98,7 @@ pub mod Spoken
 pub mod GoesOn
 pub mod KnownWords
 pub mod Progress
-pub mod Ascends
+-- records go on,
 pub mod StreamNext
 pub mod Written
 pub mod LogsAscend
@@ -97,6 +107,7 @@ pub mod DueWhole
 pub mod StreamDrain
 pub mod EmitDrains
 pub mod Records
+-- reads are right,
 pub mod KeysOnce
 pub mod Versions
 pub mod MovesTold
@@ -105,3 +116,5 @@ pub mod LiveOnce
 pub mod CallsKept
 pub mod ReadAnswers
 pub mod ReadsRight
+-- and refusals leave all as it was.
+pub mod Unaltered

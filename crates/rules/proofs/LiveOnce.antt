@@ -6,7 +6,7 @@ use mathlib.Core.List.{List, []}
 use native.Mathlib.Omega.{arith}
 use lib.ListN.{length, set}
 use lib.Seq.{getD-set-same, getD-set-other}
-use Rattle.laws.specs.Choice.{by-test}
+use Rattle.laws.specs.Choice.{by-test, by-same}
 use Rattle.kinds.specs.Sizes as sizes
 use Rattle.kinds.specs.declared.Keys.{Keys}
 use Rattle.kinds.specs.declared.Sub.{Sub}
@@ -26,7 +26,6 @@ use Rattle.rules.proofs.Tables.{upd-cases}
 use Rattle.rules.proofs.Protocol.{Protocol}
 use Rattle.rules.proofs.Invariants.{Held, Invariant}
 use Rattle.rules.proofs.Refines.{IsFree, Refines}
-use Rattle.rules.proofs.RefineLive.{by-same}
 use Rattle.rules.proofs.RefineStep.{by-code}
 use Rattle.rules.proofs.RefineAccess.{Reaches, reaches}
 use Rattle.rules.proofs.KeysOnce.{EachOnce, once-read, once-again, once-first}

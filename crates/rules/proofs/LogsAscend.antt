@@ -1,13 +1,13 @@
 -- Logs ascend, as words, and so the merger takes the next record of each, unless its queue is full.
-use Prim.Native.Nat.{ℕ, suc, _+_, _-_, _≤_, _<_}
-use mathlib.Core.Path.{_≡_, refl, sym, ap, _∙_}
+use Prim.Native.Nat.{ℕ, _+_, _-_, _≤_, _<_}
+use mathlib.Core.Path.{_≡_, refl, ap, _∙_}
 use mathlib.Core.Bool.{true}
 use mathlib.Core.Logic.{_⊎_, inl, inr}
-use mathlib.Core.List.{List, [], _∷_}
+use mathlib.Core.List.{List, []}
 use native.Mathlib.Omega.{arith}
 use borrow.Author.Tests.{eq-eqb, ne-eqb, le-ltb, lt-leb}
 use lib.Dec.{eqb, leb}
-use lib.ListN.{length, getD, take}
+use lib.ListN.{length, getD}
 use lib.Seq.{getD-take, length-take-le}
 use Rattle.laws.specs.Choice.{pick, by-test}
 use Rattle.laws.specs.Pair.{precedes, rank-precedes}
@@ -23,59 +23,53 @@ use Rattle.rules.specs.House.{coordinatorOf, isSite}
 use Rattle.rules.specs.MessageLaws.{site-clear}
 use Rattle.rules.specs.Record.{recordHead, partOk, stateOk}
 use Rattle.rules.specs.RecordLaws.{part-clear, part-passed-good, state-clear, state-passed-good}
-use Rattle.rules.specs.Install.{stateWords}
 use Rattle.rules.specs.Merger.{sourceAt, mergerOk, mergePartCode, mergePart, mergeStateCode, mergeState, mergeCode, mergeOf}
 use Rattle.rules.specs.MergerClear.{clear-merger}
 use Rattle.rules.specs.World.{World, step, mergeStep, mergerStep}
 use Rattle.rules.specs.World as world
 use Rattle.rules.specs.Progress.{Follows, LogsAscend}
-use Rattle.rules.proofs.Tables.{all-at}
+use Rattle.rules.proofs.Tables.{all-at, All}
 use Rattle.rules.proofs.Protocol.{Protocol, Rec, rPart, rState}
-use Rattle.rules.proofs.Invariants.{RecBelow, Invariant}
+use Rattle.rules.proofs.Invariants.{Invariant, StandsBefore}
 use Rattle.rules.proofs.Committed.{low-coordinator}
-use Rattle.rules.proofs.Ascends.{Ascends}
 use Rattle.rules.proofs.Refines.{recWords, partHeadOf}
 use Rattle.rules.proofs.Stream as stream
-use Rattle.rules.proofs.Stream.{Stream, rankOf}
-use Rattle.rules.proofs.StreamInv.{endState}
+use Rattle.rules.proofs.Stream.{Stream}
 use Rattle.rules.proofs.StreamReached.{Standing}
-use Rattle.rules.proofs.StreamNext.{Lasts, above-at, part-real, next-part}
+use Rattle.rules.proofs.StreamNext.{Lasts, stands-before, part-real, next-part, next-state}
 use Rattle.rules.proofs.RefineMerger.{SourceIs, StreamIs, part-head, state-head}
 use Rattle.rules.proofs.RefineMerge.{logged}
-use Rattle.rules.proofs.Written.{NotFalls, Written, house-is}
+use Rattle.rules.proofs.Written.{RecordOk, house-is}
 
 -- Two records of a log, by their heads.
-module _ {sites : ℕ} {p : Protocol} (few : sites ≤ 8) (inv : Invariant sites p) (a : Ascends p) (s i j : ℕ) (l : i < j) (h : j < length (p .log s)) where
+module _ {sites : ℕ} {p : Protocol} (few : sites ≤ 8) (inv : Invariant sites p) (s i j : ℕ) (l : i < j) (h : j < length (p .log s)) where
   abbrev recAt : ℕ → Rec
   recAt k = getD (p .log s) k (rState 0)
 
-  below : (e : Entry) → recAt j ≡ rPart e → RecBelow (e .number) (coordinatorOf (e .tx)) (recAt i)
-  below e q =
-      let b = above-at (coordinatorOf (e .tx)) [] (p .log s) j e (a .above s (coordinatorOf (e .tx))) h q refl in
+  before : StandsBefore (recAt j) (recAt i)
+  before =
+      let b = stands-before [] (p .log s) j (inv .order .ascends s) h in
       let n = length-take-le j (p .log s) (omega arith) in
       rw getD-take at (all-at b (rState 0) i (omega arith))
 
   low : (k : ℕ) (e : Entry) → k < length (p .log s) → recAt k ≡ rPart e → coordinatorOf (e .tx) < 16
   low k e b q = omega (arith, low-coordinator few (inv .parts) s (e .tx) (part-real inv s k e b q .has))
 
-  follow : (x y : Rec) → recAt i ≡ x → recAt j ≡ y → NotFalls (recordHead (recWords s x)) (recordHead (recWords s y)) → Follows (recordHead (recWords s x)) (recordHead (recWords s y))
+  follow : (x y : Rec) → recAt i ≡ x → recAt j ≡ y → StandsBefore y x → Follows (recordHead (recWords s x)) (recordHead (recWords s y))
   unfolding partHeadOf
-  follow (rPart d) (rPart e) u v f =
-      let b : rankOf d < rankOf e = rw u at (below e v) in
+  follow (rPart d) (rPart e) u v b =
       rw (part-head s d, part-head s e)
       (record {
         part-part = λ x y. rank-precedes (d .number) (coordinatorOf (d .tx)) (e .number) (coordinatorOf (e .tx)) (low i d (omega arith) u) (low j e h v) b;
         state-part = λ x y. absurd (omega arith);
         state-state = λ x y. absurd (omega arith);
       })
-  follow (rPart d) (rState n) u v f =
+  follow (rPart d) (rState n) u v b =
       rw (part-head s d, state-head s n) (record { part-part = λ x y. absurd (omega arith); state-part = λ x y. absurd (omega arith); state-state = λ x y. absurd (omega arith) })
-  follow (rState k) (rPart e) u v f =
-      let b : k < e .number = rw u at (below e v) in
+  follow (rState k) (rPart e) u v b =
       rw (state-head s k, part-head s e) (record { part-part = λ x y. absurd (omega arith); state-part = λ x y. b; state-state = λ x y. absurd (omega arith) })
-  follow (rState k) (rState n) u v f =
-      rw (state-head s k, state-head s n)
-      (record { part-part = λ x y. absurd (omega arith); state-part = λ x y. absurd (omega arith); state-state = rw (state-head s k, state-head s n) at f })
+  follow (rState k) (rState n) u v b =
+      rw (state-head s k, state-head s n) (record { part-part = λ x y. absurd (omega arith); state-part = λ x y. absurd (omega arith); state-state = λ x y. b })
 
 -- What the merger answers to a record that passes and is not behind.
 merge-passes : (g : Merger) (queues m : List ℕ) → mergerOk g queues ≡ true → (partOk (g .house) m ≡ true) ⊎ (stateOk (g .house) m ≡ true) → mergeCode g queues m ≡ 0
@@ -100,14 +94,8 @@ state-answer : (g : Merger) (queues m : List ℕ) → sourceAt g (recordHead m .
 unfolding mergeState mergeStateCode
 state-answer g queues m a = rw (le-ltb (recordHead m .number) (sourceAt g (recordHead m .site - 1) .state) a) (inl refl)
 
--- the last state is bounded as all are
-end-upto : (n k : ℕ) (l : List Rec) → ((i j : ℕ) → i < length l → getD l i (rState 0) ≡ rState j → j ≤ n) → k ≤ n → endState k l ≤ n
-end-upto n k [] f h = h
-end-upto n k (rPart e ∷ l) f h = end-upto n k l (λ i j b q. f (suc i) j (omega arith) q) h
-end-upto n k (rState c ∷ l) f h = end-upto n c l (λ i j b q. f (suc i) j (omega arith) q) (f 0 c (omega arith) refl)
-
 -- The logs of a house.
-module _ {sites : ℕ} {w : World} {v : Stream} (x : StreamIs sites w v) (z : Standing sites v) (a : Ascends (v .protocol)) (l : Lasts (v .protocol) (v .merger)) (f : (s : ℕ) → Written sites (w .log s)) where
+module _ {sites : ℕ} {w : World} {v : Stream} (x : StreamIs sites w v) (z : Standing sites v) (l : Lasts (v .protocol) (v .merger)) (f : (s : ℕ) → All (RecordOk sites) (w .log s)) where
   abbrev p : Protocol
   p = v .protocol
 
@@ -118,7 +106,7 @@ module _ {sites : ℕ} {w : World} {v : Stream} (x : StreamIs sites w v) (z : St
   logs-ascend s i j b h =
       let (y, q) = logged x s i (omega arith) in
       let (c, k) = logged x s j h in
-      rw (q, k) (follow (x .refines .few) (z .invariant) a s i j b c _ _ refl refl (rw (q, k) at (f s .rise i j b h)))
+      rw (q, k) (follow (x .refines .few) (z .invariant) s i j b c _ _ refl refl (before (x .refines .few) (z .invariant) s i j b c))
 
   -- The next of the log of s.
   module _ (s : ℕ) (h : w .merged s < length (w .log s)) where
@@ -129,7 +117,7 @@ module _ {sites : ℕ} {w : World} {v : Stream} (x : StreamIs sites w v) (z : St
     g = w .merger
 
     passes : (partOk (g .house) ws ≡ true) ⊎ (stateOk (g .house) ws ≡ true)
-    passes = rw (house-is (g .house) sites (x .merger .house)) (f s .pass (w .merged s) h)
+    passes = rw (house-is (g .house) sites (x .merger .house)) (all-at (f s) [] (w .merged s) h)
 
     -- its site is one of the house
     inside : (1 ≤ recordHead ws .site) × (recordHead ws .site ≤ sites)
@@ -146,22 +134,6 @@ module _ {sites : ℕ} {w : World} {v : Stream} (x : StreamIs sites w v) (z : St
     next : (m .took s < length (p .log s)) × (ws ≡ recWords s (getD (p .log s) (m .took s) (rState 0)))
     next = let (b, q) = logged x s (w .merged s) h in (rw (x .merged s) at b, q ∙ ap (λ (i : ℕ). recWords s (getD (p .log s) i (rState 0))) (x .merged s))
 
-    -- where it is a state, none that was taken is above it
-    state-low : (n i j : ℕ) → ws ≡ stateWords s n → i < m .took s → getD (p .log s) i (rState 0) ≡ rState j → j ≤ n
-    state-low n i j e l u =
-        let b : i < w .merged s = rw (x .merged s) l in
-        let c = ap recordHead (logged x s i (omega arith) .1 ∙ ap (recWords s) u) ∙ state-head s j in
-        let d = ap recordHead e ∙ state-head s n in
-        let k = f s .rise i (w .merged s) b h (ap (λ (r : RecordHead). r .kind) c) (ap (λ (r : RecordHead). r .kind) d) in
-        omega (arith, ap (λ (r : RecordHead). r .number) c, ap (λ (r : RecordHead). r .number) d)
-
-    state-upto : (n : ℕ) → ws ≡ stateWords s n → m .state s ≤ n
-    state-upto n e =
-        let l = take (m .took s) (p .log s) in
-        let c = length-take-le (m .took s) (p .log s) (omega (arith, next .0)) in
-        let k = end-upto n 0 l (λ i j b u. let y : i < m .took s = omega arith in state-low n i j e y (sym (getD-take (m .took s) (p .log s) i (rState 0) y) ∙ u)) (omega arith) in
-        omega (arith, z .streamed .source s .ends)
-
     source : 1 ≤ s → s ≤ sites → SourceIs (sourceAt g (s - 1)) (w .queues) (s - 1) (m .queue s) (m .state s) (m .last s)
     source b c = let e : s - 1 + 1 ≡ s = omega arith in rw e at (x .merger .source (s - 1) (omega arith))
 
@@ -171,7 +143,7 @@ module _ {sites : ℕ} {w : World} {v : Stream} (x : StreamIs sites w v) (z : St
         let d : recordHead ws ≡ partHeadOf s e = ap recordHead (next .1 ∙ ap (recWords s) q) ∙ part-head s e in
         let (b, c) = rw d at inside in
         let k = source b c in
-        let (u, y) = next-part (z .invariant) a (z .streamed) l s e (next .0) q in
+        let (u, y) = next-part (z .invariant) (z .streamed) s (next .0) l e q in
         let low = low-coordinator (x .refines .few) (z .invariant .parts) s (e .tx) (part-real (z .invariant) s (m .took s) e (next .0) q .has) in
         rw (eq-eqb (recordHead ws .kind) kind.part (ap (λ (r : RecordHead). r .kind) d))
         (part-answer g (w .queues) ws
@@ -182,7 +154,7 @@ module _ {sites : ℕ} {w : World} {v : Stream} (x : StreamIs sites w v) (z : St
         let d = ap recordHead t ∙ state-head s n in
         let (b, c) = rw d at inside in
         rw (ne-eqb (recordHead ws .kind) kind.part (λ o. omega (arith, ap (λ (r : RecordHead). r .kind) d)))
-        (state-answer g (w .queues) ws (rw d (omega (arith, source b c .state-is, state-upto n t))))
+        (state-answer g (w .queues) ws (rw d (omega (arith, source b c .state-is, next-state (z .invariant) (z .streamed) s (next .0) n q))))
 
     pub next-taken : Taken (step w (world.merge ws) .answer)
     unfolding step mergeStep mergerStep mergeOf

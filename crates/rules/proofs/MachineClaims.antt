@@ -10,14 +10,13 @@ use native.Mathlib.Omega.{arith}
 use borrow.Author.Tests.{ltb-true, ltb-false, eq-eqb}
 use lib.Dec.{ltb}
 use lib.ListN.{length}
-use Rattle.laws.specs.Choice.{by-test}
+use Rattle.laws.specs.Choice.{by-test, unset, set-not}
 use Rattle.laws.specs.Pair.{rank}
 use Rattle.rules.specs.House.{coordinatorOf, serialOf}
 use Rattle.rules.specs.Message.{entryMark}
 use Rattle.rules.specs.Keys.{wroteKey, dependent}
 use Rattle.rules.proofs.Protocol.{Protocol, inst, Listed, Within}
 use Rattle.rules.proofs.Invariants.{Held, at, Installed, Seen, Invariant}
-use Rattle.rules.proofs.Frames.{unset, set-not}
 use Rattle.rules.proofs.Committed.{committed-alive, committed-in, committed-yes, low-coordinator}
 
 positive-tx : (u : ℕ) → 1 ≤ serialOf u → 0 < u

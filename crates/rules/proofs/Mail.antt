@@ -6,13 +6,14 @@ use mathlib.Core.Logic.{_⊎_, inl, inr}
 use mathlib.Core.List.{List, [], _∷_, _++_}
 use native.Mathlib.Omega.{arith}
 use lib.ListN.{length}
+use Rattle.laws.specs.Choice.{set-not}
 use Rattle.kinds.specs.Stage as stage
 use Rattle.rules.specs.House.{coordinatorOf, inMask, maskOf}
 use Rattle.rules.specs.Course.{withParticipant}
-use Rattle.rules.proofs.Tables.{upd₂, upd-same, upd₂-same, upd₂-cases}
+use Rattle.rules.proofs.Tables.{upd₂, upd-same, upd₂-same, upd₂-cases, here₂}
 use Rattle.rules.proofs.Protocol.{Protocol, Msg, mJoin, mJoined, mPrepare, mConc, mCert, mVote, mCommit, mAbort, Next, others, AtStage, courseAt, Move, begin, enlist, access, request, abort, cast, decide, install, report, joins, full, joined, prepared, lost, unknown, gathers, certified, rejects, votes, commits, aborts, passes}
 use Rattle.rules.proofs.Invariants.{Held, MsgOk, Invariant}
-use Rattle.rules.proofs.Frames.{set-not, here₂, others-cases, said, ends}
+use Rattle.rules.proofs.Frames.{others-cases, said, ends}
 use Rattle.rules.proofs.Masks.{in-or-right, own-mask}
 
 abbrev pub Site : ℕ → ℕ → Type 0

@@ -4,29 +4,21 @@ use mathlib.Core.Path.{_≡_, refl, sym, ap, _∙_}
 use mathlib.Core.Bool.{true, false, not}
 use mathlib.Core.Logic.{_⊎_, inl, inr}
 use mathlib.Core.List.{[], _∷_}
-use native.Mathlib.Nat.{pow-suc, mul-comm, div-div-eq-div-mul, div-eq-of-lt, zero-div}
+use native.Mathlib.Nat.{div-eq-of-lt, zero-div}
 use native.Mathlib.Omega.{arith}
-use borrow.Author.Tests.{eqb-true, eqb-false, eq-eqb, ne-eqb, leb-true, leb-false, not-true}
+use borrow.Author.Tests.{eqb-true, eqb-false, ne-eqb, leb-true, leb-false, not-true}
 use lib.Bits.{bitOr, or-lt}
 use lib.Dec.{eqb, leb}
 use lib.Pow.{pow-pos, pow-lt, pow-mono}
-use Rattle.laws.specs.Choice.{pick, by-test, every-at}
-use Rattle.laws.specs.Digits.{digit, digit-le, digit-or, onesBelow}
+use Rattle.laws.specs.Choice.{pick, by-test, every-at, set-not}
+use Rattle.laws.specs.Digits.{digit, digit-le, digit-or, onesBelow, digit-half}
 use Rattle.kinds.specs.Sizes as sizes
 use Rattle.kinds.specs.declared.Course.{Course}
+use Rattle.rules.specs.EntryLaws.{in-digit, digit-in}
 use Rattle.rules.specs.House.{inMask, maskOf, participants, repliesWanted, participants-sites}
 use Rattle.rules.specs.Live.{allHeard}
 use Rattle.rules.specs.Course.{isOutstanding}
 use Rattle.rules.proofs.Invariants.{In}
-
--- the digit of a participant
-pub in-digit : (mask r : ℕ) → inMask mask r ≡ true → digit mask (r - 1) ≡ 1
-unfolding inMask
-in-digit mask r e = eqb-true (digit mask (r - 1)) 1 e
-
-pub digit-in : (mask r : ℕ) → digit mask (r - 1) ≡ 1 → inMask mask r ≡ true
-unfolding inMask
-digit-in mask r e = eq-eqb (digit mask (r - 1)) 1 e
 
 -- a number has no digit where its power is larger
 high-digit : (mask s : ℕ) → mask < 2 ^ s → digit mask s ≡ 0
@@ -46,16 +38,13 @@ in-or-right m n r e = digit-in (bitOr m n) r (omega (arith, digit-or m n (r - 1)
 pub in-or : (m n r : ℕ) → inMask (bitOr m n) r ≡ true → (inMask m r ≡ true) ⊎ (inMask n r ≡ true)
 in-or m n r e =
     by-test (eqb (digit m (r - 1)) 1)
-    (λ t. inl (digit-in m r (eqb-true (digit m (r - 1)) 1 t)))
+    (λ t. inl (digit-in m r (omega (arith, eqb-true (digit m (r - 1)) 1 t))))
     (λ f. inr (digit-in n r (right (digit m (r - 1)) (digit n (r - 1)) (digit-le m (r - 1)) (eqb-false (digit m (r - 1)) 1 f) (sym (digit-or m n (r - 1)) ∙ in-digit (bitOr m n) r e))))
   where
-    right : (a b : ℕ) → a ≤ 1 → (a ≡ 1 → ⊥) → max a b ≡ 1 → b ≡ 1
+    right : (a b : ℕ) → a ≤ 1 → (a ≡ 1 → ⊥) → max a b ≡ 1 → 1 ≤ b
     right a b l f q = omega arith
 
 -- One site's mask.
-digit-half : (mask s : ℕ) → digit mask (suc s) ≡ digit (mask / 2) s
-digit-half mask s = rw (pow-suc, mul-comm, ← div-div-eq-div-mul)
-
 power-half : (a : ℕ) → 2 ^ suc a / 2 ≡ 2 ^ a
 power-half a = omega arith
 
@@ -71,7 +60,7 @@ digit-one (suc a) = digit-half (2 ^ suc a) a ∙ rw (power-half a) (digit-one a)
 
 pub own-mask : (a : ℕ) → inMask (maskOf a) a ≡ true
 unfolding maskOf
-own-mask a = digit-in (2 ^ (a - 1)) a (digit-one (a - 1))
+own-mask a = digit-in (2 ^ (a - 1)) a (omega (arith, digit-one (a - 1)))
 
 pub only-own : (a r : ℕ) → 1 ≤ a → 1 ≤ r → inMask (maskOf a) r ≡ true → r ≡ a
 unfolding maskOf
@@ -161,19 +150,19 @@ all-heard heard mask c hs ms within own all r i n =
     digit-within s =
         by-test (eqb (digit heard s) 1)
         (λ t. let e : suc s - 1 ≡ s = omega arith in
-        let d : inMask mask (suc s) ≡ true = within (suc s) (omega arith, digit-in heard (suc s) (rw e (eqb-true (digit heard s) 1 t))) .0 in
+        let d : inMask mask (suc s) ≡ true = within (suc s) (omega arith, digit-in heard (suc s) (rw e (omega (arith, eqb-true (digit heard s) 1 t)))) .0 in
         omega (arith, digit-le heard s, rw e at (in-digit mask (suc s) d)))
         (λ f. omega (arith, digit-le heard s, eqb-false (digit heard s) 1 f))
 
     unheard : (x : ℕ) → (inMask heard x ≡ true → ⊥) → digit heard (x - 1) ≡ 0
     unheard x k =
         by-test (eqb (digit heard (x - 1)) 1)
-        (λ t. absurd (k (digit-in heard x (eqb-true (digit heard (x - 1)) 1 t))))
+        (λ t. absurd (k (digit-in heard x (omega (arith, eqb-true (digit heard (x - 1)) 1 t)))))
         (λ f. omega (arith, digit-le heard (x - 1), eqb-false (digit heard (x - 1)) 1 f))
 
     short : inMask heard r ≡ false → ⊥
     short f =
-        let no-r : inMask heard r ≡ true → ⊥ = λ t. let z : _≡_ {A = ℕ} 0 1 = cc in omega arith in
+        let no-r : inMask heard r ≡ true → ⊥ = λ t. set-not _ t f in
         let no-c : inMask heard c ≡ true → ⊥ = λ t. within c (own .0, t) .1 refl in
         let q = ones-missing heard mask (c - 1) (r - 1) (λ e. n (omega arith)) digit-within (in-digit mask c (own .1)) (in-digit mask r (i .1)) (unheard c no-c) (unheard r no-r) sizes.sites in
         omega (

@@ -11,10 +11,10 @@ use Rattle.kinds.specs.State.{noSub}
 use Rattle.rules.specs.House.{coordinatorOf, inMask}
 use Rattle.rules.specs.Live.{allHeard}
 use Rattle.rules.specs.Course.{withDecision}
-use Rattle.rules.proofs.Tables.{upd-same, upd-other, upd-cases}
+use Rattle.rules.proofs.Tables.{upd-same, upd-other, upd-cases, here₂, upd-both, upd₂-both}
 use Rattle.rules.proofs.Protocol.{Protocol, AtStage, courseAt, Covers, Certified, Within, Move, begin, enlist, access, request, abort, cast, decide, install, report, joins, full, joined, prepared, lost, unknown, gathers, certified, rejects, votes, commits, aborts, passes}
 use Rattle.rules.proofs.Invariants.{Held, Invariant}
-use Rattle.rules.proofs.Frames.{here₂, upd-both, upd₂-both, said}
+use Rattle.rules.proofs.Frames.{said}
 
 abbrev pub OwnStage : Protocol → ℕ → ℕ → Type 0
 OwnStage p t g = AtStage p (coordinatorOf t) t g

@@ -8,13 +8,12 @@ use native.Mathlib.Numerals.{add-one}
 use borrow.Author.Tests.{eq-eqb, ne-eqb, le-leb}
 use lib.Dec.{eqb}
 use lib.ListN.{length, getD, drop}
-use Rattle.laws.specs.Choice.{pick, by-test}
+use Rattle.laws.specs.Choice.{pick, by-test, set-not}
 use Rattle.rules.specs.House.{inMask}
-use Rattle.rules.proofs.Tables.{upd₂, upd₂-same, upd₂-cases, Other₂}
+use Rattle.rules.proofs.Tables.{upd₂, upd₂-same, upd₂-cases, Other₂, upd₂-other}
 use Rattle.rules.proofs.Protocol.{Msg, others}
-use Rattle.rules.proofs.Frames.{set-not, others-cases}
+use Rattle.rules.proofs.Frames.{others-cases}
 use Rattle.rules.proofs.Refines.{txIn}
-use Rattle.rules.proofs.Turns.{upd₂-other}
 
 -- those about t
 unfoldable pub about : ℕ → List Msg → List Msg

@@ -4,17 +4,14 @@ use mathlib.Core.Path.{_≡_, refl, sym, ap, _∙_}
 use mathlib.Core.Bool.{true, false}
 use mathlib.Core.List.{List, [], _∷_, _++_}
 use native.Mathlib.Omega.{arith}
-use borrow.Author.Tests.{eqb-true, eqb-false}
-use lib.Dec.{eqb}
 use lib.ListN.{length}
-use Rattle.laws.specs.Choice.{by-test}
+use Rattle.laws.specs.Choice.{by-test, set-not, by-same}
 use Rattle.kinds.specs.declared.Course.{Course}
 use Rattle.kinds.specs.declared.Sub.{Sub}
 use Rattle.rules.specs.House.{coordinatorOf, inMask}
 use Rattle.rules.proofs.Tables.{upd₂, upd₂-cases, Other₂}
 use Rattle.rules.proofs.Protocol.{Protocol, Msg, Next, others, courseAt}
 use Rattle.rules.proofs.Invariants.{In, Invariant}
-use Rattle.rules.proofs.Frames.{set-not}
 use Rattle.rules.proofs.Refines.{txIn}
 use Rattle.rules.proofs.Pending.{pending, taken-first, taken-not, taken-elsewhere, posted-last, posted-not, posted-elsewhere, others-not, others-elsewhere, others-apart, others-last}
 use Rattle.rules.proofs.Phases.{Phase, PhaseAt, Phases, along}
@@ -31,14 +28,11 @@ pub record Part (s t : ℕ) (p q : Protocol) : Type 0 where
 abbrev pub OtherMail : ℕ → Protocol → Protocol → Type 0
 OtherMail t p q = (u x y : ℕ) → (u ≡ t → ⊥) → pending (q .post) (q .taken) u x y ≡ pending (p .post) (p .taken) u x y
 
-pub by-eq : {P : Type 0} (j k : ℕ) → (j ≡ k → P) → ((j ≡ k → ⊥) → P) → P
-by-eq j k f g = by-test (eqb j k) (λ e. f (eqb-true j k e)) (λ e. g (eqb-false j k e))
-
 module _ {sites : ℕ} {p : Protocol} (i : Invariant sites p) (f : Phases p) where
   -- phases of other transactions stay
   pub by-tx : (q : Protocol) (s t : ℕ) → Part s t p q → OtherMail t p q → ((r : ℕ) → 1 ≤ r → (r ≡ coordinatorOf t → ⊥) → PhaseAt q (coordinatorOf t) t r) → Phases q
   by-tx q s t a m new u r l n =
-      by-eq u t
+      by-same u t
       (λ e. rw e (new r l (rw e at n)))
       (λ e. along (ap (λ (b : Sub). b .course) (a .live (coordinatorOf u) u (λ z. e (z .1)))) (a .num u e) (a .dead u e) (a .has r u (λ z. e (z .1)))
       (ap (λ (b : Sub). b .course .stage) (a .live r u (λ z. e (z .1)))) (m u (coordinatorOf u) r e) (m u r (coordinatorOf u) e) (f u r l n))
@@ -80,7 +74,7 @@ module _ {sites : ℕ} {p : Protocol} (i : Invariant sites p) (f : Phases p) whe
         → Phase t s (courseAt p a t) (p .num t) (p .dead t) (q .has s t) (courseAt q s t .stage) fw (more bk))
         → Phases q
     answered more c o mail ahead back rest on =
-        by-tx q s t part mail (λ r l n. rw c (by-eq r s (λ e. rw e (here (rw e at l))) (λ e. there r l (rw c at n) e)))
+        by-tx q s t part mail (λ r l n. rw c (by-same r s (λ e. rw e (here (rw e at l))) (λ e. there r l (rw c at n) e)))
       where
         here : 1 ≤ s → PhaseAt q a t s
         here l =
@@ -119,7 +113,7 @@ module _ {sites : ℕ} {p : Protocol} (i : Invariant sites p) (f : Phases p) whe
           → Phase t r (courseAt q s t) (p .num t) (p .dead t) (p .has r t) (courseAt p r t .stage) fw bk)
           → Phases q
       hears c o on wide =
-          by-tx q s t part other-mail (λ r l n. rw c (by-eq r a (λ e. rw e (here (rw e at l))) (λ e. there r l (rw c at n) e)))
+          by-tx q s t part other-mail (λ r l n. rw c (by-same r a (λ e. rw e (here (rw e at l))) (λ e. there r l (rw c at n) e)))
         where
           here : 1 ≤ a → PhaseAt q s t a
           here l =
@@ -197,7 +191,7 @@ module _ {sites : ℕ} {p : Protocol} (i : Invariant sites p) (f : Phases p) whe
         → Does b (λ l. l ++ (m ∷ [])) → ((r : ℕ) → 1 ≤ r → (r ≡ b → ⊥) → Does r (λ l. l)) → Phases q
     writes-one b m e o post to apart =
         by-tx q s t part (λ u x y n. rw (post, taken) (posted-not (p .post) (p .taken) u count s b m (λ z. n (sym z ∙ e)) x y))
-        (λ r l n. rw c (by-eq r b (λ k. rw k (here (rw k at l))) (λ k. there r l (rw c at n) k)))
+        (λ r l n. rw c (by-same r b (λ k. rw k (here (rw k at l))) (λ k. there r l (rw c at n) k)))
       where
         elsewhere : (x y : ℕ) → Other₂ s b x y → pending (q .post) (q .taken) t x y ≡ pending (p .post) (p .taken) t x y
         elsewhere x y n = rw (post, taken) (posted-elsewhere (p .post) (p .taken) t s b m x y n)
@@ -219,7 +213,7 @@ module _ {sites : ℕ} {p : Protocol} (i : Invariant sites p) (f : Phases p) whe
       → Phase t s (courseAt p (coordinatorOf t) t) (p .num t) (p .dead t) (q .has s t) (courseAt q s t .stage) fw bk)
       → Phases q
   leaves q s t o part num dead taken post on =
-      by-tx q s t part (λ u x y n. rw (post, taken)) (λ r l n. by-eq r s (λ e. rw e (here (rw e at l))) (λ e. there r l n e))
+      by-tx q s t part (λ u x y n. rw (post, taken)) (λ r l n. by-same r s (λ e. rw e (here (rw e at l))) (λ e. there r l n e))
     where
       here : 1 ≤ s → PhaseAt q (coordinatorOf t) t s
       here l =

@@ -2,7 +2,7 @@
 -- stand in a phase in which what is under way is in its turn.
 use Prim.Native.Nat.{ℕ, _-_, _≤_}
 use mathlib.Core.Path.{_≡_}
-use mathlib.Core.List.{List, [], _∷_}
+use mathlib.Core.List.{List}
 use lib.Dec.{eqb}
 use lib.ListN.{length, getD}
 use Rattle.kinds.specs.Sizes as sizes
@@ -17,22 +17,20 @@ use Rattle.rules.specs.Effect.{Effect}
 use Rattle.rules.specs.Course.{headOf}
 use Rattle.rules.specs.CallLaws.{arrival-clear, next-clear}
 use Rattle.rules.specs.Deliver.{arrivalCode, nextCode, takeKind, messageAt, messageOf}
-use Rattle.rules.specs.World.{World, Call, Handed, Lawful, step, siteStep, logStep, mergerStep, mergeStep, copyStep, replayStep, run, freshWorld}
+use Rattle.rules.specs.World.{World, Call, Handed, step, siteStep, logStep, mergerStep, mergeStep, copyStep, replayStep, freshWorld}
 use Rattle.rules.specs.World as world
+use Rattle.rules.specs.Book.{Fact}
 use Rattle.rules.specs.Progress.{NoneOutOfTurn, MessagesProgress}
-use Rattle.rules.proofs.Tables.{All, a-nil, all-append}
+use Rattle.rules.proofs.Tables.{All, a-nil, all-append, all-is}
 use Rattle.rules.proofs.Protocol.{Protocol, Msg}
 use Rattle.rules.proofs.Invariants.{Invariant}
 use Rattle.rules.proofs.Refines.{Refines}
 use Rattle.rules.proofs.RefineStep.{by-code, inside}
 use Rattle.rules.proofs.RefineMail.{Made, made-in}
 use Rattle.rules.proofs.RefineMessage.{headIn}
-use Rattle.rules.proofs.RefineHanded.{all-is, posted, arrives}
+use Rattle.rules.proofs.RefineHanded.{posted, arrives}
 use Rattle.rules.proofs.Stream.{Stream, freshStream}
-use Rattle.rules.proofs.StreamReached.{Standing, standing-steps, standing-fresh}
-use Rattle.rules.proofs.RefineMerger.{StreamIs}
-use Rattle.rules.proofs.RefineCopies.{stream-fresh}
-use Rattle.rules.proofs.RefineRun.{call-onward}
+use Rattle.rules.proofs.Stands.{Stands, Keeps, list-stands}
 use Rattle.rules.proofs.Phases.{Phases}
 use Rattle.rules.proofs.StepPhases.{phases-fresh, phases-steps}
 use Rattle.rules.proofs.Spoken.{Known}
@@ -99,40 +97,27 @@ call-known r i f (world.replay c m) h k = k
 call-known r i f (world.value c key) h k = k
 
 -- A house in which messages go on.
-record Goes (sites : ℕ) (w : World) : Type 0 where
-  stream : Stream
-  standing : Standing sites stream
-  is : StreamIs sites w stream
-  phases : Phases (stream .protocol)
+record Goes (w : World) (v : Stream) : Type 0 where
+  phases : Phases (v .protocol)
   known : All Known (w .sent)
 
-call-goes : {sites : ℕ} {w : World} → sites ≤ 8 → (c : Call) → Handed w c → Goes sites w → Goes sites (step w c .world)
-call-goes few c h x =
-    let (u, ss, e, i) = call-onward (x .is) (x .standing) c h in
+call-goes : {sites : ℕ} → sites ≤ 8 → Keeps Goes sites
+call-goes few w v u c h i z ss e j m =
     record {
-      stream = u;
-      standing = standing-steps few ss (x .standing);
-      is = i;
-      phases = phases-steps few ss (x .standing) (x .phases);
-      known = call-known (x .is .refines) (x .standing .invariant) (x .phases) c h (x .known);
+      phases = phases-steps few ss z (m .phases);
+      known = call-known (i .refines) (z .invariant) (m .phases) c h (m .known);
     }
 
-run-goes : {sites : ℕ} → sites ≤ 8 → (calls : List Call) (w : World) → Lawful w calls → Goes sites w → Goes sites (run w calls)
-unfolding run
-run-goes few [] w h x = x
-run-goes few (c ∷ calls) w (h, hs) x = run-goes few calls (step w c .world) hs (call-goes few c h x)
-
-fresh-goes : (sites : ℕ) → 1 ≤ sites → sites ≤ 8 → Goes sites (freshWorld sites)
+fresh-goes : (sites : ℕ) → Goes (freshWorld sites) freshStream
 unfolding freshStream freshWorld
-fresh-goes sites some few =
-    record { stream = freshStream; standing = standing-fresh sites; is = stream-fresh sites some few; phases = phases-fresh; known = a-nil }
+fresh-goes sites = record { phases = phases-fresh; known = a-nil }
 
-none-out-of-turn : {sites : ℕ} {w : World} → Goes sites w → NoneOutOfTurn w
+none-out-of-turn : {sites : ℕ} {w : World} {b : List Fact} → Stands Goes sites w b → NoneOutOfTurn w
 unfolding step siteStep
-none-out-of-turn x s out m h = message-goes (x .is .refines) (x .standing .invariant) (x .phases) s out m h .in-turn
+none-out-of-turn x s out m h = message-goes (x .is .refines) (x .standing .invariant) (x .more .phases) s out m h .in-turn
 
 pub messages-progress : MessagesProgress
 unfolding MessagesProgress
 messages-progress sites calls some few lawful =
-    let x = run-goes few calls (freshWorld sites) lawful (fresh-goes sites some few) in
-    (none-out-of-turn x, λ m h. all-is (x .known) h)
+    let x = list-stands Goes few (call-goes few) some (fresh-goes sites) calls lawful in
+    (none-out-of-turn x, λ m h. all-is (x .more .known) h)

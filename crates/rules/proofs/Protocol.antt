@@ -1,22 +1,20 @@
 -- The protocol on plain tables: what an accepted call does, as moves. Nothing here knows of words, buffers, refusals or array lengths.
-use Prim.Native.Nat.{ℕ, zero, suc, _+_, _-_, _*_, _≤_, _<_, max}
+-- The move `passes` drops any message: a transaction that loses one at most never commits, and no claim says that it does.
+use Prim.Native.Nat.{ℕ, _+_, _-_, _*_, _≤_, _<_, max}
 use mathlib.Core.Path.{_≡_}
 use mathlib.Core.Bool.{Bool, true, false, not}
 use mathlib.Core.Logic.{_⊎_}
 use mathlib.Core.List.{List, [], _∷_, _++_}
-use lib.Bits.{bitOr}
 use lib.Dec.{eqb, leb}
 use lib.ListN.{length, getD}
 use Rattle.laws.specs.Choice.{pick, every}
-use Rattle.laws.specs.Pair.{precedes}
 use Rattle.kinds.specs.Sizes as sizes
 use Rattle.kinds.specs.Stage as stage
 use Rattle.kinds.specs.declared.Keys.{Keys}
 use Rattle.kinds.specs.declared.Course.{Course}
 use Rattle.kinds.specs.declared.Sub.{Sub}
 use Rattle.kinds.specs.declared.Entry.{Entry}
-use Rattle.kinds.specs.State.{noSub, noKeys, pastEntry, withCourse, withKeys}
-use Rattle.kinds.specs.State.{Value}
+use Rattle.kinds.specs.State.{noSub, noKeys, pastEntry, withCourse, withKeys, Value}
 use Rattle.rules.specs.House.{coordinatorOf, siteOf, txOf, inMask, maskOf}
 use Rattle.rules.specs.Message.{entryTx, entryMask, entryMark, entryCount}
 use Rattle.rules.specs.Keys.{wroteKey, wroteValue, readKey, dependent}
@@ -211,11 +209,16 @@ Within es fs = (j : ℕ) → j < entryCount es → 0 < entryTx es j → Listed f
 abbrev pub LeastQueued : Protocol → ℕ → ℕ → Type 0
 LeastQueued p s t = (u : ℕ) → isQueued (p .live s u) ≡ true → queuedBefore (p .live s u) (p .live s t) ≡ false
 
--- a state number at s: at most the clock, each open mark, and below each decided number
+-- the clock, an open mark, or a decided number less 1
+abbrev pub Bound : Protocol → ℕ → ℕ → Type 0
+Bound p s n = (n ≡ p .clock s) ⊎ (((u : ℕ) × AtStage p s u stage.queued × (n ≡ courseAt p s u .number)) ⊎ ((u : ℕ) × AtStage p s u stage.decided × (n ≡ courseAt p s u .number - 1)))
+
+-- the state number at s: at most the clock, each open mark, and below each decided number, and one of these
 pub record StateAt (p : Protocol) (s n : ℕ) : Type 0 where
   pub clock : n ≤ p .clock s
   pub marks : (u : ℕ) → AtStage p s u stage.queued → n ≤ courseAt p s u .number
   pub numbers : (u : ℕ) → AtStage p s u stage.decided → n ≤ courseAt p s u .number - 1
+  pub is : Bound p s n
 
 -- t's part begins at s
 abbrev pub beganAt : Protocol → ℕ → ℕ → ℕ → Protocol

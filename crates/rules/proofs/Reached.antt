@@ -44,6 +44,3 @@ invariant-fresh sites =
 pub invariant-moves : {sites : ℕ} {p q : Protocol} → sites ≤ 8 → Moves sites p q → Invariant sites p → Invariant sites q
 invariant-moves h stop i = i
 invariant-moves {sites} h (more {q = q} {r = r} ms m) i = invariant-step sites q r h m (invariant-moves h ms i)
-
-pub reached : {sites : ℕ} {p : Protocol} → sites ≤ 8 → Moves sites freshProtocol p → Invariant sites p
-reached {sites} h ms = invariant-moves h ms (invariant-fresh sites)

@@ -3,102 +3,78 @@
 use Prim.Native.Nat.{ℕ, zero, suc, _+_, _-_, _≤_, _<_}
 use mathlib.Core.Path.{_≡_, sym, ap, _∙_}
 use mathlib.Core.Logic.{_⊎_, inl, inr}
-use mathlib.Core.List.{List, [], _∷_, _++_, map, append-assoc, append-nil}
+use mathlib.Core.List.{List, [], map}
 use native.Mathlib.Omega.{arith}
 use lib.ListN.{length, getD, replicate, length-map}
 use lib.Seq.{getD-take, length-take-le}
 use Rattle.laws.specs.Pair.{rank}
 use Rattle.kinds.specs.Sizes as sizes
+use Rattle.kinds.specs.Kind as kind
 use Rattle.kinds.specs.declared.RecordHead.{RecordHead}
 use Rattle.rules.specs.House.{coordinatorOf}
 use Rattle.rules.specs.Record.{recordHead}
-use Rattle.rules.specs.World.{World, Call, Handed, Lawful, step, mergerStep, run, freshWorld}
+use Rattle.rules.specs.World.{World, step, mergerStep, run, freshWorld}
 use Rattle.rules.specs.World as world
-use Rattle.rules.specs.Book.{Fact, factsOf, bookFrom}
+use Rattle.rules.specs.Book.{Fact}
 use Rattle.rules.specs.Claim.{Committed}
-use Rattle.rules.specs.Progress.{Drained, InStream, RecordsProgress}
-use Rattle.rules.proofs.Tables.{all-at}
-use Rattle.rules.proofs.Protocol.{Protocol, rState, freshProtocol}
-use Rattle.rules.proofs.Ascends.{Ascends, ascends-fresh, ascends-steps}
-use Rattle.rules.proofs.Refines.{recWords}
+use Rattle.rules.specs.Progress.{Drained, InStream, RecordsProgress, recordAt}
+use Rattle.rules.proofs.Tables.{all-at, All, a-nil}
+use Rattle.rules.proofs.Protocol.{Protocol, rState, freshProtocol, Rec, rPart}
+use Rattle.rules.proofs.Refines.{recWords, partHeadOf}
 use Rattle.rules.proofs.Stream as stream
 use Rattle.rules.proofs.Stream.{Stream, freshStream}
 use Rattle.rules.proofs.StreamInv.{pastItem, Out, NotAbove}
-use Rattle.rules.proofs.StreamReached.{Standing, standing-steps, standing-fresh}
 use Rattle.rules.proofs.StreamNext.{Lasts, lasts-fresh, lasts-steps}
 use Rattle.rules.proofs.StreamDrain.{DrainedAt, rank-index}
-use Rattle.rules.proofs.RefineMerger.{itemWords, StreamIs, item-head, map-at}
-use Rattle.rules.proofs.RefineCopies.{stream-fresh}
-use Rattle.rules.proofs.RefineRun.{call-onward}
+use Rattle.rules.proofs.RefineMerger.{itemWords, item-head, map-at, part-head, state-head}
+use Rattle.rules.proofs.Stands.{Stands, Keeps, call-stands, list-stands}
 use Rattle.rules.proofs.BookLists.{is-kept}
-use Rattle.rules.proofs.Booked.{Booked}
-use Rattle.rules.proofs.BookMove.{booked-steps, booked-fresh}
-use Rattle.rules.proofs.Theorem.{told-facts}
-use Rattle.rules.proofs.Written.{Written, written-none, call-written, state-in}
+use Rattle.rules.proofs.Written.{RecordOk, call-written}
 use Rattle.rules.proofs.LogsAscend.{logs-ascend, next-taken}
 use Rattle.rules.proofs.DueWhole.{due-is-whole}
 use Rattle.rules.proofs.EmitDrains.{emit-drains}
 
--- A house whose logs ascend, with its machine and its book.
-record Climbs (sites : ℕ) (w : World) (b : List Fact) : Type 0 where
-  stream : Stream
-  standing : Standing sites stream
-  is : StreamIs sites w stream
-  booked : Booked sites b (stream .protocol)
-  ascends : Ascends (stream .protocol)
-  lasts : Lasts (stream .protocol) (stream .merger)
-  written : (s : ℕ) → Written sites (w .log s)
+-- A house whose logs ascend.
+record Climbs (sites : ℕ) (w : World) (v : Stream) : Type 0 where
+  lasts : Lasts (v .protocol) (v .merger)
+  written : (s : ℕ) → All (RecordOk sites) (w .log s)
 
-call-climbs : {sites : ℕ} {w : World} {b : List Fact} → sites ≤ 8 → (c : Call) → Handed w c → Climbs sites w b
-    → Climbs sites (step w c .world) (b ++ factsOf c (step w c .answer) (step w c .words))
-call-climbs {w = w} {b = b} few c h x =
-    let z = x .standing in
-    let (u, ss, e, i) = call-onward (x .is) z c h in
+call-climbs : {sites : ℕ} → sites ≤ 8 → Keeps (Climbs sites) sites
+call-climbs few w v u c h i z ss e j m =
     record {
-      stream = u;
-      standing = standing-steps few ss z;
-      is = i;
-      booked = told-facts b c (step w c .answer) (step w c .words) (rw e at (booked-steps few z ss (x .booked)));
-      ascends = ascends-steps few ss z (x .ascends);
-      lasts = lasts-steps few ss z (x .lasts);
-      written = call-written (x .is .refines) (z .invariant) (x .ascends) (x .written) c;
+      lasts = lasts-steps few ss z (m .lasts);
+      written = call-written (i .refines) (z .invariant) (m .written) c;
     }
 
-regroup : {sites : ℕ} {w : World} (b l f : List Fact) → Climbs sites w ((b ++ l) ++ f) → Climbs sites w (b ++ (l ++ f))
-regroup b l f x = rw append-assoc at x
-
-run-climbs : {sites : ℕ} → sites ≤ 8 → (calls : List Call) (w : World) (b : List Fact) → Lawful w calls → Climbs sites w b → Climbs sites (run w calls) (b ++ bookFrom w calls)
-unfolding run bookFrom
-run-climbs few [] w b h x = rw append-nil x
-run-climbs few (c ∷ calls) w b (h, hs) x =
-    regroup b (factsOf c (step w c .answer) (step w c .words)) (bookFrom (step w c .world) calls)
-    (run-climbs few calls (step w c .world) (b ++ factsOf c (step w c .answer) (step w c .words)) hs (call-climbs few c h x))
-
-fresh-climbs : (sites : ℕ) → 1 ≤ sites → sites ≤ 8 → Climbs sites (freshWorld sites) []
+fresh-climbs : (sites : ℕ) → Climbs sites (freshWorld sites) freshStream
 unfolding freshWorld freshStream
-fresh-climbs sites some few =
-    record {
-      stream = freshStream;
-      standing = standing-fresh sites;
-      is = stream-fresh sites some few;
-      booked = booked-fresh sites;
-      ascends = ascends-fresh;
-      lasts = lasts-fresh freshProtocol;
-      written = λ s. written-none sites;
-    }
+fresh-climbs sites = record { lasts = lasts-fresh freshProtocol; written = λ s. a-nil }
 
 -- A drained house, at the machine's tables.
-module _ {sites : ℕ} {w : World} {b : List Fact} (x : Climbs sites w b) where
+module _ {sites : ℕ} {w : World} {b : List Fact} (x : Stands (Climbs sites) sites w b) where
   abbrev p : Protocol
   p = x .stream .protocol
 
   abbrev m : stream.Merger
   m = x .stream .merger
 
+  -- a state of the log, as the protocol has it
+  state-in : (s i : ℕ) → i < length (w .log s) → recordAt w s i .kind ≡ kind.state
+      → (i < length (p .log s)) × (getD (p .log s) i (rState 0) ≡ rState (recordAt w s i .number))
+  unfolding partHeadOf
+  state-in s i h k =
+      let (b, q) = map-at (recWords s) (p .log s) (rState 0) i (rw (x .is .refines .log s) at h) in
+      let e : getD (w .log s) i [] ≡ recWords s (getD (p .log s) i (rState 0)) = rw (x .is .refines .log s) q in
+      (b, go (getD (p .log s) i (rState 0)) (ap recordHead e))
+    where
+      go : (x : Rec) → recordAt w s i ≡ recordHead (recWords s x) → x ≡ rState (recordAt w s i .number)
+      go (rPart e) q = absurd (let z : kind.state ≡ kind.part = sym k ∙ ap (λ (h : RecordHead). h .kind) (q ∙ part-head s e) in omega arith)
+      go (rState n) q = ap rState (sym (ap (λ (h : RecordHead). h .number) (q ∙ state-head s n)))
+
   drained-at : (n : ℕ) → Drained sites w n → (s : ℕ) → 1 ≤ s → s ≤ sites → DrainedAt p m n s
   drained-at n d s l h =
       let (e, (i, k, u, v)) = d s l h in
-      let (c, q) = state-in (x .is .refines) (x .standing .invariant) (x .ascends) (x .written) s i k u in
+      let (c, q) = state-in s i k u in
       let y = x .standing .streamed .source s in
       let o : length (w .log s) ≡ length (p .log s) = ap length (x .is .refines .log s) ∙ length-map (p .log s) (recWords s) in
       let t : m .took s ≡ length (p .log s) = sym (x .is .merged s) ∙ e ∙ o in
@@ -125,7 +101,7 @@ unfolding step mergerStep
 emit-drained sites w n out d = d
 
 -- emits, until t is out: the stream grows by each of them, and has at most as many items below t as t's rank
-drain : {sites : ℕ} → sites ≤ 8 → (f : ℕ) {w : World} {b : List Fact} (n t k c : ℕ) (out : List ℕ) → Climbs sites w b → Drained sites w n → Committed b t k c → k ≤ n
+drain : {sites : ℕ} → sites ≤ 8 → (f : ℕ) {w : World} {b : List Fact} (n t k c : ℕ) (out : List ℕ) → Stands (Climbs sites) sites w b → Drained sites w n → Committed b t k c → k ≤ n
     → sizes.merged ≤ length out → rank k c < length (w .stream) + f → (j : ℕ) × InStream (run w (replicate j (world.emit out))) t
 unfolding run
 drain few zero n t k c out x d h u room l =
@@ -133,8 +109,8 @@ drain few zero n t k c out x d h u room l =
     (0, in-stream x t (many-out x t y (omega arith)))
 drain {sites} few (suc f) {w} n t k c out x d h u room l =
     let (y, q, e) = x .booked .commits .commit t k c h in
-    go (λ g. drain few f n t k c out (call-climbs few (world.emit out) tt x) (emit-drained sites w n out d) (is-kept _ h) u room (omega arith))
-    (emit-drains (x .is) (x .standing) (x .ascends) n (drained-at x n d) t y (omega arith) out room)
+    go (λ g. drain few f n t k c out (call-stands (Climbs sites) few (call-climbs few) (world.emit out) tt x) (emit-drained sites w n out d) (is-kept _ h) u room (omega arith))
+    (emit-drains (x .is) (x .standing) n (drained-at x n d) t y (omega arith) out room)
   where
     go : (length (step w (world.emit out) .world .stream) ≡ length (w .stream) + 1 → (j : ℕ) × InStream (run (step w (world.emit out) .world) (replicate j (world.emit out))) t)
         → Out (x .stream .merger) t ⊎ (length (step w (world.emit out) .world .stream) ≡ length (w .stream) + 1) → (j : ℕ) × InStream (run w (replicate j (world.emit out))) t
@@ -144,10 +120,11 @@ drain {sites} few (suc f) {w} n t k c out x d h u room l =
 pub records-progress : RecordsProgress
 unfolding RecordsProgress
 records-progress sites calls some few lawful =
-    let x = run-climbs few calls (freshWorld sites) [] lawful (fresh-climbs sites some few) in
-    let z = x .standing in (
-      logs-ascend (x .is) z (x .ascends) (x .lasts) (x .written),
-      next-taken (x .is) z (x .ascends) (x .lasts) (x .written),
-      due-is-whole (x .is) z (x .ascends),
+    let x = list-stands (Climbs sites) few (call-climbs few) some (fresh-climbs sites) calls lawful in
+    let z = x .standing in
+    let y = x .more in (
+      logs-ascend (x .is) z (y .lasts) (y .written),
+      next-taken (x .is) z (y .lasts) (y .written),
+      due-is-whole (x .is) z,
       λ n t k c out d h u room. drain few (rank k c + 1) n t k c out x d h u room (omega arith),
     )

@@ -2,14 +2,14 @@
 use Prim.Native.Nat.{ℕ, _+_, _-_, _≤_, _<_}
 use mathlib.Core.Path.{_≡_, refl, sym, ap, _∙_}
 use mathlib.Core.Bool.{true, false, not}
-use mathlib.Core.Logic.{_⊎_, inl, inr, ⊎-elim}
+use mathlib.Core.Logic.{inl, inr, ⊎-elim}
 use mathlib.Core.List.{List, [], _∷_}
 use native.Mathlib.Omega.{arith}
 use borrow.Author.Tests.{ltb-false, le-leb, ne-eqb}
 use lib.Dec.{leb, eqb}
 use lib.ListN.{length, getD}
 use lib.Seq.{set-getD}
-use Rattle.laws.specs.Choice.{pick, pick-self, every, by-test}
+use Rattle.laws.specs.Choice.{pick, pick-self, every, by-test, set-not}
 use Rattle.laws.specs.Scan.{any-below-none}
 use Rattle.kinds.specs.Sizes as sizes
 use Rattle.kinds.specs.Stage as stage
@@ -35,16 +35,15 @@ use Rattle.rules.specs.World.{World, step, siteStep, messagesIn, splitWo
 use Rattle.rules.specs.World as world
 use Rattle.rules.specs.Book as book
 use Rattle.rules.specs.Book.{Fact}
-use Rattle.rules.proofs.Tables.{a-nil}
+use Rattle.rules.proofs.Tables.{a-nil, row-same, row-other}
 use Rattle.rules.proofs.Protocol.{Protocol, inst, Accessed, access, stop, more}
 use Rattle.rules.proofs.Protocol as protocol
 use Rattle.rules.proofs.Invariants.{at}
-use Rattle.rules.proofs.Frames.{set-not}
 use Rattle.rules.proofs.KeysTold.{read-wrote, read-value, read-sized, read-kept, read-new, write-reads, write-sized, Sets, again-wrote, again-sets, first-kept, first-new, first-sets}
 use Rattle.rules.proofs.Refines.{IsFree, Sized, LiveIs, HistoryIs, Refines}
 use Rattle.rules.proofs.RefineLive.{place-held, place-spot}
 use Rattle.rules.proofs.RefineSite.{site-sub}
-use Rattle.rules.proofs.RefineStep.{Follows, toldBy, by-code, row-same, row-other, grows-none, inside, stays, site-step}
+use Rattle.rules.proofs.RefineStep.{Follows, toldBy, by-code, grows-none, inside, stays, site-step}
 
 -- Nobody else holds a key: no part at another place,
 key-free : (live : List Sub) (row : ℕ → Sub) (t k : ℕ) → LiveIs live row → placeOf live t < sizes.live → keyHeld live (placeOf live t) k ≡ false

@@ -14,14 +14,14 @@ use Rattle.rules.specs.Begin.{nextTx, beginCode, begun, beginOf, begin-c
 use Rattle.rules.specs.World.{World, upd, step, siteStep, messagesIn, splitWords}
 use Rattle.rules.specs.World as world
 use Rattle.rules.specs.Book as book
-use Rattle.rules.proofs.Tables.{upd-same, upd-other, a-nil}
+use Rattle.rules.proofs.Tables.{upd-same, upd-other, a-nil, row-same, row-other}
 use Rattle.rules.proofs.Protocol.{Protocol, inst, beganAt, set-serial, begin, stop, more}
 use Rattle.rules.proofs.Invariants.{Invariant}
 use Rattle.rules.proofs.Frames.{new-tx}
 use Rattle.rules.proofs.Refines.{IsFree, Refines}
 use Rattle.rules.proofs.RefineLive.{by-free, free-spot}
 use Rattle.rules.proofs.RefineSite.{new-sub, new-stage, site-sub, site-serial}
-use Rattle.rules.proofs.RefineStep.{Follows, toldBy, by-code, row-same, row-other, grows-none, inside, stays, site-step}
+use Rattle.rules.proofs.RefineStep.{Follows, toldBy, by-code, grows-none, inside, stays, site-step}
 
 module _ {sites : ℕ} {w : World} {p : Protocol} (r : Refines sites w p) (i : Invariant sites p) (s : ℕ) where
   abbrev Goal : Effect → Type 0

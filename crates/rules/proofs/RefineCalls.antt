@@ -1,9 +1,13 @@
--- Each call of the list makes some moves, or none, and they tell what the call tells.
+-- Each call of the list moves the whole machine on: a call of a site makes some moves, or none, the others are steps of the merger and
+-- the copies, and they tell what the call tells.
 use Prim.Native.Nat.{ℕ}
-use Rattle.rules.specs.World.{World, Call, begin, enlist, read, write, commit, abandon, message, install, report, merge, emit, replay, value, step, Handed}
-use Rattle.rules.proofs.Protocol.{Protocol}
-use Rattle.rules.proofs.Invariants.{Invariant}
-use Rattle.rules.proofs.Refines.{Refines}
+use mathlib.Core.Path.{refl}
+use mathlib.Core.List.{List}
+use Rattle.kinds.specs.State.{Value}
+use Rattle.rules.specs.Effect.{Effect}
+use Rattle.rules.specs.World.{World, Call, Handed, step, siteStep, logStep}
+use Rattle.rules.specs.World as world
+use Rattle.rules.specs.Book.{Fact}
 use Rattle.rules.proofs.RefineStep.{Follows, toldBy}
 use Rattle.rules.proofs.RefineBegin.{begin-moves}
 use Rattle.rules.proofs.RefineAccess.{read-moves, write-moves}
@@ -11,20 +15,35 @@ use Rattle.rules.proofs.RefineEnlist.{enlist-moves}
 use Rattle.rules.proofs.RefineCommit.{commit-moves, abandon-moves}
 use Rattle.rules.proofs.RefineHanded.{message-moves}
 use Rattle.rules.proofs.RefineLog.{install-moves, report-moves}
-use Rattle.rules.proofs.RefineOther.{merge-moves, emit-moves, replay-moves, value-moves}
+use Rattle.rules.proofs.Stream.{Stream}
+use Rattle.rules.proofs.StreamReached.{Standing}
+use Rattle.rules.proofs.RefineMerger.{StreamIs, Onward, site-onward}
+use Rattle.rules.proofs.RefineMerge.{merge-onward}
+use Rattle.rules.proofs.RefineEmit.{emit-onward}
+use Rattle.rules.proofs.RefineReplay.{replay-onward, value-onward}
 
-pub call-moves : {sites : ℕ} {w : World} {p : Protocol} → Refines sites w p → Invariant sites p → (c : Call) → Handed w c
-    → Follows sites p (step w c .world) (toldBy c (step w c .answer) (step w c .words))
-call-moves r i (begin s) h = begin-moves r i s
-call-moves r i (enlist s out tx site) h = enlist-moves r s out tx site
-call-moves r i (read s tx key) h = read-moves r s tx key
-call-moves r i (write s tx key v) h = write-moves r s tx key v
-call-moves r i (commit s out tx) h = commit-moves r i s out tx
-call-moves r i (abandon s out tx) h = abandon-moves r i s out tx
-call-moves r i (message s out m) h = message-moves r i s out m h
-call-moves r i (install s out) h = install-moves r s out
-call-moves r i (report s out) h = report-moves r s out
-call-moves r i (merge m) h = merge-moves r m
-call-moves r i (emit out) h = emit-moves r out
-call-moves r i (replay c m) h = replay-moves r c m
-call-moves r i (value c k) h = value-moves r c k
+module _ {sites : ℕ} {w : World} {v : Stream} (x : StreamIs sites w v) (z : Standing sites v) where
+  site-call : {fs : List Fact} (s : ℕ) (e : Effect) (base : List Value) (lists : List ℕ) → Follows sites (v .protocol) (siteStep w s e base lists .world) fs
+      → Onward sites v (siteStep w s e base lists .world) fs
+  unfolding siteStep
+  site-call s e base lists f = site-onward x f refl refl refl refl refl refl
+
+  log-call : {fs : List Fact} (s : ℕ) (e : Effect) (base : List Value) → Follows sites (v .protocol) (logStep w s e base .world) fs → Onward sites v (logStep w s e base .world) fs
+  unfolding logStep
+  log-call s e base f = site-onward x f refl refl refl refl refl refl
+
+  pub call-onward : (c : Call) → Handed w c → Onward sites v (step w c .world) (toldBy c (step w c .answer) (step w c .words))
+  unfolding step
+  call-onward (world.begin s) h = site-call s _ _ _ (begin-moves (x .refines) (z .invariant) s)
+  call-onward (world.enlist s out t n) h = site-call s _ _ _ (enlist-moves (x .refines) s out t n)
+  call-onward (world.read s t k) h = site-call s _ _ _ (read-moves (x .refines) s t k)
+  call-onward (world.write s t k a) h = site-call s _ _ _ (write-moves (x .refines) s t k a)
+  call-onward (world.commit s out t) h = site-call s _ _ _ (commit-moves (x .refines) (z .invariant) s out t)
+  call-onward (world.abandon s out t) h = site-call s _ _ _ (abandon-moves (x .refines) (z .invariant) s out t)
+  call-onward (world.message s out m) h = site-call s _ _ _ (message-moves (x .refines) (z .invariant) s out m h)
+  call-onward (world.install s out) h = log-call s _ _ (install-moves (x .refines) s out)
+  call-onward (world.report s out) h = log-call s _ _ (report-moves (x .refines) s out)
+  call-onward (world.merge m) h = merge-onward x z m h
+  call-onward (world.emit out) h = emit-onward x z out
+  call-onward (world.replay c m) h = replay-onward x z c m h
+  call-onward (world.value c k) h = value-onward x z c k

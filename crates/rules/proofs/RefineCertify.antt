@@ -1,17 +1,14 @@
 -- Certification: the list that a site makes covers what the protocol wants, its vote of yes certifies, and a join has every entry.
-use Prim.Native.Nat.{ℕ, zero, suc, _+_, _-_, _*_, _≤_, _<_}
-use mathlib.Core.Path.{_≡_, refl, sym, ap, _∙_}
-use mathlib.Core.Bool.{Bool, true, false, not}
-use mathlib.Core.Logic.{_⊎_, inl, inr, ⊎-elim}
-use mathlib.Core.List.{List, [], _∷_}
+use Prim.Native.Nat.{ℕ, suc, _+_, _-_, _*_, _≤_, _<_}
+use mathlib.Core.Path.{_≡_, sym, ap, _∙_}
+use mathlib.Core.Bool.{Bool, true, false}
+use mathlib.Core.Logic.{⊎-elim}
+use mathlib.Core.List.{List}
 use native.Mathlib.Omega.{arith}
 use borrow.Author.Tests.{ltb-false, leb-true}
-use lib.Dec.{eqb}
 use lib.ListN.{length, getD, List·getD-eq-default}
-use Rattle.laws.specs.Choice.{every, by-test}
 use Rattle.kinds.specs.Sizes as sizes
 use Rattle.kinds.specs.Stage as stage
-use Rattle.kinds.specs.declared.Keys.{Keys}
 use Rattle.kinds.specs.declared.Sub.{Sub}
 use Rattle.kinds.specs.declared.Entry.{Entry}
 use Rattle.kinds.specs.declared.Snapshot.{Snapshot}
@@ -19,56 +16,22 @@ use Rattle.kinds.specs.declared.Site.{Site}
 use Rattle.kinds.specs.State.{subAt, pastEntry}
 use Rattle.rules.specs.House.{serialOf}
 use Rattle.rules.specs.Message.{entryTx, entryCount}
-use Rattle.rules.specs.Keys.{dependent}
 use Rattle.rules.specs.KeysLaws.{by-order}
 use Rattle.rules.specs.Live.{isPrepared, isPartOf}
 use Rattle.rules.specs.History.{recall, remembered, forgotten, within, isForgotten}
 use Rattle.rules.specs.HistoryLaws.{all-installs}
 use Rattle.rules.specs.Join.{joined, joinTx, joinCount, listedOf}
-use Rattle.rules.specs.JoinLaws.{count-joined, length-joined, of-mark, listed-from}
-use Rattle.rules.specs.Certify.{markOf, concurrentWords, preparedWords, installedWords, preparedList, installedList, candidates, concurrent, voteOf}
-use Rattle.rules.specs.CertifyLaws.{prepared-few, concurrent-whole, lists-prepared, lists-installed, yes-clear, yes-recorded, recorded-is}
-use Rattle.rules.specs.EntryLaws.{Listing, Marks, joined-mark, joined-within, gathered-marks, append-marks}
+use Rattle.rules.specs.JoinLaws.{length-joined, of-mark, listed-from}
+use Rattle.rules.specs.Certify.{candidates, concurrent, voteOf}
+use Rattle.rules.specs.CertifyLaws.{concurrent-whole, lists-prepared, lists-installed, yes-clear, yes-recorded, recorded-is, candidates-marks}
+use Rattle.rules.specs.EntryLaws.{Listing, Marks, joined-mark, joined-within}
 use Rattle.rules.proofs.Protocol.{Protocol, inst, Covers, Certified, Within, Listed}
 use Rattle.rules.proofs.Invariants.{Parts, at}
 use Rattle.rules.proofs.Refines.{IsFree, HistoryIs, sliceOf, SiteIs}
 use Rattle.rules.proofs.RefineLive.{part-is, held-there}
 use Rattle.rules.proofs.RefineTurn.{AtPlace}
 
--- Marks are 0 or 1.
-mark-low : (b : Bool) → markOf b ≤ 1
-mark-low true = omega arith
-mark-low false = omega arith
-
-words-marks : (own : Keys) (tx mask : ℕ) (other : Keys) → Marks (concurrentWords own tx mask other)
-words-marks own tx mask other zero = mark-low (dependent own other)
-words-marks own tx mask other (suc k) =
-    let z = List·getD-eq-default (concurrentWords own tx mask other) 0 {n = sizes.entry * suc k + 2} (omega arith) in omega arith
-
-module _ (place : ℕ) (own : Keys) (i : ℕ) (b : Sub) where
-  prepared-length : (length (preparedWords place own i b) ≡ 0) ⊎ (length (preparedWords place own i b) ≡ sizes.entry)
-  unfolding preparedWords
-  prepared-length = by-test (every (not (eqb i place) ∷ isPrepared b ∷ [])) (λ e. inr (rw e)) (λ e. inl (rw e))
-
-  prepared-low : Marks (preparedWords place own i b)
-  unfolding preparedWords
-  prepared-low k =
-      by-test (every (not (eqb i place) ∷ isPrepared b ∷ []))
-      (λ e. rw e (words-marks own (b .tx) (b .course .mask) (b .keys) k))
-      (λ e. rw e (omega arith))
-
-candidates-low : (x : Site) (place : ℕ) → Marks (candidates x place)
-unfolding candidates preparedList installedList installedWords
-candidates-low x place =
-    let n = x .counters .installs in
-    let own = subAt x place .keys in
-    let e : ℕ → Entry = λ i. recall (x .history) n (within n (subAt x place .snapshot) + i) in
-    let (k, q, l, _) = prepared-few (x .live) place sizes.live in
-    append-marks (preparedList (x .live) place sizes.live) _ k q
-    (gathered-marks (λ i. preparedWords place own i (subAt x i)) (λ i. prepared-length place own i (subAt x i)) (λ i. prepared-low place own i (subAt x i)) sizes.live)
-    (gathered-marks (λ i. concurrentWords own (e i .tx) (e i .mask) (e i .keys)) (λ i. inr refl) (λ i. words-marks own (e i .tx) (e i .mask) (e i .keys)) _)
-
--- in a join too
+-- Marks are 0 or 1, in a join too.
 pub joined-low : (es : List ℕ) (n : ℕ) → Marks es → Marks (joined es n)
 joined-low es n f k =
     by-order k (joinCount es n)
@@ -80,7 +43,7 @@ joined-low es n f k =
 
 pub concurrent-low : (x : Site) (place : ℕ) → Marks (concurrent x place)
 unfolding concurrent
-concurrent-low x place = joined-low (candidates x place) (entryCount (candidates x place)) (candidates-low x place)
+concurrent-low x place = joined-low (candidates x place) (entryCount (candidates x place)) (candidates-marks x place)
 
 -- A join has every entry.
 listed : {es : List ℕ} {t m : ℕ} {d : Bool} → Listing es t m d → Listed es t m d
@@ -88,9 +51,6 @@ listed l = (l .entry, l .low, (l .tx, l .names, l .mark))
 
 pub join-within : (es : List ℕ) → Marks es → Within es (joined es (entryCount es))
 join-within es f j h z = listed (joined-within es f j h z)
-
-pub join-whole : (es : List ℕ) (n : ℕ) → length (joined es n) ≡ sizes.entry * entryCount (joined es n)
-join-whole es n = length-joined es n ∙ ap (λ (k : ℕ). sizes.entry * k) (sym (count-joined es n))
 
 -- An install that is not forgotten, by its place among those remembered.
 pub record Recalled (history es : List Entry) (n : ℕ) (p : Snapshot) (i : ℕ) : Type 0 where

@@ -1,5 +1,5 @@
 -- Commit and abandon, as moves.
-use Prim.Native.Nat.{ℕ, _-_}
+use Prim.Native.Nat.{ℕ}
 use mathlib.Core.Path.{_≡_, refl, sym, ap, _∙_}
 use mathlib.Core.Bool.{true, false}
 use mathlib.Core.List.{List, []}
@@ -14,6 +14,7 @@ use Rattle.kinds.specs.Reason as reason
 use Rattle.kinds.specs.declared.Course.{Course}
 use Rattle.kinds.specs.declared.Site.{Site}
 use Rattle.kinds.specs.State.{subAt}
+use Rattle.rules.specs.Enlist.{isMine}
 use Rattle.rules.specs.House.{coordinatorOf}
 use Rattle.rules.specs.Message.{entryCount}
 use Rattle.rules.specs.Send.{countsLow}
@@ -23,7 +24,7 @@ use Rattle.rules.specs.Certify.{concurrent}
 use Rattle.rules.specs.Valid.{siteOk}
 use Rattle.rules.specs.Effect.{Effect, turnAt, refused, changed}
 use Rattle.rules.specs.Course.{sendAll, abortStep}
-use Rattle.rules.specs.Commit.{isMine, requestCode, commitCode, isFull, isLost, commitChange, commitLists, commitOf, abandonCode, abandonOf}
+use Rattle.rules.specs.Commit.{requestCode, commitCode, isFull, isLost, commitChange, commitLists, commitOf, abandonCode, abandonOf}
 use Rattle.rules.specs.CommitLaws.{commit-full, commit-lost, commit-request, request-lone, request-prepare, lists-kept, lists-lost, lists-made}
 use Rattle.rules.specs.CallLaws.{request-clear, commit-clear, abandon-clear}
 use Rattle.rules.specs.World.{World, step, siteStep}

@@ -1,5 +1,5 @@
 -- CONC: its entries are gathered behind those that are there, and the last one brings the vote on their join.
-use Prim.Native.Nat.{ℕ, _+_, _-_, _*_, _≤_, _<_}
+use Prim.Native.Nat.{ℕ, _+_, _*_, _≤_, _<_}
 use mathlib.Core.Path.{_≡_, refl, sym, ap, _∙_}
 use mathlib.Core.Bool.{true, false}
 use mathlib.Core.List.{List, [], _++_}
@@ -14,6 +14,7 @@ use Rattle.kinds.specs.declared.Sub.{Sub}
 use Rattle.kinds.specs.declared.Turn.{Turn}
 use Rattle.kinds.specs.declared.Site.{Site}
 use Rattle.kinds.specs.State.{subAt, withCourse}
+use Rattle.rules.specs.JoinLaws.{join-whole}
 use Rattle.rules.specs.House.{coordinatorOf, inMask}
 use Rattle.rules.specs.Message.{entryCount}
 use Rattle.rules.specs.KeysLaws.{by-order}
@@ -29,7 +30,7 @@ use Rattle.rules.specs.Course.{quietly, withCourseOf, withReply, isOutst
 use Rattle.rules.specs.Deliver.{arrived}
 use Rattle.rules.specs.World.{upd}
 use Rattle.rules.specs.Book as book
-use Rattle.rules.proofs.Tables.{upd₂-same, upd-same, upd-other}
+use Rattle.rules.proofs.Tables.{upd₂-same, upd-same, upd-other, row-same, row-other}
 use Rattle.rules.proofs.Protocol.{Protocol, mConc, Next, AtStage, courseAt, Within, withCourseAt, set-gathered, took, gathers}
 use Rattle.rules.proofs.Invariants.{Invariant}
 use Rattle.rules.proofs.Masks.{outstanding-unheard}
@@ -38,10 +39,9 @@ use Rattle.rules.proofs.Reached.{invariant-moves}
 use Rattle.rules.proofs.Refines.{IsFree, ListIs, sliceOf, SiteIs}
 use Rattle.rules.proofs.RefineLive.{live-set}
 use Rattle.rules.proofs.RefineSite.{channels-taken}
-use Rattle.rules.proofs.RefineStep.{row-same, row-other}
 use Rattle.rules.proofs.RefineTurn.{AtPlace, course-is, tx-of}
 use Rattle.rules.proofs.RefineActs.{Acts, acts-then, settled-turn, settled-again}
-use Rattle.rules.proofs.RefineCertify.{certifies, join-within, join-whole}
+use Rattle.rules.proofs.RefineCertify.{certifies, join-within}
 use Rattle.rules.proofs.RefineLists.{list-more, lists-put}
 use Rattle.rules.proofs.RefineJoined.{joined-take}
 use Rattle.rules.proofs.RefineCourse.{cast-acts, settled-place}

@@ -1,5 +1,5 @@
 -- The coordinator's steps, as moves: abort, the vote on the joined lists with CERT, and the decision with COMMIT.
-use Prim.Native.Nat.{ℕ, _+_, _-_, _≤_, _<_}
+use Prim.Native.Nat.{ℕ, _+_, _≤_, _<_}
 use mathlib.Core.Path.{_≡_, refl, sym, ap, _∙_}
 use mathlib.Core.Bool.{true}
 use mathlib.Core.List.{List, []}
@@ -25,7 +25,7 @@ use Rattle.rules.specs.CourseLaws.{no-entries}
 use Rattle.rules.specs.Course.{withCourseOf, sendAll, abortStep, commitStep, decideStep, withDecision, withMark, castStep}
 use Rattle.rules.specs.World.{upd}
 use Rattle.rules.specs.Book as book
-use Rattle.rules.proofs.Tables.{upd₂, upd₂-same, upd-same, upd-other}
+use Rattle.rules.proofs.Tables.{upd₂, upd₂-same, upd-same, upd-other, row-other}
 use Rattle.rules.proofs.Protocol.{Protocol, Msg, mAbort, mCert, mCommit, others, courseAt, AtStage, Whole, Within, Certified, abort, cast, decide, stop, more, postedAll, withCourseAt, set-certed, set-cert, set-yes, set-mark}
 use Rattle.rules.proofs.Invariants.{In, Held, Invariant}
 use Rattle.rules.proofs.Masks.{none-in, all-heard}
@@ -33,7 +33,6 @@ use Rattle.rules.proofs.Frames.{others-cases}
 use Rattle.rules.proofs.Reached.{invariant-moves}
 use Rattle.rules.proofs.Refines.{IsFree, sliceOf, SiteIs}
 use Rattle.rules.proofs.RefineSite.{site-clock, site-channels}
-use Rattle.rules.proofs.RefineStep.{row-other}
 use Rattle.rules.proofs.RefineMail.{none, grows-all}
 use Rattle.rules.proofs.RefineTurn.{AtPlace, part-place, course-is, site-course, site-gone, mark-stage, decision-stage, tx-of}
 use Rattle.rules.proofs.RefineActs.{Acts, acts-then, settled-turn, settled-again, others-elsewhere, members, send-all-site, send-all-made}

@@ -2,7 +2,7 @@
 use Prim.Native.Nat.{ℕ, zero, suc, _+_, _-_, _*_, _≤_, _<_}
 use mathlib.Core.Path.{_≡_, refl, sym, ap, _∙_}
 use mathlib.Core.Bool.{true, false}
-use mathlib.Core.Logic.{_⊎_, inl, inr, ⊎-elim}
+use mathlib.Core.Logic.{_⊎_, inl, inr}
 use mathlib.Core.List.{List, [], _∷_, _++_, map-append, append-nil}
 use native.Mathlib.Numerals.{add-one}
 use native.Mathlib.Omega.{arith}
@@ -10,38 +10,36 @@ use borrow.Author.Tests.{eqb-true}
 use lib.Dec.{eqb}
 use lib.ListN.{length}
 use lib.Seq.{take-append-le}
-use Rattle.laws.specs.Choice.{every, every-at, by-test}
+use Rattle.laws.specs.Choice.{every-at, by-test, set-not}
 use Rattle.laws.specs.Scan.{foldBelow, all-below-at}
-use Rattle.laws.specs.Pair.{precedes, not-precedes-rank}
 use Rattle.kinds.specs.Sizes as sizes
 use Rattle.kinds.specs.declared.House.{House}
 use Rattle.kinds.specs.declared.Entry.{Entry}
 use Rattle.kinds.specs.declared.RecordHead.{RecordHead}
 use Rattle.kinds.specs.declared.Merger.{Merger}
 use Rattle.kinds.specs.declared.Answer.the-variants.{Emitted}
-use Rattle.rules.specs.House.{coordinatorOf, inMask, siteOf}
+use Rattle.rules.specs.House.{inMask, siteOf}
 use Rattle.rules.specs.Keys.{sortedKey, sortedCount}
 use Rattle.rules.specs.KeysLaws.{word-key}
-use Rattle.rules.specs.Record.{recordWords, recordHead, recordWrites, writeKey, keyAscends, partWriteOk}
-use Rattle.rules.specs.RecordLaws.{writes-back, part-passed-good, merged-passed-words}
-use Rattle.rules.specs.Merger.{Merging, refusedMerger, sourceAt, popSource, queuedPart, headsOf, headIn, hasPart, dueHead, leastSite, dueCode, partWrites, joinedWrites, writesIn, mergedHead, popMerger, popMergerAt, popQueues, emitDue, emitCode, emitOf}
-use Rattle.rules.specs.MergerLaws.{HasPart, has-part, part-had}
-use Rattle.rules.specs.MergerJoin.{Emits, emits, heads-at, head-part}
-use Rattle.rules.specs.MergerKept.{Holds, emit-kept, popped-source}
+use Rattle.rules.specs.Record.{recordWords, recordHead, recordWrites, writeKey, keyAscends, partWriteOk, mergedTests, mergedOk}
+use Rattle.rules.specs.RecordLaws.{writes-back, part-passed-good, merged-clear, merged-passed-good, merged-passed-words}
+use Rattle.rules.specs.Merger.{Merging, refusedMerger, sourceAt, popSource, queuedPart, headsOf, hasPart, dueHead, leastSite, dueCode, partWrites, joinedWrites, writesIn, mergedHead, popMerger, popQueues, emitDue, emitCode, emitOf}
+use Rattle.rules.specs.MergerLaws.{has-part, part-had}
+use Rattle.rules.specs.MergerJoin.{Emits, emits}
+use Rattle.rules.specs.MergerKept.{Holds, emit-kept, popped-source, pop-house}
 use Rattle.rules.specs.MergerWords.{popped-place, kept-place}
 use Rattle.rules.specs.World.{World, step, mergerStep, recordIn}
 use Rattle.rules.specs.World as world
-use Rattle.rules.proofs.Tables.{all-append, all-one}
+use Rattle.rules.proofs.Tables.{All, a-nil, all-append, all-one}
 use Rattle.rules.proofs.Protocol.{Protocol}
 use Rattle.rules.proofs.Invariants.{In}
-use Rattle.rules.proofs.Frames.{set-not}
-use Rattle.rules.proofs.Committed.{low-coordinator, committed-asked}
-use Rattle.rules.proofs.Refines.{entryWords, partHeadOf, Refines}
-use Rattle.rules.proofs.RefineOther.{emit-moves}
+use Rattle.rules.proofs.Committed.{committed-asked}
+use Rattle.rules.proofs.Refines.{IsRecord, entryWords, partHeadOf, Refines}
 use Rattle.rules.proofs.Stream as stream
-use Rattle.rules.proofs.Stream.{Item, Stream, rankOf, DueAt, WholeAt, headKeys, behindHead, itemOf, emitted}
+use Rattle.rules.proofs.Stream.{Item, Stream, WholeAt, headKeys, behindHead, itemOf, emitted}
 use Rattle.rules.proofs.StreamInv.{head-real}
 use Rattle.rules.proofs.StreamReached.{Standing}
+use Rattle.rules.proofs.RefineHeads.{clear-head, inside, head-is, some-queued, low, due-is, due-at, rank-part, part-rank}
 use Rattle.rules.proofs.RefineMerger.{keyWords, siteWrites, itemWrites, itemWords, SourceIs, MergerIs, Placed, StreamIs, Onward, one-step, part-head}
 
 -- An emit is refused, or emits.
@@ -57,12 +55,13 @@ emit-cases g room queues =
     (λ y. inl (dueCode g heads (leastSite g queues), rw (x, y))))
     (λ x. inl (emitCode g queues room, rw x))
 
--- The house and the places after it.
-pop-house : (g : Merger) (mask n : ℕ) → popMerger g mask n .house ≡ g .house
-unfolding popMerger foldBelow popMergerAt
-pop-house g mask zero = refl
-pop-house g mask (suc n) = by-test (inMask mask (n + 1)) (λ t. rw t (pop-house g mask n)) (λ t. rw t (pop-house g mask n))
+-- what is emitted is a record
+merged-record : (m : List ℕ) → mergedOk m ≡ true → All IsRecord (recordIn m)
+unfolding mergedOk recordHead
+merged-record [] e = a-nil
+merged-record (n ∷ m) e = all-one (every-at (mergedTests (n ∷ m)) 0 e, omega (arith, merged-clear (recordHead (n ∷ m)) (merged-passed-good (n ∷ m) e .head) .kind))
 
+-- The house and the places after it.
 module _ (g : Merger) (queues : List ℕ) (mask n i : ℕ) (c : Holds g queues) (h : n ≤ sizes.sites) (l : i < n) where
   source-popped : (e : Entry) (queue : List Entry) (state last : ℕ) → inMask mask (i + 1) ≡ true → length (e ∷ queue) ≤ sizes.queue
       → SourceIs (sourceAt g i) queues i (e ∷ queue) state last → SourceIs (sourceAt (popMerger g mask n) i) (popQueues queues mask n) i queue state last
@@ -110,30 +109,6 @@ module _ {sites : ℕ} {w : World} {v : Stream} (x : StreamIs sites w v) (z : St
   abbrev g : Merger
   g = w .merger
 
-  few : sites ≤ sizes.sites
-  few = x .refines .few
-
-  -- the head of a site, as the merger reads it
-  module _ (i : ℕ) (l : i < sites) (e : Entry) (r : List Entry) (q : m .queue (i + 1) ≡ e ∷ r) where
-    pub some-queued : 0 < sourceAt g i .queued
-    some-queued = omega (arith, x .merger .source i l .queued, ap length q)
-
-    clear-head : queuedPart (w .queues) i 0 ≡ entryWords (i + 1) e
-    clear-head =
-        let c = x .merger .source i l in
-        rw q at (c .words 0 (omega (arith, ap length q)))
-
-    pub head-is : headIn (headsOf (w .queues) (g .house .sites)) i ≡ partHeadOf (i + 1) e
-    head-is =
-        let c = x .merger .holds .clear in
-        let b : i < g .house .sites = rw (x .merger .house) l in
-        heads-at (w .queues) (g .house .sites) i (c .few) b
-        ∙ head-part (g .house) (w .queues) i (c .parts i 0 b some-queued)
-        ∙ ap recordHead clear-head ∙ part-head (i + 1) e
-
-    pub head-low : coordinatorOf (e .tx) ≤ 8
-    head-low = low-coordinator few (z .invariant .parts) (i + 1) (e .tx) (head-real (z .invariant) (z .streamed) (i + 1) e r (omega arith) q .has)
-
   -- An emit.
   module _ {y : Merging} (d : Emits g (w .queues) y) (G : Entry) (r : List Entry) (q : m .queue (leastSite g (w .queues) + 1) ≡ G ∷ r) where
     abbrev k : ℕ
@@ -143,44 +118,21 @@ module _ {sites : ℕ} {w : World} {v : Stream} (x : StreamIs sites w v) (z : St
     heads = headsOf (w .queues) (g .house .sites)
 
     k-low : k < sites
-    k-low = omega (arith, d .least .below, x .merger .house)
+    k-low = low x z k (d .least) G r q
 
-    due-is : dueHead g (w .queues) ≡ partHeadOf (k + 1) G
-    due-is = head-is k k-low G r q
+    is-G : dueHead g (w .queues) ≡ partHeadOf (k + 1) G
+    is-G = due-is x z k (d .least) G r q
 
-    mask-is : dueHead g (w .queues) .mask ≡ G .mask
+    mask-G : dueHead g (w .queues) .mask ≡ G .mask
     unfolding partHeadOf
-    mask-is = ap (λ (h : RecordHead). h .mask) due-is
-
-    G-low : coordinatorOf (G .tx) ≤ 8
-    G-low = head-low k k-low G r q
-
-    inside : (i : ℕ) → i < sites → i < g .house .sites
-    inside i l = rw (x .merger .house) l
-
-    due-at : (i : ℕ) → i < sites → DueAt G (m .state (i + 1)) (m .queue (i + 1))
-    unfolding partHeadOf
-    due-at i l = go (m .queue (i + 1)) refl
-      where
-        go : (u : List Entry) → m .queue (i + 1) ≡ u → DueAt G (m .state (i + 1)) u
-        go [] e =
-            let c = x .merger .source i l in
-            let n : dueHead g (w .queues) .number ≡ G .number = ap (λ (h : RecordHead). h .number) due-is in
-            ⊎-elim
-            (λ (a : 0 < sourceAt g i .queued). absurd (omega (arith, c .queued, ap length e)))
-            (λ (a : dueHead g (w .queues) .number ≤ sourceAt g i .state). omega (arith, c .state-is))
-            (d .due .every i (inside i l))
-        go (e ∷ u) f =
-            let a = d .least .least i (inside i l) (some-queued i l e u f) in
-            let b : precedes (e .number) (coordinatorOf (e .tx)) (G .number) (coordinatorOf (G .tx)) ≡ false = rw (head-is i l e u f, due-is) at a in
-            not-precedes-rank (e .number) (coordinatorOf (e .tx)) (G .number) (coordinatorOf (G .tx)) (omega (arith, head-low i l e u f)) (omega (arith, G-low)) b
+    mask-G = ap (λ (h : RecordHead). h .mask) is-G
 
     whole-at : (i : ℕ) → i < sites → WholeAt G (i + 1) (m .queue (i + 1))
     unfolding partHeadOf
     whole-at i l = go (m .queue (i + 1)) refl
       where
         there : inMask (G .mask) (i + 1) ≡ hasPart g heads (dueHead g (w .queues)) i
-        there = rw mask-is at (d .whole i (inside i l) .there)
+        there = rw mask-G at (d .whole i (inside x z i l) .there)
 
         go : (u : List Entry) → m .queue (i + 1) ≡ u → WholeAt G (i + 1) u
         go [] e =
@@ -188,19 +140,17 @@ module _ {sites : ℕ} {w : World} {v : Stream} (x : StreamIs sites w v) (z : St
             (λ t. absurd (let a = has-part g heads (dueHead g (w .queues)) i t .queued in omega (arith, x .merger .source i l .queued, ap length e)))
             (λ t. there ∙ t)
         go (e ∷ u) f =
-            let h = head-is i l e u f in
+            let h = head-is x z i l e u f in
             by-test (hasPart g heads (dueHead g (w .queues)) i)
-            (λ t. let a = has-part g heads (dueHead g (w .queues)) i t in
-            let b : e .number ≡ G .number = rw (h, due-is) at (a .number) in
-            let c : coordinatorOf (e .tx) ≡ coordinatorOf (G .tx) = rw (h, due-is) at (a .coordinator) in
-            inl (there ∙ t, (omega arith, rw (h, due-is) at (d .whole i (inside i l) .tx t), rw (h, due-is) at (d .whole i (inside i l) .mask t))))
-            (λ t. inr (there ∙ t, λ n. set-not _ (part-had g heads (dueHead g (w .queues)) i (same i l e u f n)) t))
-          where
-            same : (i : ℕ) (l : i < sites) (e : Entry) (u : List Entry) → m .queue (i + 1) ≡ e ∷ u → rankOf e ≡ rankOf G → HasPart g heads (dueHead g (w .queues)) i
-            same i l e u f n =
-                let a = head-low i l e u f in
-                let b = G-low in
-                rw due-is (record { queued = some-queued i l e u f; number = rw (head-is i l e u f) (omega arith); coordinator = rw (head-is i l e u f) (omega arith) })
+            (λ t. inl (
+              there ∙ t,
+              (
+                part-rank x z k (d .least) G r q i l e u f (has-part g heads (dueHead g (w .queues)) i t),
+                rw (h, is-G) at (d .whole i (inside x z i l) .tx t),
+                rw (h, is-G) at (d .whole i (inside x z i l) .mask t),
+              ),
+            ))
+            (λ t. inr (there ∙ t, λ n. set-not _ (part-had g heads (dueHead g (w .queues)) i (rank-part x z k (d .least) G r q i l e u f n)) t))
 
     machine-emits : stream.Emits sites m G
     machine-emits =
@@ -210,13 +160,13 @@ module _ {sites : ℕ} {w : World} {v : Stream} (x : StreamIs sites w v) (z : St
           site-high = omega (arith, k-low);
           behind = r;
           head = q;
-          due = λ s a b. let e : s - 1 + 1 ≡ s = omega arith in rw e at (due-at (s - 1) (omega arith));
+          due = λ s a b. let e : s - 1 + 1 ≡ s = omega arith in rw e at (due-at x z k (d .least) G r q (d .due) (s - 1) (omega arith));
           whole = λ s a b. let e : s - 1 + 1 ≡ s = omega arith in rw e at (whole-at (s - 1) (omega arith));
         }
 
     -- The queues after it.
     queue-few : (i : ℕ) → i < sites → length (m .queue (i + 1)) ≤ sizes.queue
-    queue-few i l = omega (arith, x .merger .source i l .queued, x .merger .holds .clear .counts i (inside i l))
+    queue-few i l = omega (arith, x .merger .source i l .queued, x .merger .holds .clear .counts i (inside x z i l))
 
     abbrev item : Item
     item = itemOf G (m .queue)
@@ -238,14 +188,14 @@ module _ {sites : ℕ} {w : World} {v : Stream} (x : StreamIs sites w v) (z : St
         (λ u. length u ≤ sizes.queue → SourceIs (sourceAt g i) (w .queues) i u (m .state (i + 1)) (m .last (i + 1))
         → SourceIs (sourceAt (popMerger g (G .mask) (g .house .sites)) i) (popQueues (w .queues) (G .mask) (g .house .sites)) i (behindHead u) (m .state (i + 1)) (m .last (i + 1)))
         i l t
-        (λ e u f b c. source-popped g (w .queues) (G .mask) (g .house .sites) i h (h .clear .few) (inside i l) e u (m .state (i + 1)) (m .last (i + 1)) t b c)
+        (λ e u f b c. source-popped g (w .queues) (G .mask) (g .house .sites) i h (h .clear .few) (inside x z i l) e u (m .state (i + 1)) (m .last (i + 1)) t b c)
         (queue-few i l) (x .merger .source i l)))
-        (λ t. rw t (source-kept g (w .queues) (G .mask) (g .house .sites) i h (h .clear .few) (inside i l) (m .queue (i + 1)) (m .state (i + 1)) (m .last (i + 1)) t (queue-few i l) (x .merger .source i l)))
+        (λ t. rw t (source-kept g (w .queues) (G .mask) (g .house .sites) i h (h .clear .few) (inside x z i l) (m .queue (i + 1)) (m .state (i + 1)) (m .last (i + 1)) t (queue-few i l) (x .merger .source i l)))
 
     tables : Holds (y .merger) (y .queues) → MergerIs sites (y .merger) (y .queues) (emitted m G)
     tables h =
-        let a : y .merger ≡ popMerger g (G .mask) (g .house .sites) = d .merger ∙ ap (λ (n : ℕ). popMerger g n (g .house .sites)) mask-is in
-        let b : y .queues ≡ popQueues (w .queues) (G .mask) (g .house .sites) = d .queues-left ∙ ap (λ (n : ℕ). popQueues (w .queues) n (g .house .sites)) mask-is in
+        let a : y .merger ≡ popMerger g (G .mask) (g .house .sites) = d .merger ∙ ap (λ (n : ℕ). popMerger g n (g .house .sites)) mask-G in
+        let b : y .queues ≡ popQueues (w .queues) (G .mask) (g .house .sites) = d .queues-left ∙ ap (λ (n : ℕ). popQueues (w .queues) n (g .house .sites)) mask-G in
         record {
           house = ap (λ (u : Merger). u .house .sites) a ∙ ap (λ (o : House). o .sites) (pop-house g (G .mask) (g .house .sites)) ∙ x .merger .house;
           holds = h;
@@ -258,7 +208,7 @@ module _ {sites : ℕ} {w : World} {v : Stream} (x : StreamIs sites w v) (z : St
     part-same i l =
         by-test (inMask (G .mask) (i + 1))
         (λ t. rw t (with-head (λ u. recordWrites (queuedPart (w .queues) i 0) ≡ keyWords (headKeys u)) i l t
-        (λ e u f. ap recordWrites (clear-head i l e u f) ∙ writes-back (partHeadOf (i + 1) e) (keyWords (e .keys)))))
+        (λ e u f. ap recordWrites (clear-head x z i l e u f) ∙ writes-back (partHeadOf (i + 1) e) (keyWords (e .keys)))))
         (λ t. rw t)
 
     joined : (n : ℕ) → n ≤ sites → joinedWrites (w .queues) (G .mask) n ≡ itemWrites n item
@@ -275,10 +225,10 @@ module _ {sites : ℕ} {w : World} {v : Stream} (x : StreamIs sites w v) (z : St
         let n = g .house .sites in
         let ws = joinedWrites (w .queues) (dueHead g (w .queues) .mask) n in
         let e : ws ≡ itemWrites sites item =
-        ap (λ (a : ℕ). joinedWrites (w .queues) a n) mask-is ∙ ap (joinedWrites (w .queues) (G .mask)) (x .merger .house) ∙ joined sites (omega arith) in
+        ap (λ (a : ℕ). joinedWrites (w .queues) a n) mask-G ∙ ap (joinedWrites (w .queues) (G .mask)) (x .merger .house) ∙ joined sites (omega arith) in
         merged-passed-words (y .words) (d .passes)
         ∙ (λ i. recordWords (d .head i) (d .writes i))
-        ∙ ap (λ (a : RecordHead). recordWords (mergedHead a (writesIn ws)) ws) due-is
+        ∙ ap (λ (a : RecordHead). recordWords (mergedHead a (writesIn ws)) ws) is-G
         ∙ ap (λ (a : List ℕ). recordWords (mergedHead (partHeadOf (k + 1) G) (writesIn a)) a) e
 
     -- its keys are of their sites
@@ -289,9 +239,9 @@ module _ {sites : ℕ} {w : World} {v : Stream} (x : StreamIs sites w v) (z : St
         (with-head (λ u. j < sortedCount (headKeys u) → siteOf (record { sites = sites }) (sortedKey (headKeys u) j) ≡ i + 1) i l t
         (λ e u f b.
         let M = queuedPart (w .queues) i 0 in
-        let c = x .merger .holds .clear .parts i 0 (inside i l) (some-queued i l e u f) in
-        let r : recordHead M ≡ partHeadOf (i + 1) e = ap recordHead (clear-head i l e u f) ∙ part-head (i + 1) e in
-        let s : recordWrites M ≡ keyWords (e .keys) = ap recordWrites (clear-head i l e u f) ∙ writes-back (partHeadOf (i + 1) e) (keyWords (e .keys)) in
+        let c = x .merger .holds .clear .parts i 0 (inside x z i l) (some-queued x z i l e u f) in
+        let r : recordHead M ≡ partHeadOf (i + 1) e = ap recordHead (clear-head x z i l e u f) ∙ part-head (i + 1) e in
+        let s : recordWrites M ≡ keyWords (e .keys) = ap recordWrites (clear-head x z i l e u f) ∙ writes-back (partHeadOf (i + 1) e) (keyWords (e .keys)) in
         let a = rw (r, s) at (part-passed-good (g .house) M (c .part) .writes) in
         let o = all-below-at (partWriteOk (g .house) (i + 1) (keyWords (e .keys))) (sortedCount (e .keys)) j a b in
         let n = eqb-true _ _ (every-at (keyAscends (keyWords (e .keys)) j ∷ eqb (siteOf (g .house) (writeKey (keyWords (e .keys)) j)) (i + 1) ∷ []) 1 o) in
@@ -343,5 +293,5 @@ module _ {sites : ℕ} {w : World} {v : Stream} (x : StreamIs sites w v) (z : St
           some (e ∷ u) q =
               let r = x .refines in
               emit-to d e u q
-              (record { few = r .few; site = r .site; outside = r .outside; sent = r .sent; log = r .log; stream = emit-moves r out .3 .stream })
+              (record { few = r .few; site = r .site; outside = r .outside; sent = r .sent; log = r .log; stream = all-append (r .stream) (merged-record _ (d .passes)) })
               (emit-kept g (length out) (w .queues) (x .merger .holds))

@@ -21,10 +21,11 @@ use Rattle.rules.specs.CallLaws.{enlist-clear, joiner-clear}
 use Rattle.rules.specs.CourseLaws.{no-entries}
 use Rattle.rules.specs.World.{World, step, siteStep}
 use Rattle.rules.specs.World as world
+use Rattle.rules.proofs.Tables.{row-other}
 use Rattle.rules.proofs.Protocol.{Protocol, mJoin, courseAt, enlist, stop, more}
 use Rattle.rules.proofs.Refines.{Refines}
 use Rattle.rules.proofs.RefineSite.{site-channels, channels-one}
-use Rattle.rules.proofs.RefineStep.{Follows, by-code, row-other, inside, stays, site-step}
+use Rattle.rules.proofs.RefineStep.{Follows, by-code, inside, stays, site-step}
 use Rattle.rules.proofs.RefineMail.{made-one, made-in, send-words, grows-one}
 use Rattle.rules.proofs.RefineTurn.{at-place, course-is, site-course, tx-of}
 

@@ -1,14 +1,14 @@
 -- Messages that the coordinator gathers: VOTE, with the decision or the abort that it brings, and CONC, with the vote on the joined lists.
-use Prim.Native.Nat.{ℕ, _-_, _≤_, _<_}
-use mathlib.Core.Path.{_≡_, refl, sym, ap, _∙_}
-use mathlib.Core.Bool.{Bool, true, false, not}
+use Prim.Native.Nat.{ℕ, _≤_, _<_}
+use mathlib.Core.Path.{_≡_, sym, ap, _∙_}
+use mathlib.Core.Bool.{true, not}
 use mathlib.Core.Logic.{_⊎_, inl, inr, ⊎-elim}
 use mathlib.Core.List.{List, [], _∷_}
 use native.Mathlib.Omega.{arith}
 use borrow.Author.Tests.{eqb-true, eqb-false, not-true}
 use lib.Dec.{eqb}
 use lib.ListN.{length}
-use Rattle.laws.specs.Choice.{every, some, every-at, by-test}
+use Rattle.laws.specs.Choice.{every, some, every-at, by-test, some-two}
 use Rattle.kinds.specs.Sizes as sizes
 use Rattle.kinds.specs.Stage as stage
 use Rattle.kinds.specs.declared.Course.{Course}
@@ -33,11 +33,6 @@ use Rattle.rules.proofs.RefineCourse.{abort-acts, decide-acts, settled-
 use Rattle.rules.proofs.RefineQuiet.{reply-stage, votes-acts, raised-acts}
 
 -- What a vote in its turn says.
-first-or-second : (a b : Bool) → some (a ∷ b ∷ []) ≡ true → (a ≡ true) ⊎ (b ≡ true)
-first-or-second true b e = inl refl
-first-or-second false true e = inr refl
-first-or-second false false e = inl e
-
 module _ (c : Course) (a v : ℕ) (e : voteInTurn c a v ≡ true) where
   vote-stage : (c .stage ≡ stage.queued) ⊎ ((c .stage ≡ stage.prepared) × (v ≡ 0 → ⊥))
   unfolding voteInTurn
@@ -47,7 +42,7 @@ module _ (c : Course) (a v : ℕ) (e : voteInTurn c a v ≡ true) where
       ⊎-elim
       (λ (z : eqb (c .stage) stage.queued ≡ true). inl (eqb-true _ _ z))
       (λ (z : every k ≡ true). inr (eqb-true _ _ (every-at k 0 z), eqb-false v 0 (not-true _ (every-at k 1 z))))
-      (first-or-second _ _ (every-at l 0 e))
+      (some-two _ _ (every-at l 0 e))
 
   vote-outstanding : isOutstanding c a ≡ true
   unfolding voteInTurn

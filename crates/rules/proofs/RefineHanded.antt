@@ -7,6 +7,7 @@ use mathlib.Core.List.{List, [], _∷_, map}
 use native.Mathlib.Omega.{arith}
 use lib.Dec.{eqb}
 use lib.ListN.{length, getD}
+use Rattle.laws.specs.Choice.{set-not}
 use Rattle.kinds.specs.Sizes as sizes
 use Rattle.kinds.specs.Kind as kind
 use Rattle.kinds.specs.declared.Site.{Site}
@@ -24,19 +25,15 @@ use Rattle.rules.specs.Course.{headOf}
 use Rattle.rules.specs.Install.{stateWords}
 use Rattle.rules.specs.Deliver.{arrivalCode, nextCode, takeKind, messageAt, messageOf}
 use Rattle.rules.specs.CallLaws.{arrival-clear, next-clear}
-use Rattle.rules.specs.World.{World, step, siteStep, Is, here, there, Handed}
+use Rattle.rules.specs.World.{World, step, siteStep, here, Handed}
 use Rattle.rules.specs.World as world
-use Rattle.rules.proofs.Tables.{All, a-nil, a-cons}
+use Rattle.rules.proofs.Tables.{All, a-nil, a-cons, all-is}
 use Rattle.rules.proofs.Protocol.{Protocol, Msg, mAbort, Rec, rPart, rState, Next}
 use Rattle.rules.proofs.Invariants.{Invariant}
-use Rattle.rules.proofs.Frames.{in-range, set-not}
+use Rattle.rules.proofs.Frames.{in-range}
 use Rattle.rules.proofs.Refines.{entriesIn, encode, Posted, recWords, entryWords, partHeadOf, IsRecord, sliceOf, SiteIs, Refines}
 use Rattle.rules.proofs.RefineStep.{Follows, toldBy, by-code, inside, stays}
 use Rattle.rules.proofs.RefineMessage.{headIn, toldTaken, takes}
-
-pub all-is : {A : Type 0} {P : A → Type 0} {a : A} {l : List A} → All P l → Is a l → P a
-all-is (a-cons p ps) here = p
-all-is (a-cons p ps) (there i) = all-is ps i
 
 -- A record of a log is no message.
 log-record : (s : ℕ) (a : Rec) → IsRecord (recWords s a)

@@ -1,5 +1,5 @@
 -- A copy with the writes of an item laid over it: at each key the value that the item leaves there.
-use Prim.Native.Nat.{ℕ, zero, suc, _+_, _*_, _/_, _≤_, _<_}
+use Prim.Native.Nat.{ℕ, zero, suc, _+_, _*_, _≤_, _<_}
 use mathlib.Core.Path.{_≡_, refl, sym, ap, _∙_}
 use mathlib.Core.Bool.{false}
 use mathlib.Core.List.{List, _++_}
@@ -8,20 +8,20 @@ use borrow.Author.Tests.{eqb-true, eqb-false, ne-eqb}
 use lib.Dec.{eqb}
 use lib.ListN.{length, getD, length-set, length-append, List·getD-append}
 use lib.Seq.{getD-set-same, getD-set-other, getD-append-add}
-use Rattle.laws.specs.Choice.{pick, by-test}
+use Rattle.laws.specs.Choice.{pick, by-test, set-not, unset}
 use Rattle.laws.specs.Scan.{foldBelow, split-last}
 use Rattle.kinds.specs.Sizes as sizes
 use Rattle.kinds.specs.Word as word
 use Rattle.kinds.specs.State.{Value}
 use Rattle.kinds.specs.declared.House.{House}
 use Rattle.kinds.specs.declared.Keys.{Keys}
+use Rattle.rules.specs.MergerJoin.{halved}
 use Rattle.rules.specs.House.{inMask, siteOf}
 use Rattle.rules.specs.Keys.{wroteKey, wroteValue, sortedKey, sortedCount}
 use Rattle.rules.specs.KeysLaws.{by-order, words-length, sorted-low, sorted-wrote, wrote-sorted, word-key, word-value}
 use Rattle.rules.specs.Record.{writeKey, writeValue}
 use Rattle.rules.specs.Merger.{writesIn}
 use Rattle.rules.specs.Copy.{copyValue, putWrites}
-use Rattle.rules.proofs.Frames.{set-not, unset}
 use Rattle.rules.proofs.Stream.{Item}
 use Rattle.rules.proofs.StreamClaims.{leaves, positive-site}
 use Rattle.rules.proofs.RefineMerger.{keyWords, siteWrites, itemWrites, Placed}
@@ -100,11 +100,8 @@ module _ (b : Keys) (k : ℕ) (v : Value) where
       (λ t. rw t (laid-miss (sortedCount b) (omega arith) (λ j l e. set-not _ (rw e at (sorted-wrote b j (sorted-low b j l))) t)))
 
 -- The writes of an item, site by site.
-half : (n k : ℕ) → n ≡ sizes.write * k → n / sizes.write ≡ k
-half n k e = omega arith
-
 key-count : (b : Keys) → writesIn (keyWords b) ≡ sortedCount b
-key-count b = half (length (keyWords b)) (sortedCount b) (words-length b (sortedCount b))
+key-count b = halved (length (keyWords b)) (sortedCount b) (words-length b (sortedCount b))
 
 site-size : (x : Item) (i : ℕ) → length (siteWrites x i) ≡ sizes.write * writesIn (siteWrites x i)
 site-size x i =
@@ -121,7 +118,7 @@ item-size (suc n) x =
     omega (arith, length-append (itemWrites n x) (siteWrites x n))
 
 item-count : (n : ℕ) (x : Item) → writesIn (itemWrites n x ++ siteWrites x n) ≡ writesIn (itemWrites n x) + writesIn (siteWrites x n)
-item-count n x = half _ _ (length-append (itemWrites n x) (siteWrites x n) ∙ omega (arith, item-size n x, site-size x n))
+item-count n x = halved _ _ (length-append (itemWrites n x) (siteWrites x n) ∙ omega (arith, item-size n x, site-size x n))
 
 module _ {sites : ℕ} (x : Item) (c : Placed sites x) (k : ℕ) (h : k < sizes.keys) where
   abbrev o : House

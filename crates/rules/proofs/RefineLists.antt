@@ -1,10 +1,11 @@
 -- The gathered lists with words put at one place.
-use Prim.Native.Nat.{ℕ, _+_, _-_, _*_, _≤_, _<_}
+use Prim.Native.Nat.{ℕ, _+_, _*_, _≤_, _<_}
 use mathlib.Core.Path.{_≡_, sym, ap, _∙_}
 use mathlib.Core.List.{List, _++_}
 use native.Mathlib.Omega.{arith}
 use lib.ListN.{length, take, drop, set, length-append}
 use lib.Seq.{getD-set-same, getD-set-other, take-add, drop-drop, take-all}
+use Rattle.laws.specs.Choice.{by-same}
 use Rattle.laws.specs.Overlay.{putAt}
 use Rattle.kinds.specs.Sizes as sizes
 use Rattle.kinds.specs.Stage as stage
@@ -18,7 +19,7 @@ use Rattle.rules.specs.MergerWords.{length-put, put-before, put-behind, 
 use Rattle.rules.specs.World.{upd}
 use Rattle.rules.proofs.Tables.{upd-same, upd-other}
 use Rattle.rules.proofs.Refines.{ListIs, ListsAre}
-use Rattle.rules.proofs.RefineLive.{Spot, by-same}
+use Rattle.rules.proofs.RefineLive.{Spot}
 
 -- the words put are read back
 put-back : (a : ℕ) (d ws : List ℕ) (n : ℕ) → a ≤ length d → length ws ≡ n → take n (drop a (putAt a d ws)) ≡ ws

@@ -1,5 +1,5 @@
 -- A site's live table against the protocol's row: where a part stands, and the table with one place changed.
-use Prim.Native.Nat.{ℕ, _-_, _≤_, _<_}
+use Prim.Native.Nat.{ℕ, _≤_, _<_}
 use mathlib.Core.Path.{_≡_, sym, ap, _∙_}
 use mathlib.Core.Bool.{true, not}
 use mathlib.Core.List.{List, [], _∷_}
@@ -8,7 +8,7 @@ use borrow.Author.Tests.{eqb-true, eqb-false, eq-eqb, ne-eqb, not-true}
 use lib.Dec.{eqb}
 use lib.ListN.{set, length-set}
 use lib.Seq.{getD-set-same, getD-set-other}
-use Rattle.laws.specs.Choice.{every-at, by-test}
+use Rattle.laws.specs.Choice.{every-at, by-test, by-same}
 use Rattle.laws.specs.Scan.{at-first, before-first}
 use Rattle.kinds.specs.Sizes as sizes
 use Rattle.kinds.specs.Stage as stage
@@ -43,9 +43,6 @@ by-free b f g =
     by-test (eqb (b .course .stage) stage.free)
     (λ e. f (eqb-true (b .course .stage) stage.free e))
     (λ e. g (eqb-false (b .course .stage) stage.free e))
-
-pub by-same : {P : Type 0} (i j : ℕ) → (i ≡ j → P) → ((i ≡ j → ⊥) → P) → P
-by-same i j f g = by-test (eqb i j) (λ e. f (eqb-true i j e)) (λ e. g (eqb-false i j e))
 
 module _ {live : List Sub} {row : ℕ → Sub} (l : LiveIs live row) where
   -- the part of t at its place

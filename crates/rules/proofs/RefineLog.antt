@@ -2,6 +2,7 @@
 use Prim.Native.Nat.{ℕ, zero, suc, _+_, _-_, _≤_, _<_}
 use mathlib.Core.Path.{_≡_, refl, sym, ap, _∙_}
 use mathlib.Core.Bool.{true}
+use mathlib.Core.Logic.{inl, inr}
 use mathlib.Core.List.{List, [], _∷_, _++_, map, map-append}
 use native.Mathlib.Omega.{arith}
 use borrow.Author.Tests.{ltb-true, eqb-true}
@@ -13,6 +14,7 @@ use Rattle.laws.specs.Scan.{foldBelow}
 use Rattle.kinds.specs.Sizes as sizes
 use Rattle.kinds.specs.Stage as stage
 use Rattle.kinds.specs.declared.Keys.{Keys}
+use Rattle.kinds.specs.declared.Course.{Course}
 use Rattle.kinds.specs.declared.Sub.{Sub}
 use Rattle.kinds.specs.declared.Entry.{Entry}
 use Rattle.kinds.specs.declared.Site.{Site}
@@ -24,7 +26,7 @@ use Rattle.rules.specs.KeysLaws.{by-order}
 use Rattle.rules.specs.Live.{partAt, isQueued}
 use Rattle.rules.specs.History.{slotOf, remembered, forgotten, forgetInto}
 use Rattle.rules.specs.Queue.{leastQueued, isDue, stateNumber}
-use Rattle.rules.specs.QueueLaws.{least-first, state-clock, state-open, state-decided}
+use Rattle.rules.specs.QueueLaws.{least-first, state-clock, state-open, state-decided, StateIs, state-is}
 use Rattle.rules.specs.Valid.{siteOk}
 use Rattle.rules.specs.Effect.{Effect, refused}
 use Rattle.rules.specs.Install.{installCode, entryOf, partHead, partWords, baseAfter, installedAt, installOf, reportCode, stateWords, reportOf}
@@ -32,12 +34,12 @@ use Rattle.rules.specs.CallLaws.{install-clear, report-clear}
 use Rattle.rules.specs.World.{World, upd, step, logStep, recordIn}
 use Rattle.rules.specs.World as world
 use Rattle.rules.specs.Book as book
-use Rattle.rules.proofs.Tables.{upd-same, upd-other}
-use Rattle.rules.proofs.Protocol.{Protocol, Rec, rPart, rState, partsOf, LeastQueued, StateAt, install, report, stop, more}
+use Rattle.rules.proofs.Tables.{upd-same, upd-other, row-other}
+use Rattle.rules.proofs.Protocol.{Protocol, Rec, rPart, rState, partsOf, LeastQueued, StateAt, install, report, stop, more, Bound}
 use Rattle.rules.proofs.StepParts.{parts-append, parts-state}
 use Rattle.rules.proofs.Refines.{IsFree, HistoryIs, LiveIs, recWords, entryWords, partHeadOf, Refines}
 use Rattle.rules.proofs.RefineTurn.{part-place, site-gone}
-use Rattle.rules.proofs.RefineStep.{Follows, toldBy, by-code, row-other, inside, unlogged, log-step}
+use Rattle.rules.proofs.RefineStep.{Follows, toldBy, by-code, inside, unlogged, log-step}
 
 -- a record written behind the log
 log-more : (s : ℕ) (l : List (List ℕ)) (m : List Rec) (a : Rec) (ws : List ℕ) → l ≡ map (recWords s) m → recordIn ws ≡ recWords s a ∷ []
@@ -61,7 +63,20 @@ state-at live p s clock l e =
           omega (arith, state-open live clock sizes.live i h (ap (λ (b : Sub). b .course .stage) q ∙ g), ap (λ (b : Sub). b .course .number) q);
       numbers = λ u g. let (i, h, q, x) = l .found u (λ f. omega arith) in
           omega (arith, state-decided live clock sizes.live i h (ap (λ (b : Sub). b .course .stage) q ∙ g), ap (λ (b : Sub). b .course .number) q);
+      is = one (state-is live clock sizes.live);
     }
+  where
+    n : ℕ
+    n = stateNumber live clock sizes.live
+
+    one : StateIs live clock sizes.live n → Bound p s n
+    one (inl k) = inl (k ∙ e)
+    one (inr (inl (j, b, g, k))) =
+        let c = ap (λ (b : Sub). b .course) (l .holds j b (λ f. omega arith)) in
+        inr (inl (_, ap (λ (c : Course). c .stage) (sym c) ∙ g, k ∙ ap (λ (c : Course). c .number) c))
+    one (inr (inr (j, b, g, k))) =
+        let c = ap (λ (b : Sub). b .course) (l .holds j b (λ f. omega arith)) in
+        inr (inr (_, ap (λ (c : Course). c .stage) (sym c) ∙ g, k ∙ ap (λ (c : Course). c .number - 1) c))
 
 module _ {sites : ℕ} {w : World} {p : Protocol} (r : Refines sites w p) (s : ℕ) (out : List ℕ) where
   abbrev here : Site

@@ -10,7 +10,7 @@ use borrow.Author.Tests.{eqb-true, eqb-false, ltb-true, lt-ltb}
 use lib.Dec.{eqb, ltb}
 use lib.ListN.{length, getD, length-map}
 use lib.Seq.{getD-take, getD-set-same, getD-set-other, length-take-le}
-use Rattle.laws.specs.Choice.{every, every-at, by-test}
+use Rattle.laws.specs.Choice.{every, every-at, by-test, set-not}
 use Rattle.laws.specs.Overlay.{putAt}
 use Rattle.laws.specs.Pair.{precedes-rank}
 use Rattle.kinds.specs.Kind as kind
@@ -22,25 +22,24 @@ use Rattle.kinds.specs.declared.Answer.the-variants.{Done}
 use Rattle.rules.specs.House.{coordinatorOf, isSite}
 use Rattle.rules.specs.MessageLaws.{site-clear}
 use Rattle.rules.specs.Record.{recordHead, recordShape, partOk}
-use Rattle.rules.specs.RecordLaws.{part-clear, part-passed-good, state-clear, state-passed-good}
+use Rattle.rules.specs.RecordLaws.{part-clear, part-passed-good, state-clear, state-passed-good, part-shape, state-shape}
 use Rattle.rules.specs.Install.{stateWords}
 use Rattle.rules.specs.Merger.{Merging, doneMerger, refusedMerger, sourceAt, withSource, placeAt, mergeOf, pastSource}
 use Rattle.rules.specs.MergerClear.{PartTaken}
 use Rattle.rules.specs.MergerKept.{Holds, merge-kept}
 use Rattle.rules.specs.World.{World, Handed, upd, step, mergerStep, mergeStep, stepTaken, sameWords, recordIn}
 use Rattle.rules.specs.World as world
-use Rattle.rules.proofs.Tables.{upd-cases, upd-same, upd-other, all-at}
+use Rattle.rules.proofs.Tables.{upd-cases, upd-same, upd-other, all-at, all-is}
 use Rattle.rules.proofs.Protocol.{Protocol, Rec, rPart, rState}
-use Rattle.rules.proofs.Frames.{set-not, in-range}
+use Rattle.rules.proofs.Frames.{in-range}
 use Rattle.rules.proofs.Refines.{recWords, entryWords, partHeadOf}
 use Rattle.rules.proofs.Stream as stream
 use Rattle.rules.proofs.Stream.{Stream, Steps, NextRecord, rankOf}
 use Rattle.rules.proofs.StreamInv.{NotAbove}
 use Rattle.rules.proofs.StreamReached.{Standing}
 use Rattle.rules.proofs.Told.{toldSteps}
-use Rattle.rules.proofs.RefineHanded.{all-is}
 use Rattle.rules.proofs.RefineMerger.{itemWords, MergerIs, StreamIs, Onward, one-step, posted-no-record, is-map, part-head, state-head, item-head, map-at, same-words, words-same}
-use Rattle.rules.proofs.RefineQueue.{TakesPart, TakesState, merge-cases, part-whole, state-whole, tx-low, more-queued, still-queued}
+use Rattle.rules.proofs.RefineQueue.{TakesPart, TakesState, merge-cases, tx-low, more-queued, still-queued}
 
 module _ {sites : ℕ} {w : World} {v : Stream} (x : StreamIs sites w v) where
   abbrev p : Protocol
@@ -335,8 +334,8 @@ module _ {sites : ℕ} {w : World} {v : Stream} (x : StreamIs sites w v) where
         go (inr (inl t)) =
             let c = part-clear (w .merger .house) (recordHead ws) (part-passed-good (w .merger .house) ws (t .ok) .head) in
             let (e, l) = index (recordHead ws .site) (c .site) in
-            part-on (recordHead ws .site - 1) e l t (rw e at (from-log ws h (part-whole (w .merger .house) ws (t .ok)) (omega (arith, c .kind))))
+            part-on (recordHead ws .site - 1) e l t (rw e at (from-log ws h (part-shape (w .merger .house) ws (t .ok)) (omega (arith, c .kind))))
         go (inr (inr t)) =
             let c = state-clear (w .merger .house) (recordHead ws) (state-passed-good (w .merger .house) ws (t .ok) .head) in
             let (e, l) = index (recordHead ws .site) (c .site) in
-            state-on (recordHead ws .site - 1) e l t (rw e at (from-log ws h (state-whole (w .merger .house) ws (t .ok)) (omega (arith, c .kind))))
+            state-on (recordHead ws .site - 1) e l t (rw e at (from-log ws h (state-shape (w .merger .house) ws (t .ok)) (omega (arith, c .kind))))

@@ -1,10 +1,10 @@
 -- A message taken, by its kind, as moves.
-use Prim.Native.Nat.{ℕ, _+_, _-_, _*_, _≤_}
+use Prim.Native.Nat.{ℕ, _+_, _*_, _≤_}
 use mathlib.Core.Path.{_≡_, refl, sym, ap, _∙_}
 use mathlib.Core.Bool.{Bool, true, false, not}
 use mathlib.Core.List.{List, [], _∷_, _++_}
 use native.Mathlib.Omega.{arith}
-use borrow.Author.Tests.{eqb-true, eqb-false, ltb-true, ltb-false, leb-true, not-true}
+use borrow.Author.Tests.{eqb-true, eqb-false, ltb-true, leb-true, not-true}
 use lib.Dec.{eqb, leb, ltb}
 use lib.ListN.{getD, List·getD-eq-default}
 use Rattle.laws.specs.Choice.{pick, every, every-at, by-test}
@@ -44,7 +44,7 @@ use Rattle.rules.proofs.Frames.{said}
 use Rattle.rules.proofs.Refines.{IsFree, kindOf, txIn, clockIn, argumentIn, entriesIn, sliceOf, SiteIs, Refines}
 use Rattle.rules.proofs.RefineLive.{place-none, free-spot}
 use Rattle.rules.proofs.RefineStep.{Follows, by-code, stays}
-use Rattle.rules.proofs.RefineTurn.{AtPlace, at-place, course-is}
+use Rattle.rules.proofs.RefineTurn.{AtPlace, course-is, by-held}
 use Rattle.rules.proofs.RefineActs.{Acts, acts-follow}
 use Rattle.rules.proofs.RefineCertify.{covers, certifies}
 use Rattle.rules.proofs.RefineQuiet.{pass-acts, joined-acts, commits-acts, aborts-acts}
@@ -125,14 +125,6 @@ module _ {sites : ℕ} {w : World} {p : Protocol} (r : Refines sites w p) (i : I
   unfolding passed
   passes-by m next = acts-follow r s l h (keeping lists (passed x a)) (pass-acts p s a (r .few) low high y m next)
 
-  -- held, or not
-  by-held : {P : Type 0} (t : ℕ) → (AtPlace x p s t (placeOf (x .live) t) → ltb (placeOf (x .live) t) sizes.live ≡ true → P)
-      → (IsFree (p .live s t) → ltb (placeOf (x .live) t) sizes.live ≡ false → P) → P
-  by-held t f g =
-      by-test (ltb (placeOf (x .live) t) sizes.live)
-      (λ e. f (at-place x p s t (y .live) (ltb-true _ _ e)) e)
-      (λ e. g (place-none (y .live) t (ltb-false _ _ e)) e)
-
   -- JOIN
   takes-join : (t : ℕ) → Next p a s (mJoin t) → Taken kind.join t (keeping lists (takeJoin x (headIn a s n (mJoin t)) (placeOf (x .live) t)))
   unfolding takeJoin joinAt joinTurn headOf spoken sendTo messageWords
@@ -197,17 +189,17 @@ module _ {sites : ℕ} {w : World} {p : Protocol} (r : Refines sites w p) (i : I
   handles (mJoin t) e next good = absurd (let z : _≡_ {A = ℕ} 0 1 = cc in omega arith)
   handles (mJoined t v) o next good =
       let place = placeOf (x .live) t in
-      by-held t
+      by-held x p s (y .live) t
       (λ A e. rw e
       (taken-step t (replyCode (joinedInTurn (subAt x place .course) a) false) place (quietly (withCourseOf (arrived x place a) (withReply (subAt x place .course) a v 0)))
       (λ c. let d = both (eqb (subAt x place .course .stage) stage.active) (isOutstanding (subAt x place .course) a) (reply-clear (joinedInTurn (subAt x place .course) a) false c .turn) in
       (_, joined-acts p s a (r .few) low high y place A v next (sym (ap (λ (z : Course). z .stage) (course-is A)) ∙ eqb-true _ _ (d .0)) (sym (ap (λ (z : Course). isOutstanding z a) (course-is A)) ∙ d .1)))))
       (λ f e. rw e (passes-by (mJoined t v) next))
-  handles (mPrepare t k mask) o next good = by-held t (λ A e. rw e (takes-prepare t k mask next A)) (λ f e. rw e (passes-prepare t k mask next f))
-  handles (mConc t es) o next good = by-held t (λ A e. rw e (takes-conc t es next good A)) (λ f e. rw e (passes-by (mConc t es) next))
+  handles (mPrepare t k mask) o next good = by-held x p s (y .live) t (λ A e. rw e (takes-prepare t k mask next A)) (λ f e. rw e (passes-prepare t k mask next f))
+  handles (mConc t es) o next good = by-held x p s (y .live) t (λ A e. rw e (takes-conc t es next good A)) (λ f e. rw e (passes-by (mConc t es) next))
   handles (mCert t es) o next good =
       let place = placeOf (x .live) t in
-      by-held t
+      by-held x p s (y .live) t
       (λ A e. rw e
       (taken-step t (replyCode (eqb (subAt x place .course .stage) stage.prepared) (spentTo x a)) place (certifiedStep (arrived x place a) a (voteOf x place es (entryCount es)))
       (λ c. let d = reply-clear (eqb (subAt x place .course .stage) stage.prepared) (spentTo x a) c .turn in
@@ -217,14 +209,14 @@ module _ {sites : ℕ} {w : World} {p : Protocol} (r : Refines sites w p) (i : I
   handles (mVote t k v) o next good =
       let place = placeOf (x .live) t in
       let c = subAt x place .course in
-      by-held t
+      by-held x p s (y .live) t
       (λ A e. rw e
       (taken-step t (replyCode (voteInTurn c a v) (every (voteDecides c a v ∷ spentToAll x (c .mask) ∷ []))) place (voteStep (raise (arrived x place a) k) a v)
       (λ z. vote-acts p s a (r .few) low high i y place A k v next (reply-clear (voteInTurn c a v) (every (voteDecides c a v ∷ spentToAll x (c .mask) ∷ [])) z .turn))))
       (λ f e. rw e (passes-by (mVote t k v) next))
   handles (mCommit t k) o next good =
       let place = placeOf (x .live) t in
-      by-held t
+      by-held x p s (y .live) t
       (λ A e. rw e
       (taken-step t (replyCode (eqb (subAt x place .course .stage) stage.queued) false) place (quietly (withCourseOf (raise (arrived x place a) k) (withDecision (subAt x place .course) k)))
       (λ c. (
@@ -235,7 +227,7 @@ module _ {sites : ℕ} {w : World} {p : Protocol} (r : Refines sites w p) (i : I
       (λ f e. rw e (passes-by (mCommit t k) next))
   handles (mAbort t) o next good =
       let place = placeOf (x .live) t in
-      by-held t
+      by-held x p s (y .live) t
       (λ A e. rw e
       (taken-step t (replyCode (not (eqb (subAt x place .course .stage) stage.decided)) false) place (quietly (withSubOf (arrived x place a) noSub))
       (λ c. (

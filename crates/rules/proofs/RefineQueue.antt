@@ -8,7 +8,7 @@ use native.Mathlib.Omega.{arith}
 use borrow.Author.Tests.{eqb-true, eqb-false, ltb-true, ltb-false}
 use lib.Dec.{eqb, ltb}
 use lib.ListN.{length-append}
-use Rattle.laws.specs.Choice.{every-at, picked-left, by-test}
+use Rattle.laws.specs.Choice.{picked-left, by-test}
 use Rattle.laws.specs.Cause.{cause, clear-at}
 use Rattle.laws.specs.Overlay.{putAt}
 use Rattle.kinds.specs.Sizes as sizes
@@ -22,13 +22,13 @@ use Rattle.kinds.specs.declared.Source.{Source}
 use Rattle.kinds.specs.declared.Merger.{Merger}
 use Rattle.rules.specs.House.{coordinatorOf, isTx}
 use Rattle.rules.specs.MessageLaws.{site-clear}
-use Rattle.rules.specs.Record.{recordHead, recordShape, partTests, partOk, stateTests, stateOk}
-use Rattle.rules.specs.RecordLaws.{shape-clear, part-clear, part-passed-good}
+use Rattle.rules.specs.Record.{recordHead, partOk, stateOk}
+use Rattle.rules.specs.RecordLaws.{shape-clear, part-clear, part-passed-good, part-shape}
 use Rattle.rules.specs.Merger.{doneMerger, refusedMerger, sourceAt, withSource, placeAt, placeWords, queuedPart, mergePartCode, mergePart, mergeStateCode, mergeState, mergeCode, mergeOf}
 use Rattle.rules.specs.MergerClear.{PartTaken, part-taken, merge-clear, taken-part, part-short}
 use Rattle.rules.specs.MergerKept.{Holds}
 use Rattle.rules.specs.MergerWords.{put-part-back, put-elsewhere}
-use Rattle.rules.proofs.StepParts.{last-cases}
+use Rattle.rules.proofs.Tables.{last-cases}
 use Rattle.rules.proofs.Refines.{entryWords}
 use Rattle.rules.proofs.Stream.{rankOf}
 use Rattle.rules.proofs.RefineMerger.{SourceIs}
@@ -74,14 +74,6 @@ merge-cases g queues m =
     (λ d. inl (mergeStateCode c r, rw (e, k, d)))))
     (λ e. inl (mergeCode g queues m, rw e))
 
-pub part-whole : (o : House) (m : List ℕ) → partOk o m ≡ true → recordShape m ≡ true
-unfolding partOk
-part-whole o m e = every-at (partTests o m) 0 e
-
-pub state-whole : (o : House) (m : List ℕ) → stateOk o m ≡ true → recordShape m ≡ true
-unfolding stateOk
-state-whole o m e = every-at (stateTests o m) 0 e
-
 pub tx-low : (o : House) (t : ℕ) → isTx o t ≡ true → coordinatorOf t ≤ o .sites
 unfolding isTx
 tx-low o t e = site-clear o (coordinatorOf t) (picked-left _ _ e) .high
@@ -113,7 +105,7 @@ module _ (g : Merger) (queues ws : List ℕ) (i : ℕ) (h : Holds g queues) (l :
   new-part : queuedPart after i (sourceAt g i .queued) ≡ ws
   new-part =
       let f = h .clear .few in
-      let s = shape-clear ws (part-whole (g .house) ws o) in
+      let s = shape-clear ws (part-shape (g .house) ws o) in
       put-part-back queues ws i (sourceAt g i .queued) (h .clear .size) (omega arith) c (part-short (g .house) ws o) (omega arith) (s .whole)
 
   pub more-queued : (e : Entry) (queue : List Entry) (state last : ℕ) → ws ≡ entryWords (i + 1) e → coordinatorOf (e .tx) < 16

@@ -1,5 +1,5 @@
 -- Messages taken without a reply: JOINED, COMMIT, ABORT, a yes that is not the last, and any for a transaction not held.
-use Prim.Native.Nat.{ℕ, _-_, _≤_, max}
+use Prim.Native.Nat.{ℕ, _≤_, max}
 use mathlib.Core.Path.{_≡_, refl, sym, ap, _∙_}
 use mathlib.Core.Bool.{true}
 use mathlib.Core.List.{List, []}
@@ -14,10 +14,9 @@ use Rattle.rules.specs.Effect.{settle}
 use Rattle.rules.specs.Course.{takenFrom, raise, quietly, withSubOf, withCourseOf, withReply, withDecision, isOutstanding}
 use Rattle.rules.specs.Deliver.{arrived}
 use Rattle.rules.specs.World.{upd}
-use Rattle.rules.proofs.Tables.{upd-same, upd-other}
+use Rattle.rules.proofs.Tables.{upd-same, upd-other, row-other}
 use Rattle.rules.proofs.Protocol.{Protocol, Msg, mJoined, mVote, mCommit, mAbort, Next, AtStage, courseAt, withCourseAt, withLive, took, raised, joined, votes, commits, aborts, passes}
 use Rattle.rules.proofs.Refines.{sliceOf, SiteIs}
-use Rattle.rules.proofs.RefineStep.{row-other}
 use Rattle.rules.proofs.RefineTurn.{AtPlace, course-is, site-course, site-gone, decision-stage}
 use Rattle.rules.proofs.RefineActs.{Acts}
 use Rattle.rules.proofs.RefineTake.{took-site, quiet-acts}

@@ -27,16 +27,14 @@ use Rattle.rules.specs.Merger.{writesIn}
 use Rattle.rules.specs.Copy.{copyNumber, copyCoordinator, copyValue, replayCode, replayed, replayOf}
 use Rattle.rules.specs.World.{World, Handed, step, copyStep, replayStep, stepTaken}
 use Rattle.rules.specs.World as world
-use Rattle.rules.proofs.Tables.{all-at, upd-cases}
+use Rattle.rules.proofs.Tables.{all-at, upd-cases, upd-both, all-is}
 use Rattle.rules.proofs.Protocol.{Rec, rPart, rState}
-use Rattle.rules.proofs.Frames.{upd-both}
 use Rattle.rules.proofs.Refines.{recWords, partHeadOf}
 use Rattle.rules.proofs.Stream as stream
 use Rattle.rules.proofs.Stream.{Item, Stream, itemRank}
 use Rattle.rules.proofs.StreamInv.{pastItem, itemAt, item-low}
 use Rattle.rules.proofs.StreamReached.{Standing}
 use Rattle.rules.proofs.StreamClaims.{lastRank, prefix, item-rank, leftIn, left-more}
-use Rattle.rules.proofs.RefineHanded.{all-is}
 use Rattle.rules.proofs.RefineMerger.{itemWrites, itemHead, itemWords, Placed, endNumber, endCoordinator, CopyIs, StreamIs, Onward, one-step, posted-no-record, is-map, part-head, state-head, item-head, map-at, words-same}
 use Rattle.rules.proofs.RefineLaid.{laid, length-put, put-header, put-value, laid-item}
 

@@ -1,5 +1,5 @@
 -- Messages that a participant answers: JOIN, PREPARE and CERT.
-use Prim.Native.Nat.{ℕ, _-_, _≤_, max}
+use Prim.Native.Nat.{ℕ, _≤_, max}
 use mathlib.Core.Path.{_≡_, refl, sym, ap, _∙_}
 use mathlib.Core.Bool.{Bool, false}
 use mathlib.Core.List.{List, [], _∷_}
@@ -23,12 +23,11 @@ use Rattle.rules.specs.Course.{newSub, takenFrom, sendTo, raise, withCou
 use Rattle.rules.specs.Deliver.{arrived}
 use Rattle.rules.specs.World.{upd}
 use Rattle.rules.specs.Book as book
-use Rattle.rules.proofs.Tables.{upd-other}
+use Rattle.rules.proofs.Tables.{upd-other, row-same, row-other}
 use Rattle.rules.proofs.Protocol.{Protocol, mJoin, mJoined, mPrepare, mConc, mCert, mVote, Next, AtStage, courseAt, Covers, Certified, inst, joins, full, prepared, lost, unknown, certified, rejects}
 use Rattle.rules.proofs.Refines.{IsFree, sliceOf, SiteIs}
 use Rattle.rules.proofs.RefineLive.{Spot}
 use Rattle.rules.proofs.RefineSite.{site-sub, new-sub, new-stage}
-use Rattle.rules.proofs.RefineStep.{row-same, row-other}
 use Rattle.rules.proofs.RefineTurn.{AtPlace, course-is, site-course, mark-stage, tx-of}
 use Rattle.rules.proofs.RefineActs.{Acts}
 use Rattle.rules.proofs.RefineTake.{reply-site, reply-made, reply-acts}

@@ -1,5 +1,5 @@
 -- The commit request, as a move: the coordinator makes its list, and sends PREPARE where it is not alone.
-use Prim.Native.Nat.{ℕ, _-_, _*_, _≤_, _<_}
+use Prim.Native.Nat.{ℕ, _*_, _≤_, _<_}
 use mathlib.Core.Path.{_≡_, refl, sym, ap, _∙_}
 use mathlib.Core.Bool.{true, false}
 use mathlib.Core.List.{List, []}
@@ -16,6 +16,7 @@ use Rattle.kinds.specs.declared.Turn.{Turn}
 use Rattle.kinds.specs.declared.Site.{Site}
 use Rattle.kinds.specs.declared.Answer.the-variants.{Done}
 use Rattle.kinds.specs.State.{subAt, withCourse, withSub}
+use Rattle.rules.specs.JoinLaws.{join-whole}
 use Rattle.rules.specs.House.{coordinatorOf}
 use Rattle.rules.specs.Message.{entryCount}
 use Rattle.rules.specs.Live.{partAt, allHeard}
@@ -30,18 +31,18 @@ use Rattle.rules.specs.CourseLaws.{no-entries}
 use Rattle.rules.specs.Course.{withCourseOf, sendAll, withRequest, prepareStep, castStep}
 use Rattle.rules.specs.World.{upd}
 use Rattle.rules.specs.Book as book
-use Rattle.rules.proofs.Tables.{upd₂, upd₂-same, upd-same, upd-other}
+use Rattle.rules.proofs.Tables.{upd₂, upd₂-same, upd-same, upd-other, row-same, row-other}
 use Rattle.rules.proofs.Protocol.{Protocol, Msg, mPrepare, inst, Within, Moves, courseAt, AtStage, Certified, postedAll, withCourseAt, set-gathered, set-asked, set-mask, set-made, set-list, request, stop, more}
 use Rattle.rules.proofs.Invariants.{In, Invariant}
 use Rattle.rules.proofs.Reached.{invariant-moves}
 use Rattle.rules.proofs.Refines.{IsFree, kindOf, clockIn, argumentIn, entriesIn, sliceOf, SiteIs}
 use Rattle.rules.proofs.RefineLive.{live-set}
 use Rattle.rules.proofs.RefineSite.{site-channels}
-use Rattle.rules.proofs.RefineStep.{Elsewhere, row-same, row-other}
+use Rattle.rules.proofs.RefineStep.{Elsewhere}
 use Rattle.rules.proofs.RefineMail.{none, grows-all}
 use Rattle.rules.proofs.RefineTurn.{AtPlace, course-is, tx-of}
 use Rattle.rules.proofs.RefineActs.{Acts, acts-then, settled-turn, settled-again, others-elsewhere, members, send-all-site, send-all-made}
-use Rattle.rules.proofs.RefineCertify.{covers, certifies, concurrent-low, join-within, join-whole}
+use Rattle.rules.proofs.RefineCertify.{covers, certifies, concurrent-low, join-within}
 use Rattle.rules.proofs.RefineLists.{list-first, lists-put}
 use Rattle.rules.proofs.RefineCourse.{lone, others-lone, cast-acts, settled-place}
 

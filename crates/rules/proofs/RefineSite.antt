@@ -7,7 +7,7 @@ use native.Mathlib.Omega.{arith}
 use borrow.Author.Tests.{eq-eqb, le-leb}
 use lib.ListN.{length, getD, length-append, length-set}
 use lib.Seq.{getD-set-same, getD-set-other}
-use Rattle.laws.specs.Choice.{pick}
+use Rattle.laws.specs.Choice.{pick, by-same}
 use Rattle.kinds.specs.Sizes as sizes
 use Rattle.kinds.specs.Stage as stage
 use Rattle.kinds.specs.declared.Sub.{Sub}
@@ -22,7 +22,7 @@ use Rattle.rules.specs.World.{upd}
 use Rattle.rules.proofs.Tables.{upd₂, upd₂-cases, upd₂-same}
 use Rattle.rules.proofs.Protocol.{Msg, others}
 use Rattle.rules.proofs.Refines.{IsFree, Sized, ChannelsAre, Slice, SiteIs}
-use Rattle.rules.proofs.RefineLive.{Spot, live-set, lists-set, by-same}
+use Rattle.rules.proofs.RefineLive.{Spot, live-set, lists-set}
 
 pub no-keys-sized : Sized noKeys
 unfolding noKeys

@@ -1,25 +1,24 @@
 -- A call's world against the protocol after its moves: what a refusal leaves, and what a call leaves at its own site and elsewhere.
-use Prim.Native.Nat.{ℕ, _+_, _-_, _≤_}
+use Prim.Native.Nat.{ℕ, _+_, _≤_}
 use mathlib.Core.Path.{_≡_, refl, sym, ap, _∙_}
 use mathlib.Core.Bool.{true, false}
 use mathlib.Core.List.{List, [], _++_, map, append-nil}
 use native.Mathlib.Omega.{arith}
-use borrow.Author.Tests.{eqb-true, eqb-false, leb-true, leb-false}
+use borrow.Author.Tests.{eqb-true, leb-true, leb-false}
 use lib.Dec.{eqb, leb}
 use lib.ListN.{length-append, List·getD-append}
-use Rattle.laws.specs.Choice.{by-test}
+use Rattle.laws.specs.Choice.{by-test, set-not}
 use Rattle.kinds.specs.declared.Site.{Site}
 use Rattle.kinds.specs.declared.Answer.{Answer}
 use Rattle.rules.specs.House.{coordinatorOf}
 use Rattle.rules.specs.Valid.{siteOk}
 use Rattle.rules.specs.Effect.{Effect, refused, unless}
-use Rattle.rules.specs.World.{World, Call, upd, siteStep, logStep, messagesIn, splitWords, recordIn}
+use Rattle.rules.specs.World.{World, Call, siteStep, logStep, messagesIn, splitWords, recordIn}
 use Rattle.rules.specs.World as world
 use Rattle.rules.specs.Book.{Fact, factsOf}
-use Rattle.rules.proofs.Tables.{upd₂, upd-same, upd-other, upd-cases, upd₂-cases, All, all-map, all-append}
+use Rattle.rules.proofs.Tables.{upd-cases, All, all-map, all-append, upd-three}
 use Rattle.rules.proofs.Protocol.{Protocol, Msg, mAbort, Moves, stop}
 use Rattle.rules.proofs.Told.{toldAll}
-use Rattle.rules.proofs.Frames.{set-not}
 use Rattle.rules.proofs.Refines.{Posted, encode, recWords, sliceOf, SiteIs, Refines}
 
 -- the protocol makes some moves, or none, which tell these facts, and the world is then that of its tables
@@ -45,18 +44,6 @@ toldBy (world.value copy key) a words = factsOf (world.value copy key) a words
 -- the cause of a refusal, as a case
 pub by-code : (P : Effect → Type 0) (code : ℕ) (s : Site) (lent : List ℕ) (e : Effect) → (code ≡ 0 → P e) → P (refused code s lent) → P (unless code s lent e)
 by-code P code s lent e f g = by-test (eqb code 0) (λ h. rw h (f (eqb-true code 0 h))) (λ h. rw h g)
-
--- One row of a table of two places.
-pub row-same : {A : Type 0} (f : ℕ → ℕ → A) (s t : ℕ) (a : A) → upd₂ f s t a s ≡ upd (f s) t a
-unfolding upd₂
-row-same f s t a = upd-same f s (upd (f s) t a)
-
-pub row-other : {A : Type 0} (f : ℕ → ℕ → A) (s t : ℕ) (a : A) (j : ℕ) → (j ≡ s → ⊥) → upd₂ f s t a j ≡ f j
-unfolding upd₂
-row-other f s t a j n = upd-other f s (upd (f s) t a) j n
-
-pub column-other : {A : Type 0} (f : ℕ → ℕ → A) (s t : ℕ) (a : A) (j u : ℕ) → (u ≡ t → ⊥) → upd₂ f s t a j u ≡ f j u
-column-other f s t a = upd₂-cases (λ j u x. (u ≡ t → ⊥) → x ≡ f j u) f s t a (λ n. absurd (n refl)) (λ j u o n. refl)
 
 -- messages are only added
 abbrev pub Grows : (ℕ → ℕ → List Msg) → (ℕ → ℕ → List Msg) → Type 0
@@ -109,14 +96,6 @@ site-elsewhere {j = j} s n e r =
       base-size = r .base-size;
     }
 
-three-cases : {A B C : Type 0} (P : ℕ → A → B → C → Type 0) (f : ℕ → A) (g : ℕ → B) (h : ℕ → C) (i : ℕ) (a : A) (b : B) (c : C) → P i a b c
-    → ((j : ℕ) → (j ≡ i → ⊥) → P j (f j) (g j) (h j)) → (j : ℕ) → P j (upd f i a j) (upd g i b j) (upd h i c j)
-unfolding upd
-three-cases P f g h i a b c new old j =
-    by-test (eqb j i)
-    (λ e. rw e (rw (eqb-true j i e) new))
-    (λ e. rw e (old j (eqb-false j i e)))
-
 module _ {sites : ℕ} {w : World} {p : Protocol} (r : Refines sites w p) (s : ℕ) where
   -- a valid site is one of the house
   pub inside : siteOk (w .site s) ≡ true → (1 ≤ s) × (s ≤ sites)
@@ -136,7 +115,7 @@ module _ {sites : ℕ} {w : World} {p : Protocol} (r : Refines sites w p) (s : �
       record {
         few = r .few;
         site =
-            three-cases (λ j x y z. 1 ≤ j → j ≤ sites → SiteIs sites j x y z (sliceOf p j)) (w .site) (w .base) (w .lists) s (e .site) base lists
+            upd-three (λ j x y z. 1 ≤ j → j ≤ sites → SiteIs sites j x y z (sliceOf p j)) (w .site) (w .base) (w .lists) s (e .site) base lists
             (rw (a, c, d) (r .site s)) (λ j n. r .site j);
         outside = upd-cases (λ j x. ((1 ≤ j) × (j ≤ sites) → ⊥) → siteOk x ≡ false) (w .site) s (e .site) (rw a (r .outside s)) (λ j n. r .outside j);
         sent = rw (b, append-nil) (r .sent);
@@ -155,7 +134,7 @@ module _ {sites : ℕ} {w : World} {p : Protocol} (r : Refines sites w p) (s : �
       record {
         few = r .few;
         site =
-            three-cases (λ j x y z. 1 ≤ j → j ≤ sites → SiteIs sites j x y (w .lists j) (sliceOf p j)) (w .site) (w .base) (w .lists) s (e .site) base (w .lists s)
+            upd-three (λ j x y z. 1 ≤ j → j ≤ sites → SiteIs sites j x y (w .lists j) (sliceOf p j)) (w .site) (w .base) (w .lists) s (e .site) base (w .lists s)
             (rw (a, c) (r .site s)) (λ j n. r .site j);
         outside = upd-cases (λ j x. ((1 ≤ j) × (j ≤ sites) → ⊥) → siteOk x ≡ false) (w .site) s (e .site) (rw a (r .outside s)) (λ j n. r .outside j);
         sent = r .sent;
@@ -172,7 +151,7 @@ module _ {sites : ℕ} {w : World} {p : Protocol} (r : Refines sites w p) (s : �
         record {
           few = r .few;
           site =
-              three-cases (λ j x y z. 1 ≤ j → j ≤ sites → SiteIs sites j x y z (sliceOf q j)) (w .site) (w .base) (w .lists) s (e .site) base lists
+              upd-three (λ j x y z. 1 ≤ j → j ≤ sites → SiteIs sites j x y z (sliceOf q j)) (w .site) (w .base) (w .lists) s (e .site) base lists
               (λ a b. x) (λ j n a b. site-elsewhere s n o (r .site j a b));
           outside = upd-cases (λ j x. ((1 ≤ j) × (j ≤ sites) → ⊥) → siteOk x ≡ false) (w .site) s (e .site) (λ z. absurd (z (l, h))) (λ j n. r .outside j);
           sent = all-append (all-map (posted-still (p .post) (q .post) g) (r .sent)) m;
@@ -188,7 +167,7 @@ module _ {sites : ℕ} {w : World} {p : Protocol} (r : Refines sites w p) (s : �
         record {
           few = r .few;
           site =
-              three-cases (λ j x y z. 1 ≤ j → j ≤ sites → SiteIs sites j x y (w .lists j) (sliceOf q j)) (w .site) (w .base) (w .lists) s (e .site) base (w .lists s)
+              upd-three (λ j x y z. 1 ≤ j → j ≤ sites → SiteIs sites j x y (w .lists j) (sliceOf q j)) (w .site) (w .base) (w .lists) s (e .site) base (w .lists s)
               (λ a b. x) (λ j n a b. site-elsewhere s n o (r .site j a b));
           outside = upd-cases (λ j x. ((1 ≤ j) × (j ≤ sites) → ⊥) → siteOk x ≡ false) (w .site) s (e .site) (λ z. absurd (z (l, h))) (λ j n. r .outside j);
           sent = all-map (posted-still (p .post) (q .post) (λ a b. ([], g a b ∙ sym (append-nil (p .post a b))))) (r .sent);

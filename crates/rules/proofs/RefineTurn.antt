@@ -2,7 +2,11 @@
 use Prim.Native.Nat.{ℕ, _<_}
 use mathlib.Core.Path.{_≡_, refl, sym, ap, _∙_}
 use mathlib.Core.List.{List}
+use mathlib.Core.Bool.{true, false}
 use native.Mathlib.Omega.{arith}
+use borrow.Author.Tests.{ltb-true, ltb-false}
+use lib.Dec.{ltb}
+use Rattle.laws.specs.Choice.{by-test}
 use Rattle.kinds.specs.Sizes as sizes
 use Rattle.kinds.specs.Stage as stage
 use Rattle.kinds.specs.declared.Course.{Course}
@@ -12,12 +16,11 @@ use Rattle.kinds.specs.State.{noSub, subAt, withSub, withCourse}
 use Rattle.rules.specs.House.{coordinatorOf}
 use Rattle.rules.specs.Live.{placeOf}
 use Rattle.rules.specs.Course.{withMark, withDecision}
-use Rattle.rules.proofs.Tables.{upd₂}
+use Rattle.rules.proofs.Tables.{upd₂, row-same}
 use Rattle.rules.proofs.Protocol.{Protocol, courseAt}
 use Rattle.rules.proofs.Refines.{IsFree, Sized, LiveIs, Slice, SiteIs}
-use Rattle.rules.proofs.RefineLive.{Spot, place-held, place-spot}
+use Rattle.rules.proofs.RefineLive.{Spot, place-held, place-spot, place-none}
 use Rattle.rules.proofs.RefineSite.{live-in, site-sub}
-use Rattle.rules.proofs.RefineStep.{row-same}
 
 -- stages of a part freed, marked and decided
 gone : noSub .course .stage ≡ stage.free
@@ -43,6 +46,15 @@ pub at-place : (x : Site) (p : Protocol) (s t : ℕ) → LiveIs (x .live) (p .li
 at-place x p s t l h =
     let (q, f, o) = place-held l t h in
     record { part = q; held = f; tx = o; spot = place-spot l t h; sized = l .sized t f }
+
+-- held, or not
+pub by-held : {P : Type 0} (x : Site) (p : Protocol) (s : ℕ) → LiveIs (x .live) (p .live s) → (t : ℕ)
+    → (AtPlace x p s t (placeOf (x .live) t) → ltb (placeOf (x .live) t) sizes.live ≡ true → P)
+    → (IsFree (p .live s t) → ltb (placeOf (x .live) t) sizes.live ≡ false → P) → P
+by-held x p s l t f g =
+    by-test (ltb (placeOf (x .live) t) sizes.live)
+    (λ e. f (at-place x p s t l (ltb-true _ _ e)) e)
+    (λ e. g (place-none l t (ltb-false _ _ e)) e)
 
 -- of the part at any place that is not free
 pub part-place : (x : Site) (p : Protocol) (s i : ℕ) → LiveIs (x .live) (p .live s) → i < sizes.live → (IsFree (subAt x i) → ⊥) → AtPlace x p s (subAt x i .tx) i

@@ -7,7 +7,7 @@ use native.Mathlib.Omega.{arith}
 use borrow.Author.Tests.{eqb-true, eqb-false}
 use lib.Dec.{eqb}
 use lib.ListN.{length}
-use Rattle.laws.specs.Choice.{by-test}
+use Rattle.laws.specs.Choice.{by-test, unset, set-not}
 use Rattle.kinds.specs.Stage as stage
 use Rattle.kinds.specs.State.{noSub}
 use Rattle.rules.specs.House.{coordinatorOf, inMask}
@@ -15,7 +15,7 @@ use Rattle.rules.specs.Install.{entryOf}
 use Rattle.rules.proofs.Protocol.{Protocol, inst, courseAt, Whole, Within, Move, freshProtocol}
 use Rattle.rules.proofs.Invariants.{Held, at, Installed, In, Account, Invariant}
 use Rattle.rules.proofs.Masks.{all-heard}
-use Rattle.rules.proofs.Frames.{unset, set-not, said}
+use Rattle.rules.proofs.Frames.{said}
 use Rattle.rules.proofs.Entries.{within-trans}
 use Rattle.rules.proofs.Later.{Begins}
 use Rattle.rules.proofs.News.{OwnStage, Replies, AskedNow, MadeNow, CertedNow, YesNow, NumNow, DeadNow}

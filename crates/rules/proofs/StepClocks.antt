@@ -8,7 +8,7 @@ use native.Mathlib.Omega.{arith}
 use borrow.Author.Tests.{eqb-true, eqb-false}
 use lib.Dec.{eqb}
 use lib.ListN.{length, getD}
-use Rattle.laws.specs.Choice.{by-test}
+use Rattle.laws.specs.Choice.{by-test, set-not}
 use Rattle.kinds.specs.Stage as stage
 use Rattle.kinds.specs.State.{noSub, pastEntry}
 use Rattle.rules.specs.House.{coordinatorOf}
@@ -16,7 +16,6 @@ use Rattle.rules.specs.Install.{entryOf}
 use Rattle.rules.proofs.Tables.{All, a-nil, a-cons, all-map, all-append, all-one}
 use Rattle.rules.proofs.Protocol.{Protocol, Rec, rPart, rState, partsOf, AtStage, courseAt, Move, freshProtocol}
 use Rattle.rules.proofs.Invariants.{at, RecLow, Clocks, Invariant}
-use Rattle.rules.proofs.Frames.{set-not}
 use Rattle.rules.proofs.Turns.{Turn, t-stays, t-moves, t-reads, t-aborts, t-installs, t-begins, Logged, l-same, l-part, l-state}
 use Rattle.rules.proofs.News.{YesNow, NumNow}
 use Rattle.rules.proofs.Changes.{Change, change, snap-has, saw}

@@ -3,6 +3,7 @@ use Prim.Native.Nat.{ℕ, _+_, _≤_, _<_}
 use mathlib.Core.Path.{_≡_, refl, sym, _∙_}
 use mathlib.Core.Bool.{Bool, true, false}
 use native.Mathlib.Omega.{arith}
+use Rattle.laws.specs.Choice.{set-not}
 use Rattle.kinds.specs.Stage as stage
 use Rattle.kinds.specs.declared.Course.{Course}
 use Rattle.kinds.specs.declared.Sub.{Sub}
@@ -11,10 +12,10 @@ use Rattle.rules.specs.House.{coordinatorOf}
 use Rattle.rules.specs.Message.{entryCount}
 use Rattle.rules.specs.Course.{newSub, withParticipant, withReply, withDecision, withMark, withRequest, withStage}
 use Rattle.rules.specs.World.{upd}
-use Rattle.rules.proofs.Tables.{upd₂, upd-same, upd-cases, upd₂-cases}
+use Rattle.rules.proofs.Tables.{upd₂, upd-same, upd-cases, upd₂-cases, upd-both, upd₂-both, upd₂-three}
 use Rattle.rules.proofs.Protocol.{Protocol, set-asked, set-mask, set-made, set-yes, set-mark, set-num, withLive, withCourseAt, AtStage, courseAt, Move, begin, enlist, access, request, abort, cast, decide, install, report, joins, full, joined, prepared, lost, unknown, gathers, certified, rejects, votes, commits, aborts, passes, freshProtocol}
 use Rattle.rules.proofs.Invariants.{Courses, Invariant}
-use Rattle.rules.proofs.Frames.{set-not, upd-both, upd₂-both, upd₂-three, said, ends, new-tx, new-join, blank}
+use Rattle.rules.proofs.Frames.{said, ends, new-tx, new-join, blank}
 
 -- what the account has of a part, and its course
 record CourseOk (m y a : Bool) (participants mark num : ℕ) (c : Course) : Type 0 where

@@ -9,7 +9,7 @@ use native.Mathlib.Omega.{arith}
 use borrow.Author.Tests.{ltb-true, ltb-false, le-leb}
 use lib.Dec.{ltb}
 use lib.ListN.{length}
-use Rattle.laws.specs.Choice.{by-test}
+use Rattle.laws.specs.Choice.{by-test, set-not}
 use Rattle.kinds.specs.Stage as stage
 use Rattle.kinds.specs.declared.Sub.{Sub}
 use Rattle.rules.specs.House.{inMask}
@@ -18,7 +18,6 @@ use Rattle.rules.specs.Keys.{dependent}
 use Rattle.rules.specs.Live.{isPrepared}
 use Rattle.rules.proofs.Protocol.{Protocol, inst, AtStage, Covers, Listed, Move, freshProtocol}
 use Rattle.rules.proofs.Invariants.{Held, at, InstalledAs, Installed, Seen, Account, Lists, Invariant}
-use Rattle.rules.proofs.Frames.{set-not}
 use Rattle.rules.proofs.News.{MadeNow, YesNow}
 use Rattle.rules.proofs.Changes.{Change, change, stands, snap-kept, keys-kept, saw}
 use Rattle.rules.proofs.Committed.{committed-asked, committed-alive, committed-yes}

@@ -2,12 +2,11 @@
 use Prim.Native.Nat.{ℕ, _+_, _≤_, _<_}
 use mathlib.Core.Path.{_≡_, refl, sym, ap, _∙_}
 use mathlib.Core.Bool.{true, false}
-use mathlib.Core.Logic.{_⊎_, inl, inr, ⊎-elim}
+use mathlib.Core.Logic.{_⊎_, inl, inr}
 use mathlib.Core.List.{List, [], _∷_, _++_}
-use native.Mathlib.Nat.{eq-or-lt-of-le}
 use native.Mathlib.Omega.{arith}
-use lib.ListN.{length, getD, length-append, List·getD-append}
-use lib.Seq.{getD-append-seam}
+use lib.ListN.{length, getD, length-append}
+use Rattle.laws.specs.Choice.{set-not}
 use Rattle.kinds.specs.Sizes as sizes
 use Rattle.kinds.specs.Stage as stage
 use Rattle.kinds.specs.declared.Keys.{Keys}
@@ -19,10 +18,10 @@ use Rattle.rules.specs.House.{coordinatorOf, serialOf, txOf, maskOf}
 use Rattle.rules.specs.Course.{newSub}
 use Rattle.rules.specs.Install.{entryOf}
 use Rattle.rules.specs.World.{upd}
-use Rattle.rules.proofs.Tables.{upd₂, upd-same, upd-cases, upd₂-cases, upd₂-same}
+use Rattle.rules.proofs.Tables.{upd₂, upd-same, upd-cases, upd₂-cases, upd₂-same, upd₂-both, last-cases}
 use Rattle.rules.proofs.Protocol.{Protocol, Rec, rPart, rState, partsOf, inst, AtStage, beganAt, withLive, set-serial, set-keys, set-log, took, Move, begin, enlist, access, request, abort, cast, decide, install, report, joins, full, joined, prepared, lost, unknown, gathers, certified, rejects, votes, commits, aborts, passes, freshProtocol, mJoin, Next}
 use Rattle.rules.proofs.Invariants.{Held, at, Parts, Invariant}
-use Rattle.rules.proofs.Frames.{set-not, kept₂, upd₂-both, said, ends, tx-coordinator, tx-serial, new-tx, new-join}
+use Rattle.rules.proofs.Frames.{kept₂, said, ends, tx-coordinator, tx-serial, new-tx, new-join}
 
 -- A part kept or freed: what it began with stays.
 pub record Kept (b c : Sub) : Type 0 where
@@ -164,16 +163,6 @@ parts-state (rState k ∷ l) n = parts-state l n
 pub inst-report : (p : Protocol) (s n j : ℕ) → partsOf (upd (p .log) s (p .log s ++ (rState n ∷ [])) j) ≡ inst p j
 inst-report p s n = upd-cases (λ j l. partsOf l ≡ inst p j) (p .log) s _ (parts-state (p .log s) n) (λ j x. refl)
 
--- an element of a list with one more
-pub last-cases : {A : Type 0} (P : ℕ → A → Type 0) (l : List A) (a d : A) → ((k : ℕ) → k < length l → P k (getD l k d)) → P (length l) a
-    → (k : ℕ) → k < length (l ++ (a ∷ [])) → P k (getD (l ++ (a ∷ [])) k d)
-last-cases P l a d old new k h =
-    let n = length-append l (a ∷ []) in
-    ⊎-elim
-    (λ (q : k ≡ length l). rw (q, getD-append-seam l a [] d) new)
-    (λ (x : k < length l). rw (List·getD-append l (a ∷ []) d k x) (old k x))
-    (eq-or-lt-of-le (omega arith))
-
 pub inst-cases : (p : Protocol) (P : ℕ → List Entry → Type 0) (s : ℕ) (e : Entry) → P s (inst p s ++ (e ∷ [])) → ((j : ℕ) → P j (inst p j))
     → (j : ℕ) → P j (partsOf (upd (p .log) s (p .log s ++ (rPart e ∷ [])) j))
 inst-cases p P s e new old = upd-cases (λ j l. P j (partsOf l)) (p .log) s _ (rw (parts-append (p .log s) (rPart e ∷ [])) new) (λ j n. old j)
@@ -226,8 +215,8 @@ parts-install sites p s t held i =
     k : (j u : ℕ) → Kept (p .live j u) (upd₂ (p .live) s t noSub j u)
     k = one-kept p s t noSub (kept-gone (p .live s t))
 
--- the rest as it was, where it computes
-abbrev same : {A B C D : Type 0} {a : A} {b : B} {c : C} {d : D} {f : ℕ → List Entry} → (a ≡ a) × (b ≡ b) × (c ≡ c) × (d ≡ d) × ((s : ℕ) → f s ≡ f s)
+-- tables that stay, where they compute
+abbrev pub same : {A B C D : Type 0} {a : A} {b : B} {c : C} {d : D} {f : ℕ → List Entry} → (a ≡ a) × (b ≡ b) × (c ≡ c) × (d ≡ d) × ((s : ℕ) → f s ≡ f s)
 same = (refl, refl, refl, refl, λ s. refl)
 
 module _ (sites : ℕ) (p : Protocol) (i : Invariant sites p) where

@@ -6,6 +6,7 @@ use mathlib.Core.Logic.{_⊎_, inl, inr}
 use mathlib.Core.List.{List}
 use native.Mathlib.Omega.{arith}
 use lib.ListN.{length}
+use Rattle.laws.specs.Choice.{set-not, by-same}
 use Rattle.kinds.specs.Stage as stage
 use Rattle.kinds.specs.declared.Course.{Course}
 use Rattle.kinds.specs.declared.Sub.{Sub}
@@ -15,20 +16,19 @@ use Rattle.rules.specs.Message.{entryCount}
 use Rattle.rules.specs.Live.{allHeard}
 use Rattle.rules.specs.Course.{newSub, withParticipant, withReply, withDecision, withMark, withRequest, withStage}
 use Rattle.rules.specs.World.{upd}
-use Rattle.rules.proofs.Tables.{upd₂, upd-same, upd-other, upd₂-same, upd₂-cases}
+use Rattle.rules.proofs.Tables.{upd₂, upd-same, upd-other, upd₂-same, upd₂-cases, upd₂-other}
 use Rattle.rules.proofs.Protocol.{Protocol, Msg, mJoin, mJoined, mPrepare, mConc, mCert, mVote, mCommit, mAbort, inst, AtStage, courseAt, Move, begin, enlist, access, request, abort, cast, decide, install, report, joins, full, joined, prepared, lost, unknown, gathers, certified, rejects, votes, commits, aborts, passes, freshProtocol}
 use Rattle.rules.proofs.Invariants.{Held, In, MsgOk, Invariant}
 use Rattle.rules.proofs.Masks.{none-in, in-or-left, in-or-right, own-mask, all-heard}
-use Rattle.rules.proofs.Frames.{set-not, said, ends, tx-coordinator, new-tx, new-join}
+use Rattle.rules.proofs.Frames.{said, ends, tx-coordinator, new-tx, new-join}
 use Rattle.rules.proofs.RoundOk.{heard-more}
-use Rattle.rules.proofs.Turns.{upd₂-other}
 use Rattle.rules.proofs.Refines.{txIn}
 use Rattle.rules.proofs.Stream.{Stream, moves, merges, replays, Steps, stop, more}
 use Rattle.rules.proofs.StreamReached.{Standing, standing-steps}
 use Rattle.rules.proofs.Pending.{about, pending}
 use Rattle.rules.proofs.Phases.{RepliedAt, Phase, idle, Phases}
 use Rattle.rules.proofs.PhaseTurns.{no-round, joins-on, full-on, prepared-on, lost-on, prepare-held, certified-on, rejects-on, commits-on, aborts-on, passes-ahead, passes-back, installs-on, heard-on, wider-on, rests-on, skips-on, enlists-on, asks-on, decides-on, ends-on, ends-apart}
-use Rattle.rules.proofs.PhaseParts.{Part, by-eq, late, takes, hears, own-channel, answers, writes-all, writes-one, writes-none, leaves, still}
+use Rattle.rules.proofs.PhaseParts.{Part, late, takes, hears, own-channel, answers, writes-all, writes-one, writes-none, leaves, still}
 
 -- a part changes to b, and nothing else that a phase reads
 part-now : (p q : Protocol) (s t : ℕ) (b : Sub) → q .live ≡ upd₂ (p .live) s t b → q .has ≡ p .has → ((u : ℕ) → (u ≡ t → ⊥) → q .num u ≡ p .num u)
@@ -154,7 +154,7 @@ module _ {sites : ℕ} {p : Protocol} (i : Invariant sites p) (f : Phases p) whe
       (decides-on (number s t c held (λ z. omega arith)) (alive s t c held) (p .clock s + 1) _ (all-in s t c held l j k n) a (omega arith) x)))
       (λ j k n fw bk x. own-now s t b (skips-on (number s t c held (λ z. omega arith)) (alive s t c held) _ _ n (λ z. n (heard-in s t c held j z)) x))
   step q (install s t a l) =
-      by-eq s (coordinatorOf t)
+      by-same s (coordinatorOf t)
       (λ c. writes-none i f q s t (sym c) (part-now p q s t noSub refl refl (λ u n. refl) (λ u n. refl)) refl refl
       (λ r k fw bk x. own-now s t noSub (rests-on _ (λ z. omega arith) (λ z. no-round _ _ _ (λ y. omega arith)) x)))
       (λ o. leaves i f q s t o (part-now p q s t noSub refl refl (λ u n. refl) (λ u n. refl)) refl refl refl refl
@@ -219,7 +219,7 @@ module _ {sites : ℕ} {p : Protocol} (i : Invariant sites p) (f : Phases p) whe
   step q (aborts a s t x d) =
       let o = said i x in
       let part = part-now p q s t noSub refl refl (λ u n. refl) (λ u n. refl) in
-      by-eq s a
+      by-same s a
       (λ e. own-channel i f q a s t (mAbort t) x refl part refl refl refl refl (o .0 ∙ sym e) (sym e)
       (λ r fw bk y. own-now s t noSub (rests-on _ (λ z. omega (arith, rw (o .0 ∙ sym e) at (i .account .dead t (o .1) .1))) (λ z. no-round _ _ _ (λ y. omega arith)) y)))
       (λ e. takes i f q a s t (mAbort t) x refl part refl refl refl refl (o .0) e (λ fw bk y. there-now s t noSub (aborts-on _ y)))
@@ -230,7 +230,7 @@ module _ {sites : ℕ} {p : Protocol} (i : Invariant sites p) (f : Phases p) whe
 
       passed : (coordinatorOf (txIn m) ≡ a) ⊎ ((coordinatorOf (txIn m) ≡ s) × (s ≡ a → ⊥)) → Phases q
       passed (inl c) =
-          by-eq s a
+          by-same s a
           (λ e. own-channel i f q a s (txIn m) m x refl part refl refl refl refl (c ∙ sym e) (sym e) (λ r fw bk y. y))
           (λ e. takes i f q a s (txIn m) m x refl part refl refl refl refl c e (λ fw bk y. passes-ahead m (rw c at (late i f (txIn m))) y))
       passed (inr (c, o)) = hears i f q a s (txIn m) m x refl part refl refl refl refl c o (λ fw bk y. passes-back m y) (λ j l u v fw bk y. y)

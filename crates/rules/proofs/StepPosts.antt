@@ -6,16 +6,16 @@ use mathlib.Core.Logic.{_⊎_, inl, inr}
 use mathlib.Core.List.{List, [], _∷_, _++_}
 use native.Mathlib.Omega.{arith}
 use lib.ListN.{length, getD, length-append, List·getD-append}
+use Rattle.laws.specs.Choice.{set-not}
 use Rattle.kinds.specs.State.{noSub}
 use Rattle.rules.specs.House.{coordinatorOf, inMask}
-use Rattle.rules.proofs.Tables.{All, a-nil, all-map, all-append, all-one, all-at}
+use Rattle.rules.proofs.Tables.{All, a-nil, all-map, all-append, all-one, all-at, last-cases}
 use Rattle.rules.proofs.Protocol.{Protocol, Msg, mJoin, mJoined, mPrepare, mConc, mCert, mVote, mCommit, mAbort, courseAt, Move, freshProtocol}
 use Rattle.rules.proofs.Invariants.{Held, In, MsgOk, Posts, Invariant}
-use Rattle.rules.proofs.Frames.{set-not, in-range}
+use Rattle.rules.proofs.Frames.{in-range}
 use Rattle.rules.proofs.Later.{Later, Begins, Asks, later}
 use Rattle.rules.proofs.Masked.{MaskedAll, masked}
 use Rattle.rules.proofs.Mail.{Site, FirstJoin, Fit, Grown, Mail, mail, takes}
-use Rattle.rules.proofs.StepParts.{last-cases}
 
 -- A channel that has grown by at most one message.
 grown-length : {P : Msg → Type 0} (l k : List Msg) → Grown P l k → length l ≤ length k

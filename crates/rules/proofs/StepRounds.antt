@@ -7,7 +7,7 @@ use mathlib.Core.List.{List, _++_}
 use native.Mathlib.Omega.{arith}
 use borrow.Author.Tests.{eqb-true, eqb-false}
 use lib.Dec.{eqb}
-use Rattle.laws.specs.Choice.{by-test}
+use Rattle.laws.specs.Choice.{by-test, unset, set-not}
 use Rattle.kinds.specs.Sizes as sizes
 use Rattle.kinds.specs.Stage as stage
 use Rattle.kinds.specs.declared.Sub.{Sub}
@@ -18,7 +18,7 @@ use Rattle.rules.proofs.Tables.{upd₂, upd-same, upd-other, upd₂-sam
 use Rattle.rules.proofs.Protocol.{Protocol, AtStage, courseAt, Whole, Move, begin, enlist, access, request, abort, cast, decide, install, report, joins, full, joined, prepared, lost, unknown, gathers, certified, rejects, votes, commits, aborts, passes, freshProtocol}
 use Rattle.rules.proofs.Invariants.{Held, In, Rounds, Invariant}
 use Rattle.rules.proofs.Masks.{none-in, own-mask, mask-small, outstanding-in}
-use Rattle.rules.proofs.Frames.{unset, set-not, was₂, said, ends, new-tx}
+use Rattle.rules.proofs.Frames.{was₂, said, ends, new-tx}
 use Rattle.rules.proofs.Entries.{within-refl, within-left, within-right, whole-append}
 use Rattle.rules.proofs.Later.{Later, Begins, later}
 use Rattle.rules.proofs.RoundOk.{Replied, ListOf, VoteOf, AskedOf, RoundOk, RoundsAt, of-rounds, to-rounds, Base, base-same, base-reset, base-enlist, heard-more, base-reply, base-of, at-free, at-active, at-prepared, at-queued, at-decided}

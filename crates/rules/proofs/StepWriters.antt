@@ -7,19 +7,15 @@ use native.Mathlib.Omega.{arith}
 use borrow.Author.Tests.{ltb-true, ltb-false}
 use lib.Dec.{ltb}
 use lib.ListN.{length}
-use Rattle.laws.specs.Choice.{by-test}
-use Rattle.kinds.specs.State.{noSub, noKeys}
-use Rattle.rules.specs.Keys.{keyPlace, wroteKey}
+use Rattle.laws.specs.Choice.{by-test, unset, set-not}
+use Rattle.kinds.specs.State.{noSub}
+use Rattle.rules.specs.KeysLaws.{none-written}
+use Rattle.rules.specs.Keys.{wroteKey}
 use Rattle.rules.specs.Install.{entryOf}
 use Rattle.rules.proofs.Protocol.{Protocol, inst, Move, freshProtocol}
 use Rattle.rules.proofs.Invariants.{Held, at, Writers, Invariant}
-use Rattle.rules.proofs.Frames.{unset, set-not}
 use Rattle.rules.proofs.Turns.{Unwritten, Turn, t-stays, t-moves, t-reads, t-aborts, t-installs, t-begins}
 use Rattle.rules.proofs.Changes.{Change, change, InstalledNow, stands, stood, part-new, snap-kept, keys-kept}
-
-none-written : (k : ℕ) → wroteKey noKeys k ≡ true → ⊥
-unfolding wroteKey noKeys
-none-written k e = omega (arith, ltb-true (keyPlace (noKeys .writes) 0 k) 0 e)
 
 -- t, held, wrote k: before the move, or in it, where it alone wrote
 abbrev Wrote : Protocol → Protocol → ℕ → ℕ → ℕ → Type 0

@@ -11,7 +11,7 @@ use borrow.Author.Tests.{ltb-true, ltb-false}
 use lib.Dec.{ltb}
 use lib.ListN.{length, take}
 use lib.Seq.{take-suc}
-use Rattle.laws.specs.Choice.{pick, by-test, picked-left, picked-right}
+use Rattle.laws.specs.Choice.{pick, by-test, picked-left, picked-right, set-not}
 use Rattle.laws.specs.Pair.{rank}
 use Rattle.kinds.specs.State.{Value, fresh}
 use Rattle.kinds.specs.declared.House.{House}
@@ -20,11 +20,9 @@ use Rattle.rules.specs.House.{coordinatorOf, inMask, siteOf}
 use Rattle.rules.specs.Keys.{wroteKey, wroteValue}
 use Rattle.rules.proofs.Protocol.{Protocol}
 use Rattle.rules.proofs.Invariants.{In, Invariant}
-use Rattle.rules.proofs.Frames.{set-not}
 use Rattle.rules.proofs.Committed.{committed-asked, committed-in}
-use Rattle.rules.proofs.Stream.{Item, Merger, itemRank, Stream, Steps, freshStream}
+use Rattle.rules.proofs.Stream.{Item, Merger, itemRank}
 use Rattle.rules.proofs.StreamInv.{pastItem, itemAt, Streamed, item-real, item-number, item-committed, item-mask}
-use Rattle.rules.proofs.StreamReached.{standing}
 
 -- the rank of the n-th item, 0 before the first
 abbrev pub lastRank : Merger → ℕ → ℕ
@@ -178,11 +176,3 @@ module _ {sites : ℕ} {p : Protocol} {m : Merger} (inv : Invariant sites p) (i 
               (λ (z : c ≡ j). rw (← e, z) (omega arith))
               (λ (z : c < j). rw (← e) (omega (arith, q .number c d, q .number j l, q .ascends c j z l)))
               (eq-or-lt-of-le (ltb-false j c y)))
-
--- (A) after any steps, for every copy
-module _ {sites : ℕ} {w : Stream} (h : sites ≤ 8) (x : Steps sites freshStream w) (c : ℕ) where
-  pub copy-prefix : Prefix (w .protocol) (w .merger) (w .replayed c)
-  copy-prefix = let i = standing h x in prefix (i .invariant) (i .streamed) (w .replayed c) (i .replayed c)
-
-  pub copy-left : (o : House) (k : ℕ) → LeftUpTo (w .protocol) o (lastRank (w .merger) (w .replayed c)) k (leftIn o k fresh (take (w .replayed c) (w .merger .out)))
-  copy-left o k = let i = standing h x in left-upto (i .invariant) (i .streamed) o k (w .replayed c) (i .replayed c)

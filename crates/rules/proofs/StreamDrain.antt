@@ -1,8 +1,7 @@
 -- A drained house: the merger has taken every log, and each has a state at or above n. What is committed up to n is installed at its
 -- coordinator, since a state stands below what comes behind it; so it was emitted, or is queued there behind a head not above it.
-use Prim.Native.Nat.{ℕ, zero, suc, _+_, _≤_, _<_}
+use Prim.Native.Nat.{ℕ, zero, suc, _≤_, _<_}
 use mathlib.Core.Path.{_≡_, refl, ap, _∙_}
-use mathlib.Core.Bool.{true}
 use mathlib.Core.Logic.{_⊎_, inl, inr, ⊎-elim}
 use mathlib.Core.List.{List, [], _∷_, _++_}
 use native.Mathlib.Nat.{eq-or-lt-of-le}
@@ -12,11 +11,13 @@ use Rattle.laws.specs.Pair.{rank}
 use Rattle.kinds.specs.Stage as stage
 use Rattle.kinds.specs.declared.Entry.{Entry}
 use Rattle.rules.specs.House.{coordinatorOf}
+use Rattle.rules.proofs.Tables.{all-take}
 use Rattle.rules.proofs.Protocol.{Protocol, inst, AtStage}
 use Rattle.rules.proofs.Invariants.{at, Installed, Invariant}
 use Rattle.rules.proofs.Stream.{Merger, rankOf, itemRank}
 use Rattle.rules.proofs.StreamInv.{itemAt, Out, Streamed, gone, inst-split, head-at, not-gone}
-use Rattle.rules.proofs.StreamEmit.{all-take, end-below, own-parts}
+use Rattle.rules.proofs.StreamDue.{end-below, parts-ascend}
+use Rattle.rules.proofs.Committed.{coordinator-site}
 
 abbrev pub DrainedAt : Protocol → Merger → ℕ → ℕ → Type 0
 DrainedAt p m n s = (m .took s ≡ length (p .log s)) × (n ≤ m .state s)
@@ -35,12 +36,8 @@ module _ {sites : ℕ} {p : Protocol} {m : Merger} (inv : Invariant sites p) (i 
     abbrev c : ℕ
     c = coordinatorOf t
 
-    placed : AtStage p c t stage.decided ⊎ Installed p c t → p .has c t ≡ true
-    placed (inl x) = inv .parts .has c t (λ f. omega arith)
-    placed (inr (j, (l, e))) = rw e at (inv .parts .entry-has c j l)
-
-    pub coordinator-site : (1 ≤ c) × (c ≤ sites)
-    coordinator-site = inv .parts .site c t (placed (inv .order .held t committed))
+    site : 1 ≤ c
+    site = coordinator-site inv t committed .0
 
     -- all taken: what was not emitted is queued
     queued-there : (j : ℕ) → j < length (inst p c) → at p c j .tx ≡ t → length (gone inv i c) ≤ j → m .took c ≡ length (p .log c) → HeadUpTo p m t c
@@ -54,10 +51,10 @@ module _ {sites : ℕ} {p : Protocol} {m : Merger} (inv : Invariant sites p) (i 
 
         go : (q : List Entry) → m .queue c ≡ q → HeadUpTo p m t c
         go [] f =
-            let s : inst p c ≡ gone inv i c ++ [] = rw (f, all) at (inst-split inv i c (coordinator-site .0)) in
+            let s : inst p c ≡ gone inv i c ++ [] = rw (f, all) at (inst-split inv i c site) in
             absurd (omega (arith, ap length s, length-append (gone inv i c) []))
         go (x ∷ q) f =
-            let (n, b) = head-at inv i c x q (coordinator-site .0) f in (
+            let (n, b) = head-at inv i c x q site f in (
               x,
               q,
               f,
@@ -66,9 +63,8 @@ module _ {sites : ℕ} {p : Protocol} {m : Merger} (inv : Invariant sites p) (i 
                   let y : at p c j ≡ x = rw z at b in
                   omega (arith, number, ap (λ (y : Entry). y .number) y, ap (λ (y : Entry). coordinatorOf (y .tx)) y, ap coordinatorOf e))
                   (λ (z : length (gone inv i c) < j).
-                  let y = own-parts c [] (p .log c) (inv .order .own c) _ j z l (ap coordinatorOf e) in
-                  let v : rankOf x < rank (p .num t) c = rw (b, number) at y in
-                  omega arith)
+                  let v : rankOf x < rankOf (at p c j) = rw b at (parts-ascend [] (p .log c) (inv .order .ascends c) _ j z l) in
+                  omega (arith, number, ap coordinatorOf e))
                   (eq-or-lt-of-le h),
             )
 
@@ -76,5 +72,5 @@ module _ {sites : ℕ} {p : Protocol} {m : Merger} (inv : Invariant sites p) (i 
     drained-head n u (k, b) = go (inv .order .held t committed)
       where
         go : AtStage p c t stage.decided ⊎ Installed p c t → Out m t ⊎ HeadUpTo p m t c
-        go (inl x) = absurd (omega (arith, i .source c .ends, end-below 0 (all-take (m .took c) (p .log c) (inv .order .decided t x)) committed))
-        go (inr (j, (l, e))) = ⊎-elim (λ x. inl (rw e at x)) (λ x. inr (queued-there j l e x k)) (not-gone inv i c j (coordinator-site .0) l)
+        go (inl x) = absurd (omega (arith, i .source c .ends, end-below 0 (all-take (m .took c) (p .log c) (inv .order .decided c t x)) committed))
+        go (inr (j, (l, e))) = ⊎-elim (λ x. inl (rw e at x)) (λ x. inr (queued-there j l e x k)) (not-gone inv i c j site l)

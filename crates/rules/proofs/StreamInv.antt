@@ -1,4 +1,4 @@
--- What holds of the merger over the sites' logs (M1 to M3), and what that says of each item and of each queued part: it is the part that
+-- What holds of the merger over the sites' logs, and what that says of each item and of each queued part: it is the part that
 -- its site installed.
 use Prim.Native.Nat.{ℕ, zero, suc, _+_, _≤_, _<_}
 use mathlib.Core.Path.{_≡_, refl, sym, ap, _∙_}
@@ -55,7 +55,7 @@ abbrev pub NotAbove : ℕ → ℕ → Rec → Type 0
 NotAbove last state (rPart e) = rankOf e ≤ last
 NotAbove last state (rState n) = n ≤ state
 
--- M1: the merger took a prefix of the log of s; its parts are those emitted and then those queued.
+-- The merger took a prefix of the log of s; its parts are those emitted and then those queued.
 pub record Source (out : List Item) (s : ℕ) (log : List Rec) (took : ℕ) (queue : List Entry) (state last : ℕ) : Type 0 where
   pub count : took ≤ length log
   pub parts : 1 ≤ s → partsOf (take took log) ≡ partsAt s out ++ queue
@@ -65,7 +65,7 @@ pub record Source (out : List Item) (s : ℕ) (log : List Rec) (took : ℕ) (que
 abbrev pub SourceAt : Protocol → Merger → ℕ → Type 0
 SourceAt p m s = Source (m .out) s (p .log s) (m .took s) (m .queue s) (m .state s) (m .last s)
 
--- M2 (`clock`) and M3: what was emitted ascends, and is every committed transaction up to its last. `home`: each item has a site.
+-- `clock`: no clock is below what was emitted. What was emitted ascends, and is every committed transaction up to its last. `home`: each item has a site.
 pub record Streamed (sites : ℕ) (p : Protocol) (m : Merger) : Type 0 where
   pub source : (s : ℕ) → SourceAt p m s
   pub clock : (s i : ℕ) → 1 ≤ s → s ≤ sites → i < length (m .out) → itemAt m i .number ≤ p .clock s
@@ -144,12 +144,6 @@ module _ {sites : ℕ} {p : Protocol} {m : Merger} (inv : Invariant sites p) (i 
   gone-at s j h l =
       rw (inst-split s h)
       (omega (arith, length-append (gone s) (m .queue s ++ partsOf (rest s))), List·getD-append (gone s) (m .queue s ++ partsOf (rest s)) pastEntry j l)
-
-  later-at : (s j : ℕ) → 1 ≤ s → j < length (m .queue s ++ partsOf (rest s))
-      → (length (gone s) + j < length (inst p s)) × (at p s (length (gone s) + j) ≡ getD (m .queue s ++ partsOf (rest s)) j pastEntry)
-  later-at s j h l =
-      rw (inst-split s h)
-      (omega (arith, length-append (gone s) (m .queue s ++ partsOf (rest s))), getD-append-add (gone s) (m .queue s ++ partsOf (rest s)) j pastEntry)
 
   -- the head of a queue
   pub head-at : (s : ℕ) (e : Entry) (l : List Entry) → 1 ≤ s → m .queue s ≡ e ∷ l → (length (gone s) < length (inst p s)) × (at p s (length (gone s)) ≡ e)

@@ -1,5 +1,5 @@
 -- The next record of a log, against what the merger has taken: it stands behind all of it, and so above it.
-use Prim.Native.Nat.{ℕ, zero, suc, _+_, _≤_, _<_}
+use Prim.Native.Nat.{ℕ, zero, suc, _≤_, _<_}
 use mathlib.Core.Path.{_≡_, refl, sym, _∙_}
 use mathlib.Core.List.{List, [], _∷_, _++_, append-assoc, append-nil}
 use native.Mathlib.Omega.{arith}
@@ -11,28 +11,24 @@ use Rattle.laws.specs.Choice.{by-test}
 use Rattle.laws.specs.Pair.{rank}
 use Rattle.kinds.specs.declared.Entry.{Entry}
 use Rattle.kinds.specs.State.{pastEntry}
-use Rattle.rules.specs.House.{coordinatorOf}
 use Rattle.rules.specs.World.{upd}
 use Rattle.rules.proofs.Tables.{All, a-nil, a-cons}
 use Rattle.rules.proofs.Protocol.{Protocol, Rec, rPart, rState, partsOf}
-use Rattle.rules.proofs.Invariants.{RecBelow, OwnAbove, Invariant}
+use Rattle.rules.proofs.Invariants.{RecBelow, Ascending, Invariant, StandsBefore}
 use Rattle.rules.proofs.Changes.{change}
-use Rattle.rules.proofs.Ascends.{Ascends}
 use Rattle.rules.proofs.Stream.{Merger, rankOf, Merging, takePart, takeState, emit, Stream, Steps, stop, more, moves, merges, replays, freshMerger}
-use Rattle.rules.proofs.StreamInv.{Real, real-at, Streamed}
+use Rattle.rules.proofs.StreamInv.{Real, real-at, Streamed, endState}
 use Rattle.rules.proofs.StreamTake.{taken-more, grown}
-use Rattle.rules.proofs.StreamEmit.{end-below}
+use Rattle.rules.proofs.StreamDue.{end-below}
 use Rattle.rules.proofs.StreamReached.{Standing, standing-steps}
 
--- A part in a log: what stands before it is below it, and it is one that its site installed.
-pub above-at : (c : ℕ) (before l : List Rec) (i : ℕ) (e : Entry) → OwnAbove c before l → i < length l → getD l i (rState 0) ≡ rPart e → coordinatorOf (e .tx) ≡ c
-    → All (RecBelow (e .number) c) (before ++ take i l)
-above-at c before [] i e o h q k = absurd (omega arith)
-above-at c before (rPart x ∷ l) zero e (a, o) h q k = let z : x ≡ e = cc in rw append-nil (rw z at a k)
-above-at c before (rState n ∷ l) zero e o h q k = absurd (let z : _≡_ {A = ℕ} 0 1 = cc in omega arith)
-above-at c before (rPart x ∷ l) (suc i) e (a, o) h q k = rw append-assoc at (above-at c (before ++ (rPart x ∷ [])) l i e o (omega arith) q k)
-above-at c before (rState n ∷ l) (suc i) e o h q k = rw append-assoc at (above-at c (before ++ (rState n ∷ [])) l i e o (omega arith) q k)
+-- A record of a log: what stands before it.
+pub stands-before : (before l : List Rec) (i : ℕ) → Ascending before l → i < length l → All (StandsBefore (getD l i (rState 0))) (before ++ take i l)
+stands-before before [] i o h = absurd (omega arith)
+stands-before before (x ∷ l) zero (a, o) h = rw append-nil a
+stands-before before (x ∷ l) (suc i) (a, o) h = rw append-assoc at (stands-before (before ++ (x ∷ [])) l i o (omega arith))
 
+-- A part of a log is one that its site installed.
 part-index : (l : List Rec) (i : ℕ) (e : Entry) → i < length l → getD l i (rState 0) ≡ rPart e → (j : ℕ) × (j < length (partsOf l)) × (getD (partsOf l) j pastEntry ≡ e)
 part-index [] i e h q = absurd (omega arith)
 part-index (rPart x ∷ l) zero e h q = (0, omega arith, cc)
@@ -87,11 +83,21 @@ pub lasts-fresh : (p : Protocol) → Lasts p freshMerger
 unfolding freshMerger
 lasts-fresh p s = refl
 
--- The next, where it is a part, is above the last part and beyond the last state.
-pub next-part : {sites : ℕ} {p : Protocol} {m : Merger} → Invariant sites p → Ascends p → Streamed sites p m → Lasts p m → (s : ℕ) (e : Entry)
-    → m .took s < length (p .log s) → getD (p .log s) (m .took s) (rState 0) ≡ rPart e → (m .last s < rankOf e) × (m .state s < e .number)
-next-part {p = p} {m = m} inv a i f s e h q =
-    let r = part-real inv s (m .took s) e h q in
-    let n : 0 < e .number = rw (r .number) (r .committed) in
-    let b = above-at (coordinatorOf (e .tx)) [] (p .log s) (m .took s) e (a .above s (coordinatorOf (e .tx))) h q refl in
-    (omega (arith, f s, rank-below 0 b (omega arith)), omega (arith, i .source s .ends, end-below 0 b n))
+state-upto : (n k : ℕ) {l : List Rec} → All (StandsBefore (rState n)) l → k ≤ n → endState k l ≤ n
+state-upto n k a-nil h = h
+state-upto n k (a-cons {x = rPart e} p ps) h = state-upto n k ps h
+state-upto n k (a-cons {x = rState i} p ps) h = state-upto n i ps p
+
+-- The next: where it is a part, above the last part and beyond the last state, where it is a state, not below the last.
+module _ {sites : ℕ} {p : Protocol} {m : Merger} (inv : Invariant sites p) (i : Streamed sites p m) (s : ℕ) (h : m .took s < length (p .log s)) where
+  pub next-part : Lasts p m → (e : Entry) → getD (p .log s) (m .took s) (rState 0) ≡ rPart e → (m .last s < rankOf e) × (m .state s < e .number)
+  next-part f e q =
+      let r = part-real inv s (m .took s) e h q in
+      let n : 0 < e .number = rw (r .number) (r .committed) in
+      let b : All (StandsBefore (rPart e)) (take (m .took s) (p .log s)) = rw q at (stands-before [] (p .log s) (m .took s) (inv .order .ascends s) h) in
+      (omega (arith, f s, rank-below 0 b (omega arith)), omega (arith, i .source s .ends, end-below 0 b n))
+
+  pub next-state : (n : ℕ) → getD (p .log s) (m .took s) (rState 0) ≡ rState n → m .state s ≤ n
+  next-state n q =
+      let b : All (StandsBefore (rState n)) (take (m .took s) (p .log s)) = rw q at (stands-before [] (p .log s) (m .took s) (inv .order .ascends s) h) in
+      omega (arith, i .source s .ends, state-upto n 0 b (omega arith))

@@ -25,7 +25,7 @@ out-grows {m = m} (takePart s e r l k) = ([], sym (append-nil (m .out)))
 out-grows {m = m} (takeState s k r l) = ([], sym (append-nil (m .out)))
 out-grows {m = m} (emit g d) = (itemOf g (m .queue) ∷ [], refl)
 
--- P1 is `replayed`: a copy has replayed a prefix of what was emitted
+-- `replayed`: a copy has replayed a prefix of what was emitted
 pub record Standing (sites : ℕ) (w : Stream) : Type 0 where
   pub invariant : Invariant sites (w .protocol)
   pub streamed : Streamed sites (w .protocol) (w .merger)
@@ -59,6 +59,3 @@ standing-fresh sites = record { invariant = invariant-fresh sites; streamed = st
 pub standing-steps : {sites : ℕ} {v w : Stream} → sites ≤ 8 → Steps sites v w → Standing sites v → Standing sites w
 standing-steps h stop i = i
 standing-steps h (more ss s) i = standing-step h s (standing-steps h ss i)
-
-pub standing : {sites : ℕ} {w : Stream} → sites ≤ 8 → Steps sites freshStream w → Standing sites w
-standing {sites} h s = standing-steps h s (standing-fresh sites)

@@ -13,10 +13,10 @@ use Rattle.kinds.specs.State.{noSub, noKeys, pastEntry}
 use Rattle.rules.specs.Keys.{wroteKey}
 use Rattle.rules.specs.Course.{newSub, withParticipant, withReply, withDecision, withMark, withRequest, withStage}
 use Rattle.rules.specs.Install.{entryOf}
-use Rattle.rules.proofs.Tables.{upd₂, upd-same, upd-cases, upd₂-same, upd₂-cases, Other₂}
+use Rattle.rules.proofs.Tables.{upd₂, upd-same, upd-cases, upd₂-same, upd₂-cases, Other₂, here₂, upd₂-other}
 use Rattle.rules.proofs.Protocol.{Protocol, Rec, rPart, rState, partsOf, inst, AtStage, courseAt, LeastQueued, StateAt, Move, begin, enlist, access, request, abort, cast, decide, install, report, joins, full, joined, prepared, lost, unknown, gathers, certified, rejects, votes, commits, aborts, passes}
 use Rattle.rules.proofs.Invariants.{Held, at, Installed, Invariant}
-use Rattle.rules.proofs.Frames.{here₂, said, new-tx, new-join}
+use Rattle.rules.proofs.Frames.{said, new-tx, new-join}
 use Rattle.rules.proofs.StepParts.{parts-append}
 
 -- k was written by no other held part, nor installed after the snapshot
@@ -51,9 +51,6 @@ pub data Logged (p : Protocol) (s : ℕ) (l : List Rec) : Type 0 where
   l-same : l ≡ p .log s → Logged p s l
   l-part : (t : ℕ) → AtStage p s t stage.decided → LeastQueued p s t → l ≡ p .log s ++ (rPart (entryOf (p .live s t)) ∷ []) → Logged p s l
   l-state : (n : ℕ) → StateAt p s n → l ≡ p .log s ++ (rState n ∷ []) → Logged p s l
-
-pub upd₂-other : {A : Type 0} (f : ℕ → ℕ → A) (s t : ℕ) (a : A) (j u : ℕ) → Other₂ s t j u → upd₂ f s t a j u ≡ f j u
-upd₂-other f s t a = upd₂-cases (λ j u b. Other₂ s t j u → b ≡ f j u) f s t a (λ n. absurd (n (refl, refl))) (λ j u n x. refl)
 
 -- the last of a log's parts, where it is t's
 pub installed-last : (p : Protocol) (s t : ℕ) (l : List Rec) → p .live s t .tx ≡ t → l ≡ p .log s ++ (rPart (entryOf (p .live s t)) ∷ [])

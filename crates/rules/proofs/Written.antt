@@ -1,16 +1,14 @@
--- What a site writes into its log, as words: each record passes its check, and a state is not below the states before it. For the state
--- number is the clock, an open mark, or a decided number less 1, and none of these is below a state that the log has.
-use Prim.Native.Nat.{ℕ, _+_, _-_, _≤_, _<_}
+-- What a site writes into its log, as words: each record passes its check.
+use Prim.Native.Nat.{ℕ}
 use mathlib.Core.Path.{_≡_, refl, sym, ap, _∙_}
 use mathlib.Core.Bool.{true}
 use mathlib.Core.Logic.{_⊎_, inl, inr}
-use mathlib.Core.List.{List, [], _∷_, _++_, append-nil}
+use mathlib.Core.List.{List, [], _∷_, append-nil}
 use native.Mathlib.Omega.{arith}
 use borrow.Author.Tests.{le-leb}
-use lib.ListN.{length, getD, List·getD-append}
+use lib.ListN.{length}
 use Rattle.kinds.specs.Sizes as sizes
 use Rattle.kinds.specs.Stage as stage
-use Rattle.kinds.specs.Kind as kind
 use Rattle.kinds.specs.State.{Value, subAt}
 use Rattle.kinds.specs.declared.House.{House}
 use Rattle.kinds.specs.declared.Sub.{Sub}
@@ -18,11 +16,8 @@ use Rattle.kinds.specs.declared.RecordHead.{RecordHead}
 use Rattle.kinds.specs.declared.Site.{Site}
 use Rattle.kinds.specs.declared.Answer.the-variants.{Reported}
 use Rattle.rules.specs.House.{coordinatorOf, serialOf, isSite, isTx, inMask}
-use Rattle.rules.specs.Record.{recordHead, recordWords, partOk, stateOk}
-use Rattle.rules.specs.RecordLaws.{head-back}
-use Rattle.rules.specs.Live.{partAt}
+use Rattle.rules.specs.Record.{recordWords, partOk, stateOk}
 use Rattle.rules.specs.Queue.{leastQueued, isDue, stateNumber}
-use Rattle.rules.specs.QueueLaws.{StateIs, state-is}
 use Rattle.rules.specs.Valid.{siteOk}
 use Rattle.rules.specs.Effect.{Effect, refused}
 use Rattle.rules.specs.Install.{installCode, partHead, partWords, installedAt, installOf, reportCode, stateWords, reportOf}
@@ -30,44 +25,15 @@ use Rattle.rules.specs.InstallLaws.{due-low, due-decided, part-good, sta
 use Rattle.rules.specs.CallLaws.{install-clear, report-clear}
 use Rattle.rules.specs.World.{World, Call, step, siteStep, logStep, mergerStep, mergeStep, copyStep, replayStep, recordIn}
 use Rattle.rules.specs.World as world
-use Rattle.rules.proofs.Tables.{upd-cases, all-at}
-use Rattle.rules.proofs.Protocol.{Protocol, Rec, rPart, rState, AtStage}
+use Rattle.rules.proofs.Tables.{upd-cases, All, all-append, all-one}
+use Rattle.rules.proofs.Protocol.{Protocol, AtStage}
 use Rattle.rules.proofs.Invariants.{Invariant}
-use Rattle.rules.proofs.StepParts.{last-cases}
-use Rattle.rules.proofs.Ascends.{Ascends}
-use Rattle.rules.proofs.Refines.{recWords, partHeadOf, LiveIs, Refines}
+use Rattle.rules.proofs.Refines.{Refines}
 use Rattle.rules.proofs.RefineTurn.{part-place}
 use Rattle.rules.proofs.RefineStep.{by-code, inside}
-use Rattle.rules.proofs.RefineMerger.{part-head, state-head, map-at}
-
--- the head of the i-th record
-abbrev pub headIn : List (List ℕ) → ℕ → RecordHead
-headIn l i = recordHead (getD l i [])
 
 abbrev pub RecordOk : ℕ → List ℕ → Type 0
 RecordOk sites m = (partOk (record { sites = sites }) m ≡ true) ⊎ (stateOk (record { sites = sites }) m ≡ true)
-
--- of two states, the second is not below the first
-abbrev pub NotFalls : RecordHead → RecordHead → Type 0
-NotFalls a b = a .kind ≡ kind.state → b .kind ≡ kind.state → a .number ≤ b .number
-
-pub record Written (sites : ℕ) (l : List (List ℕ)) : Type 0 where
-  pub pass : (i : ℕ) → i < length l → RecordOk sites (getD l i [])
-  pub rise : (i j : ℕ) → i < j → j < length l → NotFalls (headIn l i) (headIn l j)
-
-pub written-none : (sites : ℕ) → Written sites []
-written-none sites = record { pass = λ i h. absurd (omega arith); rise = λ i j l h. absurd (omega arith) }
-
--- one record more
-more-written : {sites : ℕ} {l : List (List ℕ)} (m : List ℕ) → Written sites l → RecordOk sites m → ((i : ℕ) → i < length l → NotFalls (headIn l i) (recordHead m))
-    → Written sites (l ++ (m ∷ []))
-more-written {sites} {l} m w o f =
-    record {
-      pass = last-cases (λ i x. RecordOk sites x) l m [] (w .pass) o;
-      rise = λ i j k h. last-cases (λ j x. (i : ℕ) → i < j → NotFalls (headIn (l ++ (m ∷ [])) i) (recordHead x)) l m []
-          (λ j h i k. rw (List·getD-append l (m ∷ []) [] i (omega arith)) (w .rise i j k h))
-          (λ i k. rw (List·getD-append l (m ∷ []) [] i k) (f i k)) j h i k;
-    }
 
 record-written : (r : RecordHead) (ws : List ℕ) → recordIn (recordWords r ws) ≡ recordWords r ws ∷ []
 unfolding recordWords
@@ -76,55 +42,16 @@ record-written r ws = refl
 pub house-is : (o : House) (n : ℕ) → o .sites ≡ n → o ≡ record { sites = n }
 house-is o n e = λ i. record { sites = e i }
 
--- The state number is at or above every state before it.
-module _ {sites : ℕ} {p : Protocol} (inv : Invariant sites p) (a : Ascends p) (s : ℕ) where
-  state-above : (live : List Sub) (clock i k : ℕ) → LiveIs live (p .live s) → clock ≡ p .clock s → i < length (p .log s) → getD (p .log s) i (rState 0) ≡ rState k
-      → k ≤ stateNumber live clock sizes.live
-  state-above live clock i k l e h q = go (state-is live clock sizes.live)
-    where
-      here : (j : ℕ) → (partAt live j .course .stage ≡ stage.free → ⊥) → j < sizes.live → partAt live j ≡ p .live s (partAt live j .tx)
-      here j f b = l .holds j b f
-
-      go : StateIs live clock sizes.live (stateNumber live clock sizes.live) → k ≤ stateNumber live clock sizes.live
-      go (inl n) = let z : k ≤ p .clock s = rw q at (all-at (inv .clocks .log s) (rState 0) i h) in omega arith
-      go (inr (inl (j, b, g, n))) =
-          let t = partAt live j .tx in
-          let x = here j (λ f. omega arith) b in
-          let y : AtStage p s t stage.queued = sym (ap (λ (b : Sub). b .course .stage) x) ∙ g in
-          let z : k ≤ p .live s t .course .number = rw q at (all-at (a .queued s t y) (rState 0) i h) in
-          omega (arith, ap (λ (b : Sub). b .course .number) x)
-      go (inr (inr (j, b, g, n))) =
-          let t = partAt live j .tx in
-          let x = here j (λ f. omega arith) b in
-          let y : AtStage p s t stage.decided = sym (ap (λ (b : Sub). b .course .stage) x) ∙ g in
-          let z : k < p .num t = rw q at (all-at (a .decided s t y) (rState 0) i h) in
-          omega (arith, ap (λ (b : Sub). b .course .number) x, inv .courses .decided s t y .1)
-
-module _ {sites : ℕ} {w : World} {p : Protocol} (r : Refines sites w p) (inv : Invariant sites p) (a : Ascends p) (f : (s : ℕ) → Written sites (w .log s)) where
+module _ {sites : ℕ} {w : World} {p : Protocol} (r : Refines sites w p) (inv : Invariant sites p) (f : (s : ℕ) → All (RecordOk sites) (w .log s)) where
   -- a call that writes nothing, or one record, into the log of s
-  same-log : (s : ℕ) (e : Effect) (base : List Value) → e .words ≡ [] → (j : ℕ) → Written sites (logStep w s e base .world .log j)
+  same-log : (s : ℕ) (e : Effect) (base : List Value) → e .words ≡ [] → (j : ℕ) → All (RecordOk sites) (logStep w s e base .world .log j)
   unfolding logStep
-  same-log s e base n = upd-cases (λ j l. Written sites l) (w .log) s _ (rw (n, append-nil) (f s)) (λ j k. f j)
+  same-log s e base n = upd-cases (λ j l. All (RecordOk sites) l) (w .log) s _ (rw (n, append-nil) (f s)) (λ j k. f j)
 
   more-log : (s : ℕ) (e : Effect) (base : List Value) (h : RecordHead) (ws : List ℕ) → e .words ≡ recordWords h ws → RecordOk sites (recordWords h ws)
-      → ((i : ℕ) → i < length (w .log s) → NotFalls (headIn (w .log s) i) h) → (j : ℕ) → Written sites (logStep w s e base .world .log j)
+      → (j : ℕ) → All (RecordOk sites) (logStep w s e base .world .log j)
   unfolding logStep
-  more-log s e base h ws n o b =
-      upd-cases (λ j l. Written sites l) (w .log) s _
-      (rw (n, record-written h ws) (more-written (recordWords h ws) (f s) o (rw (head-back h ws) b))) (λ j k. f j)
-
-  -- a state of the log, as the protocol has it
-  pub state-in : (s i : ℕ) → i < length (w .log s) → headIn (w .log s) i .kind ≡ kind.state
-      → (i < length (p .log s)) × (getD (p .log s) i (rState 0) ≡ rState (headIn (w .log s) i .number))
-  unfolding partHeadOf
-  state-in s i h k =
-      let (b, q) = map-at (recWords s) (p .log s) (rState 0) i (rw (r .log s) at h) in
-      let e : getD (w .log s) i [] ≡ recWords s (getD (p .log s) i (rState 0)) = rw (r .log s) q in
-      (b, go (getD (p .log s) i (rState 0)) (ap recordHead e))
-    where
-      go : (x : Rec) → headIn (w .log s) i ≡ recordHead (recWords s x) → x ≡ rState (headIn (w .log s) i .number)
-      go (rPart e) q = absurd (let z : kind.state ≡ kind.part = sym k ∙ ap (λ (h : RecordHead). h .kind) (q ∙ part-head s e) in omega arith)
-      go (rState n) q = ap rState (sym (ap (λ (h : RecordHead). h .number) (q ∙ state-head s n)))
+  more-log s e base h ws n o = upd-cases (λ j l. All (RecordOk sites) l) (w .log) s _ (rw (n, record-written h ws) (all-append (f s) (all-one o))) (λ j k. f j)
 
   module _ (s : ℕ) (out : List ℕ) where
     abbrev site : Site
@@ -136,20 +63,18 @@ module _ {sites : ℕ} {w : World} {p : Protocol} (r : Refines sites w p) (inv :
     abbrev reported : Effect
     reported = record { answer = Reported number; words = stateWords (site .counters .own) number; site = site; lent = [] }
 
-    reports : reportCode (siteOk site) (length out) ≡ 0 → (j : ℕ) → Written sites (logStep w s reported (w .base s) .world .log j)
+    reports : reportCode (siteOk site) (length out) ≡ 0 → (j : ℕ) → All (RecordOk sites) (logStep w s reported (w .base s) .world .log j)
     unfolding stateWords
     reports e =
         let v = report-clear (siteOk site) (length out) e .valid in
         let (l, h) = inside r s v in
         let y = r .site s l h in
-        more-log s reported (w .base s) _ [] refl
-        (inr (rw (house-is (site .house) sites (y .house)) at (state-good site number v)))
-        (λ i b k z. let (c, q) = state-in s i b k in state-above inv a s (site .live) (site .counters .clock) i _ (y .live) (y .counters .clock-is) c q)
+        more-log s reported (w .base s) _ [] refl (inr (rw (house-is (site .house) sites (y .house)) at (state-good site number v)))
 
-    report-written : (j : ℕ) → Written sites (step w (world.report s out) .world .log j)
+    report-written : (j : ℕ) → All (RecordOk sites) (step w (world.report s out) .world .log j)
     unfolding step reportOf
     report-written =
-        by-code (λ e. (j : ℕ) → Written sites (logStep w s e (w .base s) .world .log j)) (reportCode (siteOk site) (length out)) site [] reported
+        by-code (λ e. (j : ℕ) → All (RecordOk sites) (logStep w s e (w .base s) .world .log j)) (reportCode (siteOk site) (length out)) site [] reported
         reports (same-log s (refused (reportCode (siteOk site) (length out)) site []) (w .base s) refl)
 
     abbrev due : ℕ
@@ -176,19 +101,19 @@ module _ {sites : ℕ} {w : World} {p : Protocol} (r : Refines sites w p) (inv :
     abbrev code : ℕ
     code = installCode (siteOk site) (length out) (length (w .base s)) (isDue (site .live) due) (site .counters .installs)
 
-    installs : code ≡ 0 → (j : ℕ) → Written sites (logStep w s (installedAt site (w .base s) due) (installedAt site (w .base s) due .lent) .world .log j)
+    installs : code ≡ 0 → (j : ℕ) → All (RecordOk sites) (logStep w s (installedAt site (w .base s) due) (installedAt site (w .base s) due .lent) .world .log j)
     unfolding installedAt partWords partHead
     installs e =
         let c = install-clear (siteOk site) (length out) (length (w .base s)) (isDue (site .live) due) (site .counters .installs) e in
-        more-log s (installedAt site (w .base s) due) _ _ _ refl (inl (part-passes (c .valid) (c .least))) (λ i b k z. absurd (omega arith))
+        more-log s (installedAt site (w .base s) due) _ _ _ refl (inl (part-passes (c .valid) (c .least)))
 
-    install-written : (j : ℕ) → Written sites (step w (world.install s out) .world .log j)
+    install-written : (j : ℕ) → All (RecordOk sites) (step w (world.install s out) .world .log j)
     unfolding step installOf
     install-written =
-        by-code (λ e. (j : ℕ) → Written sites (logStep w s e (e .lent) .world .log j)) code site (w .base s) (installedAt site (w .base s) due)
+        by-code (λ e. (j : ℕ) → All (RecordOk sites) (logStep w s e (e .lent) .world .log j)) code site (w .base s) (installedAt site (w .base s) due)
         installs (same-log s (refused code site (w .base s)) (w .base s) refl)
 
-  pub call-written : (c : Call) (s : ℕ) → Written sites (step w c .world .log s)
+  pub call-written : (c : Call) (s : ℕ) → All (RecordOk sites) (step w c .world .log s)
   unfolding step siteStep mergeStep mergerStep replayStep copyStep
   call-written (world.begin s) = f
   call-written (world.enlist s out t n) = f

@@ -1,10 +1,10 @@
 -- 01, course 1: begin makes the site coordinator; the snapshot is the number of installs so far.
-use Prim.Native.Nat.{ℕ, _+_, _≤_, _<_}
+use Prim.Native.Nat.{ℕ, _+_, _<_}
 use mathlib.Core.Path.{_≡_, refl}
 use mathlib.Core.List.{List, [], _∷_}
-use mathlib.Core.Bool.{Bool, true, false, not}
+use mathlib.Core.Bool.{Bool, true, not}
 use borrow.Author.Tests.{leb-false, not-false}
-use lib.Dec.{ltb, leb, eqb}
+use lib.Dec.{leb}
 use Rattle.laws.specs.Cause.{Cause, cause, codeOf, clear-at}
 use Rattle.kinds.specs.Sizes as sizes
 use Rattle.kinds.specs.Reason as reason

@@ -1,9 +1,8 @@
 -- 01, course 5 to 8: the list of concurrent transactions that a site makes, and its vote on a joined list.
-use Prim.Native.Nat.{ℕ, zero, suc, _+_, _-_, _*_, _≤_, _<_}
+use Prim.Native.Nat.{ℕ, _+_, _-_}
 use mathlib.Core.List.{List, [], _∷_, _++_}
-use mathlib.Core.Bool.{Bool, true, false, not}
-use lib.ListN.{length}
-use lib.Dec.{ltb, leb, eqb}
+use mathlib.Core.Bool.{Bool, not}
+use lib.Dec.{ltb, eqb}
 use Rattle.laws.specs.Choice.{pick, every, some}
 use Rattle.laws.specs.Scan.{anyBelow, foldBelow}
 use Rattle.kinds.specs.Sizes as sizes
@@ -70,7 +69,7 @@ conflictsWith s place es i =
     let b = subAt s place in
     anyBelow (λ k. conflictsAt (b .keys) es i (recall (s .history) n k)) (within n (b .snapshot))
 
--- entry i has a record here: live, or in the history
+-- tx has a record here: live, or in the history
 unfoldable pub isRecorded : Site → ℕ → Bool
 isRecorded s tx =
     some (isHeld (s .live) tx

@@ -10,7 +10,7 @@ use native.Mathlib.Numerals.{add-one}
 use borrow.Author.Tests.{ltb-true, eqb-true, eqb-false, lt-ltb, eq-eqb, ne-eqb, not-true}
 use lib.ListN.{length, getD, length-append, List·getD-eq-default}
 use lib.Dec.{ltb, eqb}
-use Rattle.laws.specs.Choice.{every, some, by-test, picked-left, picked-right, every-at}
+use Rattle.laws.specs.Choice.{every, some, by-test, picked-left, picked-right, every-at, some-two, set-not}
 use Rattle.laws.specs.Scan.{anyBelow, foldBelow, fold-more, split-last, any-below, any-below-at, firstBelow, at-first}
 use Rattle.kinds.specs.Sizes as sizes
 use Rattle.kinds.specs.Reason as reason
@@ -25,7 +25,7 @@ use Rattle.rules.specs.Keys.{dependent}
 use Rattle.rules.specs.Live.{partAt, isPrepared, isPartOf, placeOf, isHeld}
 use Rattle.rules.specs.History.{recall, remembered, forgotten, within, recallPlace}
 use Rattle.rules.specs.HistoryLaws.{remembered-few}
-use Rattle.rules.specs.JoinLaws.{count-le, count-joined, length-joined}
+use Rattle.rules.specs.JoinLaws.{count-le, count-joined, join-whole}
 use Rattle.rules.specs.Certify.{markOf, concurrentWords, preparedWords, installedWords, preparedList, installedList, candidates, concurrent, conflictsAt, conflictsWith, isRecorded, uncertainOf, voteOf}
 use Rattle.rules.specs.EntryLaws.{gathered, Entries, gathered-at, gathered-marks, Holds, Listing, Marks, joined-lists, joined-ascends, append-left, append-right, append-marks}
 
@@ -126,7 +126,7 @@ installed-holds history installs own seen n i h =
     gathered-holds (λ i. installedWords own (recall history installs (seen + i))) (λ i. inr refl) n i own (e .tx) (e .mask) (e .keys) h refl
 
 module _ (s : Site) (place : ℕ) where
-  candidates-marks : Marks (candidates s place)
+  pub candidates-marks : Marks (candidates s place)
   unfolding candidates preparedList installedList installedWords
   candidates-marks =
       let n = s .counters .installs in
@@ -152,9 +152,7 @@ module _ (s : Site) (place : ℕ) where
   -- The list is of whole entries, at most 47,
   pub concurrent-whole : length (concurrent s place) ≡ sizes.entry * entryCount (concurrent s place)
   unfolding concurrent
-  concurrent-whole =
-      let es = candidates s place in
-      length-joined es (entryCount es) ∙ ap (λ (x : ℕ). sizes.entry * x) (sym (count-joined es (entryCount es)))
+  concurrent-whole = join-whole (candidates s place) (entryCount (candidates s place))
 
   pub concurrent-few : place < sizes.live → entryCount (concurrent s place) ≤ sizes.concEntries
   unfolding concurrent entryCount
@@ -213,11 +211,6 @@ pub record Doubt (s : Site) (es : List ℕ) (n : ℕ) : Type 0 where
   pub names : inMask (entryMask es entry) (s .counters .own) ≡ true
   pub none : isRecorded s (entryTx es entry) ≡ false
 
-either : (x y : Bool) → some (x ∷ y ∷ []) ≡ true → (x ≡ true) ⊎ (y ≡ true)
-either true y t = inl refl
-either false true t = inr refl
-either false false t = absurd (let z : _≡_ {A = ℕ} 0 1 = cc in omega arith)
-
 second : (x : Bool) → some (x ∷ true ∷ []) ≡ true
 second true = refl
 second false = refl
@@ -251,7 +244,7 @@ any-conflict s place es n t =
           ⊎-elim
           (λ (q : eqb (entryMark es i) 1 ≡ true). inl (eqb-true (entryMark es i) 1 q))
           (λ (q : dependent own (e .keys) ≡ true). inr q)
-          (either (eqb (entryMark es i) 1) (dependent own (e .keys)) (picked-left y true (picked-right (eqb (entryTx es i) (e .tx)) (every (y ∷ [])) v)));
+          (some-two (eqb (entryMark es i) 1) (dependent own (e .keys)) (picked-left y true (picked-right (eqb (entryTx es i) (e .tx)) (every (y ∷ [])) v)));
     }
 
 doubt-any : (s : Site) (es : List ℕ) (n : ℕ) → Doubt s es n → anyBelow (uncertainOf s es) n ≡ true
@@ -293,11 +286,8 @@ by-vote s place es n f g h =
     by-test (anyBelow (conflictsWith s place es) n)
     (λ t. g (rw t) (any-conflict s place es n t))
     (λ t. by-test (anyBelow (uncertainOf s es) n)
-    (λ u. h (rw (t, u)) (λ c. apart (conflict-any s place es n c) t) (any-doubt s es n u))
-    (λ u. f (rw (t, u)) (λ c. apart (conflict-any s place es n c) t) (λ d. apart (doubt-any s es n d) u)))
-  where
-    apart : {b : Bool} → b ≡ true → b ≡ false → ⊥
-    apart t f = let z : _≡_ {A = ℕ} 0 1 = cc in omega arith
+    (λ u. h (rw (t, u)) (λ c. set-not _ (conflict-any s place es n c) t) (any-doubt s es n u))
+    (λ u. f (rw (t, u)) (λ c. set-not _ (conflict-any s place es n c) t) (λ d. set-not _ (doubt-any s es n d) u)))
 
 -- Yes: no entry is for an install within the snapshot that is marked or dependent here,
 pub yes-clear : (s : Site) (place : ℕ) (es : List ℕ) (n : ℕ) → voteOf s place es n ≡ 0 → (j k : ℕ) → j < n
@@ -328,4 +318,4 @@ recorded-is s tx t =
     ⊎-elim
     (λ (h : ltb (firstBelow held sizes.live) sizes.live ≡ true). inl (firstBelow held sizes.live, ltb-true _ _ h, at-first held sizes.live (ltb-true _ _ h)))
     (λ (h : ltb (firstBelow kept m) m ≡ true). inr (firstBelow kept m, ltb-true _ _ h, eqb-true _ _ (at-first kept m (ltb-true _ _ h))))
-    (either (ltb (firstBelow held sizes.live) sizes.live) (ltb (firstBelow kept m) m) t)
+    (some-two (ltb (firstBelow held sizes.live) sizes.live) (ltb (firstBelow kept m) m) t)

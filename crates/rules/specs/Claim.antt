@@ -1,16 +1,13 @@
 -- Demand 3, the claims: what holds after any list of calls, in the words of the book.
-use Prim.Native.Nat.{ℕ, _+_, _≤_, _<_}
+use Prim.Native.Nat.{ℕ, _≤_, _<_}
 use mathlib.Core.Path.{_≡_}
 use mathlib.Core.Logic.{_⊎_}
-use mathlib.Core.Bool.{Bool, true, false}
-use mathlib.Core.List.{List, [], _∷_, _++_}
-use lib.Dec.{eqb}
-use Rattle.laws.specs.Choice.{pick}
+use mathlib.Core.Bool.{true, false}
+use mathlib.Core.List.{List, _∷_, _++_}
 use Rattle.laws.specs.Pair.{precedes}
 use Rattle.kinds.specs.Sizes as sizes
 use Rattle.kinds.specs.State.{Value, fresh}
 use Rattle.kinds.specs.declared.House.{House}
-use Rattle.kinds.specs.declared.Answer.{Answer}
 use Rattle.kinds.specs.declared.Answer.the-variants.{Standing}
 use Rattle.rules.specs.House.{siteOf}
 use Rattle.rules.specs.Copy.{valueOf}
@@ -37,8 +34,8 @@ abbrev pub Committed : List Fact → ℕ → ℕ → ℕ → Type 0
 Committed b tx n c = Is (committed tx n c) b
 
 -- the pair of a copy's last replay, (0, 0) before the first
-abbrev pub lastReplay : ℕ → List Fact → ℕ → ℕ → Type 0
-lastReplay copy b n c =
+abbrev pub LastReplay : ℕ → List Fact → ℕ → ℕ → Type 0
+LastReplay copy b n c =
     (((p : List Fact) × (q : List Fact) × (b ≡ p ++ (replayed copy n c ∷ q)) × ((m d : ℕ) → Is (replayed copy m d) q → ⊥))
     ⊎ (((m d : ℕ) → Is (replayed copy m d) b → ⊥) × (n ≡ 0) × (c ≡ 0)))
 
@@ -59,7 +56,7 @@ pub record CopyHolds (b : List Fact) (w : World) (copy key : ℕ) : Type 0 where
   pub number : ℕ
   pub coordinator : ℕ
   pub answers : valueOf (w .copy copy) key ≡ Standing value number coordinator
-  pub last : lastReplay copy b number coordinator
+  pub last : LastReplay copy b number coordinator
   pub up-to : ((number ≡ 0) × (coordinator ≡ 0)) ⊎ ((tx : ℕ) × Committed b tx number coordinator)
   pub left : LeftBy b number coordinator key value
 

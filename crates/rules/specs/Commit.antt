@@ -1,7 +1,7 @@
 -- 01, course 4 to 9, at the coordinator: the commit request and abandon.
-use Prim.Native.Nat.{ℕ, _+_, _*_, _≤_, _<_}
+use Prim.Native.Nat.{ℕ, _*_}
 use mathlib.Core.List.{List, [], _∷_}
-use mathlib.Core.Bool.{Bool, true, false, not}
+use mathlib.Core.Bool.{Bool, true, not}
 use lib.ListN.{length}
 use lib.Dec.{ltb, leb, eqb}
 use Rattle.laws.specs.Choice.{pick}
@@ -10,14 +10,12 @@ use Rattle.laws.specs.Overlay.{putAt}
 use Rattle.kinds.specs.Sizes as sizes
 use Rattle.kinds.specs.Stage as stage
 use Rattle.kinds.specs.Reason as reason
-use Rattle.kinds.specs.declared.Course.{Course}
-use Rattle.kinds.specs.declared.Sub.{Sub}
 use Rattle.kinds.specs.declared.Site.{Site}
 use Rattle.kinds.specs.State.{subAt}
-use Rattle.rules.specs.House.{coordinatorOf}
+use Rattle.rules.specs.Enlist.{isMine}
 use Rattle.rules.specs.Message.{entryCount}
 use Rattle.rules.specs.Send.{countsLow}
-use Rattle.rules.specs.Live.{placeOf, stageAt, allHeard}
+use Rattle.rules.specs.Live.{placeOf, allHeard}
 use Rattle.rules.specs.History.{isForgotten}
 use Rattle.rules.specs.Join.{joined}
 use Rattle.rules.specs.Certify.{concurrent, voteOf}
@@ -71,9 +69,6 @@ commitChange s place =
 
 unfoldable pub commitLists : Site → List ℕ → ℕ → List ℕ
 commitLists s lists place = pick (isFull s place) lists (pick (isLost s place) lists (putAt (sizes.gathered * place) lists (concurrent s place)))
-
-abbrev pub isMine : Site → ℕ → Bool
-isMine s tx = eqb (coordinatorOf tx) (s .counters .own)
 
 unfoldable pub commitOf : Site → ℕ → List ℕ → ℕ → Effect
 commitOf s room lists tx =

@@ -1,9 +1,9 @@
 -- 01, "Merger and copy": a copy is words: its last number, its last coordinator, then the value of each key.
-use Prim.Native.Nat.{ℕ, _+_, _*_, _≤_, _<_}
+use Prim.Native.Nat.{ℕ, _+_}
 use mathlib.Core.List.{List, [], _∷_}
-use mathlib.Core.Bool.{Bool, true, false, not}
+use mathlib.Core.Bool.{not}
 use lib.ListN.{length, getD, set, replicate}
-use lib.Dec.{ltb, leb, eqb}
+use lib.Dec.{leb, eqb}
 use Rattle.laws.specs.Choice.{pick}
 use Rattle.laws.specs.Scan.{foldBelow}
 use Rattle.laws.specs.Cause.{Cause, cause, codeOf}
@@ -35,12 +35,15 @@ unfoldable pub putWrites : List ℕ → List ℕ → ℕ → List ℕ
 putWrites copy ws n = foldBelow (λ i l. set l (sizes.copyHeader + writeKey ws i) (writeValue ws i)) n copy
 
 -- Replay: a merged record whose pair is above the last.
-unfoldable pub replayCode : List ℕ → List ℕ → ℕ
-replayCode copy m =
-    codeOf (cause (not (eqb (length copy) sizes.copy)) reason.malformed
+abbrev pub replayCauses : List ℕ → List ℕ → List Cause
+replayCauses copy m =
+    cause (not (eqb (length copy) sizes.copy)) reason.malformed
     ∷ cause (not (mergedOk m)) reason.malformed
     ∷ cause (not (precedes (copyNumber copy) (copyCoordinator copy) (recordHead m .number) (recordHead m .coordinator))) reason.behind
-    ∷ [])
+    ∷ []
+
+unfoldable pub replayCode : List ℕ → List ℕ → ℕ
+replayCode copy m = codeOf (replayCauses copy m)
 
 unfoldable pub replayed : List ℕ → List ℕ → List ℕ
 replayed copy m =
@@ -55,8 +58,11 @@ replayOf copy m =
     (record { answer = Refused code; copy = copy })
 
 -- Value: with the copy's pair.
+abbrev pub valueCauses : List ℕ → ℕ → List Cause
+valueCauses copy k = cause (not (eqb (length copy) sizes.copy)) reason.malformed ∷ cause (leb sizes.keys k) reason.malformed ∷ []
+
 unfoldable pub valueCode : List ℕ → ℕ → ℕ
-valueCode copy k = codeOf (cause (not (eqb (length copy) sizes.copy)) reason.malformed ∷ cause (leb sizes.keys k) reason.malformed ∷ [])
+valueCode copy k = codeOf (valueCauses copy k)
 
 unfoldable pub valueOf : List ℕ → ℕ → Answer
 valueOf copy k =

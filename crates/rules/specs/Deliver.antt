@@ -4,7 +4,6 @@ use mathlib.Core.List.{List, [], _∷_}
 use mathlib.Core.Bool.{Bool, true, false, not}
 use lib.ListN.{length, getD, drop}
 use lib.Dec.{ltb, leb, eqb}
-use lib.Bits.{bitOr}
 use Rattle.laws.specs.Choice.{pick, every, some}
 use Rattle.laws.specs.Cause.{Cause, cause, codeOf}
 use Rattle.laws.specs.Overlay.{putAt}
@@ -20,7 +19,6 @@ use Rattle.kinds.specs.declared.Taken.{Taken}
 use Rattle.kinds.specs.declared.Out.{Out}
 use Rattle.kinds.specs.declared.Answer.the-variants.{Done}
 use Rattle.kinds.specs.State.{noSub, subAt, withChannels}
-use Rattle.rules.specs.House.{maskOf}
 use Rattle.rules.specs.Message.{messageOk, messageHead, messageEntries, entryCount}
 use Rattle.rules.specs.Send.{countsLow}
 use Rattle.rules.specs.Live.{placeOf, freePlace, allHeard}
@@ -28,7 +26,7 @@ use Rattle.rules.specs.History.{isForgotten}
 use Rattle.rules.specs.Join.{joined}
 use Rattle.rules.specs.Certify.{concurrent, voteOf}
 use Rattle.rules.specs.Valid.{siteOk}
-use Rattle.rules.specs.Effect.{Change, Effect, turnAt, changed, refused, unless}
+use Rattle.rules.specs.Effect.{Change, Effect, changed, unless}
 use Rattle.rules.specs.Course.{newSub, withSubOf, withCourseOf, raise, takenFrom, channelSpent, sendTo, quietly, isOutstanding, withReply, withDecision, castStep, voteDecides, voteStep, preparedStep, certifiedStep}
 
 -- causes before the message's kind is looked at

@@ -1,13 +1,11 @@
 -- What a call does. `Change` is a step of one part's course, on the part and its site's counters and channels; `Effect` is a whole
 -- call of a site: the lent table is the gathered lists of a commit or message, the base values of an install, and empty for the
 -- others. A refusal alters nothing.
-use Prim.Native.Nat.{ℕ, _+_, _*_}
+use Prim.Native.Nat.{ℕ}
 use mathlib.Core.List.{List, [], _∷_}
-use mathlib.Core.Bool.{Bool, true, false}
-use lib.ListN.{getD, set, length}
-use lib.Dec.{ltb, leb, eqb}
+use lib.ListN.{set, length}
+use lib.Dec.{eqb}
 use Rattle.laws.specs.Choice.{pick}
-use Rattle.kinds.specs.declared.Sub.{Sub}
 use Rattle.kinds.specs.declared.Turn.{Turn}
 use Rattle.kinds.specs.declared.Taken.{Taken}
 use Rattle.kinds.specs.declared.Site.{Site}

@@ -1,7 +1,7 @@
 -- 01, course 2: enlist, at the coordinator, adds a site and sends JOIN.
-use Prim.Native.Nat.{ℕ, _≤_, _<_}
+use Prim.Native.Nat.{ℕ}
 use mathlib.Core.List.{List, [], _∷_}
-use mathlib.Core.Bool.{Bool, true, false, not}
+use mathlib.Core.Bool.{Bool, not}
 use lib.Dec.{ltb, leb, eqb}
 use Rattle.laws.specs.Cause.{Cause, cause, codeOf}
 use Rattle.kinds.specs.Sizes as sizes
@@ -10,10 +10,14 @@ use Rattle.kinds.specs.Reason as reason
 use Rattle.kinds.specs.declared.Site.{Site}
 use Rattle.kinds.specs.State.{subAt}
 use Rattle.rules.specs.House.{isSite, inMask, coordinatorOf}
-use Rattle.rules.specs.Live.{placeOf, stageAt}
+use Rattle.rules.specs.Live.{placeOf}
 use Rattle.rules.specs.Valid.{siteOk}
 use Rattle.rules.specs.Effect.{Effect, turnAt, changed, unless}
 use Rattle.rules.specs.Course.{channelSpent, enlistStep}
+
+-- the site is the transaction's coordinator
+abbrev pub isMine : Site → ℕ → Bool
+isMine s tx = eqb (coordinatorOf tx) (s .counters .own)
 
 abbrev pub enlistCauses : Bool → ℕ → Bool → ℕ → Bool → List Cause
 enlistCauses ok room known place mine =
@@ -48,4 +52,4 @@ enlistAt s place site =
 unfoldable pub enlistOf : Site → ℕ → ℕ → ℕ → Effect
 enlistOf s room tx site =
     let place = placeOf (s .live) tx in
-    unless (enlistCode (siteOk s) room (isSite (s .house) site) place (eqb (coordinatorOf tx) (s .counters .own))) s [] (enlistAt s place site)
+    unless (enlistCode (siteOk s) room (isSite (s .house) site) place (isMine s tx)) s [] (enlistAt s place site)

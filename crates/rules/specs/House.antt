@@ -1,13 +1,11 @@
 -- 01, "Sizes of a house": where a key lives, transaction numbers, masks of participants.
-use Prim.Native.Nat.{ℕ, _+_, _-_, _*_, _/_, _%_, _^_, _≤_, _<_}
-use mathlib.Core.Path.{_≡_, refl, ap, sym, _∙_}
-use mathlib.Core.Bool.{Bool, true}
-use mathlib.Core.List.{List, [], _∷_}
-use native.Mathlib.Omega.{arith}
-use borrow.Author.Tests.{leb-true, ltb-true, eqb-true}
+use Prim.Native.Nat.{ℕ, _+_, _-_, _*_, _/_, _%_, _^_, _<_}
+use mathlib.Core.Path.{_≡_}
+use mathlib.Core.Bool.{Bool}
+use mathlib.Core.List.{[], _∷_}
 use lib.Dec.{ltb, leb, eqb}
 use lib.Count.{ones}
-use Rattle.laws.specs.Choice.{every, every-at}
+use Rattle.laws.specs.Choice.{every}
 use Rattle.laws.specs.Digits.{digit, onesBelow, ones-below}
 use Rattle.kinds.specs.Sizes as sizes
 use Rattle.kinds.specs.declared.House.{House}
@@ -16,6 +14,7 @@ use Rattle.kinds.specs.declared.House.{House}
 unfoldable pub houseOk : House → Bool
 houseOk h = every (leb 1 (h .sites) ∷ leb (h .sites) sizes.sites ∷ [])
 
+-- a site of the house
 unfoldable pub isSite : House → ℕ → Bool
 isSite h s = every (leb 1 s ∷ leb s (h .sites) ∷ [])
 

@@ -1,29 +1,28 @@
 -- 01, course 10, and the state number: install and report, which write the site's log. And a fresh site.
-use Prim.Native.Nat.{ℕ, _+_, _-_, _*_, _≤_, _<_}
+use Prim.Native.Nat.{ℕ, _+_}
 use mathlib.Core.List.{List, [], _∷_}
-use mathlib.Core.Bool.{Bool, true, false, not}
-use lib.ListN.{length, getD, set, replicate}
+use mathlib.Core.Bool.{Bool, not}
+use lib.ListN.{length, set, replicate}
 use lib.Dec.{ltb, leb, eqb}
 use Rattle.laws.specs.Choice.{pick, every}
 use Rattle.laws.specs.Cause.{Cause, cause, codeOf}
 use Rattle.kinds.specs.Sizes as sizes
 use Rattle.kinds.specs.Reason as reason
 use Rattle.kinds.specs.Kind as kind
-use Rattle.kinds.specs.declared.House.{House}
 use Rattle.kinds.specs.declared.Sub.{Sub}
 use Rattle.kinds.specs.declared.Entry.{Entry}
 use Rattle.kinds.specs.declared.RecordHead.{RecordHead}
 use Rattle.kinds.specs.declared.Site.{Site}
 use Rattle.kinds.specs.declared.Out.{Out}
 use Rattle.kinds.specs.declared.Answer.the-variants.{Refused, Done, Installed, Reported}
-use Rattle.kinds.specs.State.{Value, fresh, noSub, noEntry, subAt, entryAt, withInstalls}
+use Rattle.kinds.specs.State.{Value, noSub, noEntry, subAt, entryAt, withInstalls}
 use Rattle.rules.specs.House.{houseOk, isSite, coordinatorOf}
 use Rattle.rules.specs.Record.{recordWords}
 use Rattle.rules.specs.Keys.{sortedCount, sortedWords}
 use Rattle.rules.specs.History.{slotOf, forgetInto}
 use Rattle.rules.specs.Queue.{leastQueued, isDue, stateNumber}
 use Rattle.rules.specs.Valid.{siteOk}
-use Rattle.rules.specs.Effect.{Effect, refused, unless}
+use Rattle.rules.specs.Effect.{Effect, unless}
 
 -- Install: the queue's least, if decided.
 abbrev pub installCauses : Bool → ℕ → ℕ → Bool → ℕ → List Cause
@@ -131,6 +130,6 @@ startOf sites own base lists =
     (record { answer = Done; words = 0; site = freshSite sites own })
     (record { answer = Refused code; words = 0; site = freshSite 0 0 })
 
--- a lent table of n words after it
+-- a lent table after it: 0 everywhere, or as it was
 unfoldable pub startTable : ℕ → List ℕ → List ℕ
 startTable code d = pick (eqb code 0) (replicate (length d) 0) d

@@ -1,39 +1,33 @@
--- 01, course 10: what is installed is decided and stands first; the records that install and report write pass their checks; a site
--- stays within the sizes.
-use Prim.Native.Nat.{ℕ, _+_, _-_, _*_, _^_, _≤_, _<_}
+-- 01, course 10: what is installed is decided and stands first; the records that install and report write pass their checks.
+use Prim.Native.Nat.{ℕ, _+_, _-_, _≤_, _<_}
 use mathlib.Core.Path.{_≡_, refl, ap, sym, _∙_}
 use mathlib.Core.List.{List, [], _∷_}
-use mathlib.Core.Bool.{Bool, true, false, not}
+use mathlib.Core.Bool.{Bool, true}
 use native.Mathlib.Omega.{arith}
 use borrow.Author.Tests.{ltb-true, eqb-true, eqb-false, lt-ltb, le-leb, eq-eqb, ne-eqb}
-use lib.ListN.{length, getD, set}
-use lib.Seq.{getD-set-same, getD-set-other, set-out}
-use lib.Dec.{ltb, leb, eqb, lit<}
-use Rattle.laws.specs.Choice.{every, every-at, by-test}
-use Rattle.laws.specs.Scan.{allBelow, first-le, all-below, all-below-at}
+use lib.ListN.{length, getD}
+use lib.Dec.{ltb, leb, eqb}
+use Rattle.laws.specs.Choice.{every-at, by-test}
+use Rattle.laws.specs.Scan.{first-le, all-below}
 use Rattle.kinds.specs.Sizes as sizes
 use Rattle.kinds.specs.Stage as stage
 use Rattle.kinds.specs.declared.House.{House}
 use Rattle.kinds.specs.declared.Keys.{Keys}
 use Rattle.kinds.specs.declared.Sub.{Sub}
 use Rattle.kinds.specs.declared.Site.{Site}
-use Rattle.kinds.specs.State.{noSub, noKeys, subAt, pastSub, pastEntry}
-use Rattle.rules.specs.House.{houseOk, isSite, isTx, isMask, inMask, siteOf, coordinatorOf, participants}
-use Rattle.rules.specs.Keys.{keysAt, keysOk, sortedKey, sortedCount, sortedWords}
+use Rattle.kinds.specs.State.{subAt}
+use Rattle.kinds.specs.declared.Answer.the-variants.{Reported}
+use Rattle.rules.specs.House.{houseOk, isSite, isTx, inMask, siteOf, coordinatorOf}
+use Rattle.rules.specs.Keys.{sortedKey, sortedCount, sortedWords}
 use Rattle.rules.specs.KeysLaws.{by-order, words-length, word-key, sorted-low, sorted-ascends, sorted-wrote, wrote-among}
 use Rattle.rules.specs.Record.{partHeadOk, partWriteOk, keyAscends, pairOk, stateHeadOk, partOk, stateOk, writeKey}
 use Rattle.rules.specs.RecordLaws.{part-written-passes, state-written-passes}
 use Rattle.rules.specs.Live.{partAt}
-use Rattle.rules.specs.History.{slotOf}
 use Rattle.rules.specs.Queue.{isDue, leastQueued, stateNumber}
-use Rattle.rules.specs.Valid.{courseOk, subOk, entryOk, countersOk, liveOk, historyOk, siteOk}
+use Rattle.rules.specs.Valid.{countersOk, liveOk, historyOk, siteOk}
 use Rattle.rules.specs.ValidLaws.{valid-site, counters-own}
-use Rattle.rules.specs.Install.{entryOf, partHead, partWords, installedAt, installOf, stateWords, installCode, reportCode, reportOf}
-use native.Mathlib.Nat.{pow-le-pow-right, div-le-self}
-use Rattle.laws.specs.Digits.{digit}
-use Rattle.rules.specs.CallLaws.{install-clear}
+use Rattle.rules.specs.Install.{partHead, partWords, installedAt, installOf, stateWords, installCode, reportCode, reportOf}
 use Rattle.rules.specs.Effect.{refused}
-use Rattle.kinds.specs.declared.Answer.the-variants.{Reported}
 
 -- What is due is a place of the table, and decided.
 pub due-low : (live : List Sub) (place : ℕ) → isDue live place ≡ true → place < sizes.live
@@ -100,57 +94,6 @@ state-good s n t =
     state-written-passes (s .house) _ []
     (record { size = refl; head = rw (own-here s t) })
 
--- A site stays within the sizes: the place is free again, and the history keeps the part.
-
-free-ok : (o : House) (own : ℕ) → subOk o own noSub ≡ true
-unfolding subOk courseOk keysOk keysAt noSub noKeys isMask inMask allBelow
-free-ok o own =
-    let m : ltb 0 (2 ^ o .sites) ≡ true = lt-ltb 0 (2 ^ o .sites) (omega (arith, pow-le-pow-right (lit< {m = 0} {n = 2} tt) {i = 0} {j = o .sites} (omega arith))) in
-    let d : digit 0 (own - 1) ≡ 0 = omega (arith, div-le-self 0 (2 ^ (own - 1))) in
-    rw (m, d, le-leb 0 (sizes.concEntries * (participants 0 + 1)) (omega arith))
-
--- one entry of a table put, the others kept
-module _ {A : Type 0} (t : A → Bool) (past a : A) where
-  set-all : (l : List A) (i n : ℕ) → t a ≡ true → allBelow (λ j. t (getD l j past)) n ≡ true → allBelow (λ j. t (getD (set l i a) j past)) n ≡ true
-  set-all l i n e h = sym (all-below (λ j. t (getD (set l i a) j past)) n each)
-    where
-      each : (j : ℕ) → j < n → t (getD (set l i a) j past) ≡ true
-      each j k =
-          let old = all-below-at (λ j. t (getD l j past)) n j h k in
-          by-test (eqb j i)
-          (λ (q : eqb j i ≡ true).
-          let z = eqb-true j i q in
-          by-order i (length l)
-          (λ p. rw (z, getD-set-same l i a past p) e)
-          (λ p. rw (set-out l i a p) old))
-          (λ (q : eqb j i ≡ false). rw (getD-set-other l i j a past (eqb-false j i q)) old)
-
-entry-ok : (o : House) (own : ℕ) (b : Sub) → subOk o own b ≡ true → entryOk o own (entryOf b) ≡ true
-unfolding subOk courseOk entryOk entryOf
-entry-ok o own b t =
-    let l =
-    leb (b .course .stage) stage.rejected
-    ∷ isMask o (b .course .mask)
-    ∷ isMask o (b .course .heard)
-    ∷ not (inMask (b .course .heard) own)
-    ∷ leb (b .course .listed) (sizes.concEntries * (participants (b .course .heard) + 1))
-    ∷ [] in
-    rw (every-at l 1 (every-at (every l ∷ keysOk o own (b .keys) ∷ []) 0 t), every-at (every l ∷ keysOk o own (b .keys) ∷ []) 1 t)
-
-installed-ok : (s : Site) (base : List ℕ) (place : ℕ) → place < sizes.live → siteOk s ≡ true → siteOk (installedAt s base place .site) ≡ true
-unfolding siteOk installedAt liveOk historyOk countersOk
-installed-ok s base place h t =
-    let o = s .house in
-    let own = s .counters .own in
-    let l = houseOk o ∷ countersOk o (s .counters) ∷ liveOk o own (s .live) ∷ historyOk o own (s .history) ∷ [] in
-    let b = all-below-at (λ i. subOk o own (getD (s .live) i pastSub)) sizes.live place (every-at l 2 t) h in
-    rw (
-      every-at l 0 t,
-      every-at l 1 t,
-      set-all (subOk o own) pastSub noSub (s .live) place sizes.live (free-ok o own) (every-at l 2 t),
-      set-all (entryOk o own) pastEntry (entryOf (subAt s place)) (s .history) (slotOf (s .counters .installs)) sizes.history (entry-ok o own (subAt s place) b) (every-at l 3 t),
-    )
-
 -- Past the refusals, and refused.
 
 module _ (s : Site) (room : ℕ) (base : List ℕ) (ok : Bool) (place : ℕ) (due : Bool) (code : ℕ) where
@@ -175,12 +118,3 @@ module _ (s : Site) (room : ℕ) (code : ℕ) (e : code ≡ reportCode (siteOk s
   pub report-refused : (code ≡ 0 → ⊥) → reportOf s room ≡ refused code s []
   unfolding reportOf
   report-refused n = rw (← e, ne-eqb code 0 n)
-
-pub install-keeps : (s : Site) (room : ℕ) (base : List ℕ) → siteOk s ≡ true → siteOk (installOf s room base .site) ≡ true
-unfolding installOf
-install-keeps s room base t =
-    let place = leastQueued (s .live) sizes.live in
-    let code = installCode (siteOk s) room (length base) (isDue (s .live) place) (s .counters .installs) in
-    by-test (eqb code 0)
-    (λ e. rw e (installed-ok s base place (due-low (s .live) place (install-clear _ _ _ _ _ (eqb-true code 0 e) .least)) t))
-    (λ e. rw e t)

@@ -6,6 +6,8 @@ use mathlib.Core.Bool.{true}
 use mathlib.Core.Logic.{_⊎_, inl, inr}
 use native.Mathlib.Omega.{arith}
 use lib.ListN.{length, getD, length-append, List·getD-append}
+use lib.Seq.{getD-append-add}
+use Rattle.laws.specs.Digits.{digit}
 use Rattle.kinds.specs.Sizes as sizes
 use Rattle.kinds.specs.declared.Site.{Site}
 use Rattle.kinds.specs.State.{subAt}
@@ -16,9 +18,7 @@ use Rattle.rules.specs.Live.{isPrepared}
 use Rattle.rules.specs.History.{recall, remembered, within}
 use Rattle.rules.specs.JoinLaws.{count-joined, of-site, of-mark, listed-from, joined-member}
 use Rattle.rules.specs.Certify.{markOf, concurrentWords, preparedWords, installedWords, preparedList, installedList, candidates, concurrent}
-use Rattle.rules.specs.EntryLaws.{gathered-from, joined-tx, joined-mask, joined-mark, digit-in, in-digit}
-use lib.Seq.{getD-append-add}
-use Rattle.laws.specs.Digits.{digit}
+use Rattle.rules.specs.EntryLaws.{gathered-from, joined-tx, joined-mask, joined-mark, in-digit, digit-in}
 use Rattle.rules.specs.KeysLaws.{by-order}
 use Rattle.rules.specs.Join.{joinTx, joinCount}
 use Rattle.rules.specs.CertifyLaws.{prepared-is, prepared-each, prepared-few}
@@ -116,8 +116,8 @@ module _ (s : Site) (place : ℕ) where
       let n = entryCount es in
       let l : j < joinCount es n = omega (arith, count-joined es n) in
       let y = ap (λ (v : ℕ). digit v (r - 1)) (joined-mask es n j l) in
-      let (i, p, e, w) = listed-from _ _ (of-site (r - 1)) es (joinTx es n (suc j)) n (omega (arith, digit-in (entryMask list j) r t)) in
-      (entryMask es i, entryMark es i, retold (joined-tx es n j l ∙ sym e) refl (candidate-from i p), in-digit (entryMask es i) r (omega (arith, digit-in (entryMask list j) r t)))
+      let (i, p, e, w) = listed-from _ _ (of-site (r - 1)) es (joinTx es n (suc j)) n (omega (arith, in-digit (entryMask list j) r t)) in
+      (entryMask es i, entryMark es i, retold (joined-tx es n j l ∙ sym e) refl (candidate-from i p), digit-in (entryMask es i) r (omega (arith, in-digit (entryMask list j) r t)))
 
   pub marks-only : (j : ℕ) → j < entryCount list → entryMark list j ≡ 1 → (m : ℕ) × Candidate s place (entryTx list j) m 1
   unfolding concurrent

@@ -1,7 +1,7 @@
 -- 01, "A transaction's course": the live table, a part's place in it, and who holds a key.
-use Prim.Native.Nat.{ℕ, _+_, _-_, _*_, _≤_, _<_}
+use Prim.Native.Nat.{ℕ}
 use mathlib.Core.List.{List, [], _∷_}
-use mathlib.Core.Bool.{Bool, true, false, not}
+use mathlib.Core.Bool.{Bool, true, not}
 use lib.ListN.{length, getD}
 use lib.Dec.{ltb, leb, eqb}
 use Rattle.laws.specs.Choice.{pick, every}
@@ -10,7 +10,7 @@ use Rattle.kinds.specs.Sizes as sizes
 use Rattle.kinds.specs.Stage as stage
 use Rattle.kinds.specs.declared.Sub.{Sub}
 use Rattle.kinds.specs.State.{pastSub}
-use Rattle.rules.specs.House.{coordinatorOf, participants, repliesWanted}
+use Rattle.rules.specs.House.{participants, repliesWanted}
 use Rattle.rules.specs.Keys.{wroteKey}
 
 abbrev pub partAt : List Sub → ℕ → Sub

@@ -1,7 +1,7 @@
 -- 01, "Merger and copy": the merger queues each site's parts and emits the due record.
-use Prim.Native.Nat.{ℕ, _+_, _-_, _*_, _/_, _≤_, _<_}
+use Prim.Native.Nat.{ℕ, _+_, _-_, _*_, _/_}
 use mathlib.Core.List.{List, [], _∷_, _++_}
-use mathlib.Core.Bool.{Bool, true, false, not}
+use mathlib.Core.Bool.{Bool, true, not}
 use lib.ListN.{length, getD, set, take, drop, replicate}
 use lib.Dec.{ltb, leb, eqb}
 use Rattle.laws.specs.Choice.{pick, every, some}
@@ -82,12 +82,15 @@ mergerOk g queues =
     ∷ [])
 
 -- Merge: a part behind the site's queue, or its state number.
-unfoldable pub mergePartCode : Source → RecordHead → ℕ
-mergePartCode c r =
-    codeOf (cause (not (precedes (c .number) (c .coordinator) (r .number) (r .coordinator))) reason.behind
+abbrev pub mergePartCauses : Source → RecordHead → List Cause
+mergePartCauses c r =
+    cause (not (precedes (c .number) (c .coordinator) (r .number) (r .coordinator))) reason.behind
     ∷ cause (leb (r .number) (c .state)) reason.behind
     ∷ cause (leb sizes.queue (c .queued)) reason.queueFull
-    ∷ [])
+    ∷ []
+
+unfoldable pub mergePartCode : Source → RecordHead → ℕ
+mergePartCode c r = codeOf (mergePartCauses c r)
 
 unfoldable pub mergePart : Merger → List ℕ → List ℕ → Merging
 mergePart g queues m =
@@ -99,8 +102,11 @@ mergePart g queues m =
     (withSource g i (record { state = c .state; number = r .number; coordinator = r .coordinator; queued = c .queued + 1 }))
     (putAt (placeAt i (c .queued)) queues m))
 
+abbrev pub mergeStateCauses : Source → RecordHead → List Cause
+mergeStateCauses c r = cause (ltb (r .number) (c .state)) reason.behind ∷ []
+
 unfoldable pub mergeStateCode : Source → RecordHead → ℕ
-mergeStateCode c r = codeOf (cause (ltb (r .number) (c .state)) reason.behind ∷ [])
+mergeStateCode c r = codeOf (mergeStateCauses c r)
 
 unfoldable pub mergeState : Merger → List ℕ → List ℕ → Merging
 mergeState g queues m =
@@ -112,11 +118,14 @@ mergeState g queues m =
     (withSource g i (record { state = r .number; number = c .number; coordinator = c .coordinator; queued = c .queued }))
     queues)
 
-unfoldable pub mergeCode : Merger → List ℕ → List ℕ → ℕ
-mergeCode g queues m =
-    codeOf (cause (not (mergerOk g queues)) reason.malformed
+abbrev pub mergeCauses : Merger → List ℕ → List ℕ → List Cause
+mergeCauses g queues m =
+    cause (not (mergerOk g queues)) reason.malformed
     ∷ cause (not (some (partOk (g .house) m ∷ stateOk (g .house) m ∷ []))) reason.malformed
-    ∷ [])
+    ∷ []
+
+unfoldable pub mergeCode : Merger → List ℕ → List ℕ → ℕ
+mergeCode g queues m = codeOf (mergeCauses g queues m)
 
 unfoldable pub mergeOf : Merger → List ℕ → List ℕ → Merging
 mergeOf g queues m =
@@ -182,11 +191,14 @@ isWholeAt g heads r i =
 unfoldable pub isWhole : Merger → List RecordHead → RecordHead → Bool
 isWhole g heads r = allBelow (isWholeAt g heads r) (g .house .sites)
 
-unfoldable pub dueCode : Merger → List RecordHead → ℕ → ℕ
-dueCode g heads least =
-    codeOf (cause (every (isDue g heads least ∷ not (isWhole g heads (headIn heads least)) ∷ [])) reason.notWhole
+abbrev pub dueCauses : Merger → List RecordHead → ℕ → List Cause
+dueCauses g heads least =
+    cause (every (isDue g heads least ∷ not (isWhole g heads (headIn heads least)) ∷ [])) reason.notWhole
     ∷ cause (not (isDue g heads least)) reason.nothing
-    ∷ [])
+    ∷ []
+
+unfoldable pub dueCode : Merger → List RecordHead → ℕ → ℕ
+dueCode g heads least = codeOf (dueCauses g heads least)
 
 -- the writes of a whole record's parts among the first n sites, by key ascending since sites hold ascending keys
 unfoldable pub partWrites : List ℕ → ℕ → ℕ → List ℕ
@@ -243,9 +255,11 @@ emitDue g queues heads least =
       queues = popQueues queues (r .mask) (g .house .sites);
     })
 
+abbrev pub emitCauses : Merger → List ℕ → ℕ → List Cause
+emitCauses g queues room = cause (ltb room sizes.merged) reason.short ∷ cause (not (mergerOk g queues)) reason.malformed ∷ []
+
 unfoldable pub emitCode : Merger → List ℕ → ℕ → ℕ
-emitCode g queues room =
-    codeOf (cause (ltb room sizes.merged) reason.short ∷ cause (not (mergerOk g queues)) reason.malformed ∷ [])
+emitCode g queues room = codeOf (emitCauses g queues room)
 
 unfoldable pub emitOf : Merger → ℕ → List ℕ → Merging
 emitOf g room queues =
@@ -255,9 +269,12 @@ emitOf g room queues =
 unfoldable pub freshMerger : ℕ → Merger
 freshMerger sites = record { house = record { sites = sites }; sources = replicate sizes.sites pastSource }
 
+abbrev pub mergerStartCauses : ℕ → ℕ → List Cause
+mergerStartCauses sites given =
+    cause (not (houseOk (record { sites = sites }))) reason.malformed ∷ cause (not (eqb given sizes.queues)) reason.malformed ∷ []
+
 unfoldable pub mergerStartCode : ℕ → ℕ → ℕ
-mergerStartCode sites given =
-    codeOf (cause (not (houseOk (record { sites = sites }))) reason.malformed ∷ cause (not (eqb given sizes.queues)) reason.malformed ∷ [])
+mergerStartCode sites given = codeOf (mergerStartCauses sites given)
 
 unfoldable pub mergerStartOf : ℕ → List ℕ → Merging
 mergerStartOf sites queues =

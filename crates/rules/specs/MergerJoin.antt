@@ -8,20 +8,19 @@ use mathlib.Core.Bool.{Bool, true}
 use mathlib.Core.List.{List, [], _++_, _∷_}
 use mathlib.Core.Path.{_∙_, _≡_, ap, refl, sym}
 use native.Mathlib.Omega.{arith}
-use Rattle.kinds.specs.declared.Answer.the-variants.{Emitted, Refused}
+use Rattle.kinds.specs.declared.Answer.the-variants.{Emitted}
 use Rattle.kinds.specs.declared.House.{House}
 use Rattle.kinds.specs.declared.Merger.{Merger}
 use Rattle.kinds.specs.declared.RecordHead.{RecordHead}
 use Rattle.laws.specs.Choice.{by-test, every, every-at}
 use Rattle.laws.specs.Scan.{all-below, all-below-at, allBelow, foldBelow, split-last}
 use Rattle.rules.specs.House.{coordinatorOf, inMask, isMask, isSite, isTx, serialOf, siteOf, wholeHouse}
-use Rattle.rules.specs.Merger.{Merging, dueCode, dueHead, emitCode, emitDue, emitOf, headAt, headIn, headsOf, joinedWrites, leastSite, mergeCode, mergeOf, mergePart, mergePartCode, mergeState, mergeStateCode, mergedHead, mergedWords, noHead, partWrites, placeWords, popMerger, popQueues, queuedPart, sourceAt, writesIn}
+use Rattle.rules.specs.Merger.{Merging, dueCode, dueHead, emitCode, emitDue, emitOf, headAt, headIn, headsOf, joinedWrites, leastSite, mergedHead, mergedWords, noHead, partWrites, placeWords, popMerger, popQueues, queuedPart, writesIn}
 use Rattle.rules.specs.MergerClear.{MergerClear, QueuedClear, emit-clear, part-long}
 use Rattle.rules.specs.MergerLaws.{IsDue, LeastOf, Queued, WholeAt, due-clear, due-queued, is-due, least-is, queued-fits, whole-parts}
 use Rattle.rules.specs.MergerWords.{HeadFits, HeadsFit, head-fits, joined-writes, part-writes}
 use Rattle.rules.specs.Record.{GoodMerged, keyAscends, mergedHeadOk, mergedOk, mergedWriteOk, pairOk, partHeadOk, partHeadTests, partOk, partWriteOk, recordHead, recordWrites, writeKey}
 use Rattle.rules.specs.RecordLaws.{head-back, merged-written-passes, pair-clear, part-passed-good, writes-back}
-use Rattle.kinds.specs.Kind as kind
 use Rattle.kinds.specs.Sizes as sizes
 use Rattle.kinds.specs.Word as word
 use native.Mathlib.Nat.{pow-le-pow-right}
@@ -60,7 +59,7 @@ head-part o queues i c =
     ))
 
 -- Keys that ascend, from low and below high.
-pub record Ascending (ws : List ℕ) (n low high : ℕ) : Type 0 where
+pub record KeysAscend (ws : List ℕ) (n low high : ℕ) : Type 0 where
   pub above : (k : ℕ) → suc k < n → writeKey ws k < writeKey ws (suc k)
   pub from : (k : ℕ) → k < n → low ≤ writeKey ws k
   pub to : (k : ℕ) → k < n → writeKey ws k < high
@@ -76,7 +75,7 @@ unfolding siteOf
 key-of-site o k s e = (omega arith, omega arith)
 
 part-ascending : (o : House) (m : List ℕ) (s : ℕ) → partOk o m ≡ true → recordHead m .site ≡ s + 1
-    → Ascending (recordWrites m) (recordHead m .count) (sizes.siteKeys * s) (sizes.siteKeys * (s + 1))
+    → KeysAscend (recordWrites m) (recordHead m .count) (sizes.siteKeys * s) (sizes.siteKeys * (s + 1))
 unfolding partWriteOk
 part-ascending o m s p e =
     let ws = recordWrites m in
@@ -112,8 +111,8 @@ module _ (ws p : List ℕ) (a : ℕ) (e : length ws ≡ sizes.write * a) where
       let y : writeKey (ws ++ p) k ≡ writeKey p (k - a) = ap (writeKey (ws ++ p)) z ∙ key-right (k - a) in
       rw y (g (k - a) (omega arith) z))
 
-  append-ascending : (b low mid high : ℕ) → low ≤ mid → mid ≤ high → Ascending ws a low mid → Ascending p b mid high
-      → Ascending (ws ++ p) (a + b) low high
+  append-ascending : (b low mid high : ℕ) → low ≤ mid → mid ≤ high → KeysAscend ws a low mid → KeysAscend p b mid high
+      → KeysAscend (ws ++ p) (a + b) low high
   append-ascending b low mid high x y s t =
       record {
         above = λ k h. by-test (ltb (suc k) a)
@@ -134,10 +133,10 @@ module _ (ws p : List ℕ) (a : ℕ) (e : length ws ≡ sizes.write * a) where
         to = λ k h. key-cases (λ i. i < high) b k h (λ l. omega (arith, s .to k l)) (λ j l q. t .to j l);
       }
 
-no-writes : (low high : ℕ) → Ascending [] 0 low high
+no-writes : (low high : ℕ) → KeysAscend [] 0 low high
 no-writes low high = record { above = λ k h. absurd (omega arith); from = λ k h. absurd (omega arith); to = λ k h. absurd (omega arith) }
 
-halved : (n k : ℕ) → n ≡ sizes.write * k → n / sizes.write ≡ k
+pub halved : (n k : ℕ) → n ≡ sizes.write * k → n / sizes.write ≡ k
 halved n k e = omega arith
 
 -- The parts at the heads of a mask's sites.
@@ -145,7 +144,7 @@ pub PartsGood : House → List ℕ → ℕ → ℕ → Type 0
 PartsGood o queues mask n = (i : ℕ) → i < n → inMask mask (i + 1) ≡ true → QueuedClear o queues i 0
 
 writes-ascending : (o : House) (queues : List ℕ) (mask n i : ℕ) → PartsGood o queues mask n → i < n
-    → Ascending (partWrites queues mask i) (writesIn (partWrites queues mask i)) (sizes.siteKeys * i) (sizes.siteKeys * (i + 1))
+    → KeysAscend (partWrites queues mask i) (writesIn (partWrites queues mask i)) (sizes.siteKeys * i) (sizes.siteKeys * (i + 1))
 unfolding partWrites PartsGood
 writes-ascending o queues mask n i f h =
     by-test (inMask mask (i + 1))
@@ -159,7 +158,7 @@ unfolding HeadsFit HeadFits PartsGood
 good-fits o queues mask n f i h t = queued-fits o queues i (f i h t)
 
 joined-ascending : (o : House) (queues : List ℕ) (mask n : ℕ) → PartsGood o queues mask n
-    → Ascending (joinedWrites queues mask n) (writesIn (joinedWrites queues mask n)) 0 (sizes.siteKeys * n)
+    → KeysAscend (joinedWrites queues mask n) (writesIn (joinedWrites queues mask n)) 0 (sizes.siteKeys * n)
 unfolding joinedWrites foldBelow PartsGood
 joined-ascending o queues mask zero f = no-writes 0 0
 joined-ascending o queues mask (suc n) f =
@@ -176,14 +175,14 @@ joined-ascending o queues mask (suc n) f =
     (writes-ascending o queues mask (suc n) n f (omega arith)))
 
 -- The checks of the merged record.
-key-rises : (ws : List ℕ) (k n : ℕ) → Ascending ws n 0 sizes.keys → k < n → keyAscends ws k ≡ true
+key-rises : (ws : List ℕ) (k n : ℕ) → KeysAscend ws n 0 sizes.keys → k < n → keyAscends ws k ≡ true
 unfolding keyAscends
 key-rises ws zero n a h = refl
 key-rises ws (suc k) n a h =
     let z : suc k - 1 ≡ k = omega arith in
     rw (ne-eqb (suc k) 0 (λ q. omega arith), z, lt-ltb (writeKey ws k) (writeKey ws (suc k)) (a .above k h))
 
-merged-writes : (ws : List ℕ) (n : ℕ) → Ascending ws n 0 sizes.keys → allBelow (mergedWriteOk ws) n ≡ true
+merged-writes : (ws : List ℕ) (n : ℕ) → KeysAscend ws n 0 sizes.keys → allBelow (mergedWriteOk ws) n ≡ true
 unfolding mergedWriteOk
 merged-writes ws n a = sym (all-below (mergedWriteOk ws) n (λ k h. rw (key-rises ws k n a h, lt-ltb (writeKey ws k) sizes.keys (a .to k h))))
 
@@ -292,34 +291,3 @@ emits g room queues a b t e =
     }))
     (λ y. absurd (let z = rw (x, y) at e in let v : _≡_ {A = ℕ} 0 1 = cc in omega arith)))
     (λ x. absurd (let z = rw x at e in let v : _≡_ {A = ℕ} 0 1 = cc in omega arith))
-
--- A refused call alters nothing.
-pub record Unaltered (g : Merger) (queues : List ℕ) (e : Merging) : Type 0 where
-  pub merger : e .merger ≡ g
-  pub queues-same : e .queues ≡ queues
-  pub words : e .words ≡ []
-
-pub emit-refused : (g : Merger) (room : ℕ) (queues : List ℕ) (n : ℕ) → emitOf g room queues .answer ≡ Refused n
-    → Unaltered g queues (emitOf g room queues)
-unfolding emitOf emitDue
-emit-refused g room queues n e =
-    by-test (eqb (emitCode g queues room) 0)
-    (λ x. by-test (eqb (dueCode g (headsOf queues (g .house .sites)) (leastSite g queues)) 0)
-    (λ y. absurd (let z = rw (x, y) at e in let v : _≡_ {A = ℕ} 0 1 = cc in omega arith))
-    (λ y. rw (x, y) (record { merger = refl; queues-same = refl; words = refl })))
-    (λ x. rw x (record { merger = refl; queues-same = refl; words = refl }))
-
-pub merge-refused : (g : Merger) (queues m : List ℕ) (n : ℕ) → mergeOf g queues m .answer ≡ Refused n → Unaltered g queues (mergeOf g queues m)
-unfolding mergeOf mergePart mergeState
-merge-refused g queues m n e =
-    let r = recordHead m in
-    let c = sourceAt g (r .site - 1) in
-    by-test (eqb (mergeCode g queues m) 0)
-    (λ x. by-test (eqb (r .kind) kind.part)
-    (λ k. by-test (eqb (mergePartCode c r) 0)
-    (λ y. absurd (let z = rw (x, k, y) at e in let v : _≡_ {A = ℕ} 0 1 = cc in omega arith))
-    (λ y. rw (x, k, y) (record { merger = refl; queues-same = refl; words = refl })))
-    (λ k. by-test (eqb (mergeStateCode c r) 0)
-    (λ y. absurd (let z = rw (x, k, y) at e in let v : _≡_ {A = ℕ} 0 1 = cc in omega arith))
-    (λ y. rw (x, k, y) (record { merger = refl; queues-same = refl; words = refl }))))
-    (λ x. rw x (record { merger = refl; queues-same = refl; words = refl }))

@@ -4,30 +4,27 @@ use borrow.Author.Tests.{eqb-false, eqb-true, ltb-false, ltb-true}
 use lib.Dec.{eqb, ltb}
 use lib.ListN.{getD, getD-replicate, length, length-replicate, length-set, replicate}
 use lib.Seq.{getD-set-other, getD-set-same}
-use mathlib.Core.Bool.{false, true}
+use mathlib.Core.Bool.{true}
 use mathlib.Core.List.{List}
 use mathlib.Core.Logic.{_⊎_, inl, inr, ⊎-elim}
 use mathlib.Core.Path.{_∙_, _≡_, ap, refl, sym}
 use native.Mathlib.Omega.{arith}
-use Rattle.kinds.specs.declared.Answer.the-variants.{Done}
 use Rattle.kinds.specs.declared.House.{House}
 use Rattle.kinds.specs.declared.Merger.{Merger}
 use Rattle.kinds.specs.declared.Source.{Source}
-use Rattle.laws.specs.Choice.{by-test, every-at, pick, some}
+use Rattle.laws.specs.Choice.{by-test, pick, some}
 use Rattle.laws.specs.Overlay.{putAt}
 use Rattle.laws.specs.Scan.{foldBelow, split-last}
-use Rattle.rules.specs.House.{houseOk, inMask}
-use Rattle.rules.specs.Merger.{Merging, dueCode, dueHead, emitCode, emitDue, emitOf, freshMerger, hasPart, headIn, headsOf, leastHead, mergeCode, mergeOf, mergePart, mergePartCode, mergeState, mergeStateCode, mergerStartCode, mergerStartOf, pastSource, placeAt, placeWords, popMerger, popMergerAt, popQueues, popSource, queuedPart, sourceAt, withSource}
-use Rattle.rules.specs.MergerClear.{MergerClear, QueuedClear, house-clear, merge-clear, part-long, part-short, part-taken, taken-part}
-use Rattle.rules.specs.MergerJoin.{Emits}
+use Rattle.rules.specs.House.{inMask}
+use Rattle.rules.specs.Merger.{dueCode, emitCode, emitDue, emitOf, freshMerger, headIn, headsOf, leastHead, mergeCode, mergeOf, mergePart, mergePartCode, mergeState, mergeStateCode, pastSource, placeAt, placeWords, popMerger, popMergerAt, popQueues, popSource, queuedPart, sourceAt, withSource}
+use Rattle.rules.specs.MergerClear.{MergerClear, QueuedClear, merge-clear, part-long, part-short, part-taken, taken-part}
 use Rattle.rules.specs.MergerLaws.{Queued, due-queued, pop-later}
-use Rattle.rules.specs.MergerWords.{above, kept-place, length-popped, length-put, popped-last, popped-place, put-elsewhere, put-length, put-part-back}
+use Rattle.rules.specs.MergerWords.{above, kept-place, length-popped, length-put, popped-place, put-elsewhere, put-length, put-part-back}
 use Rattle.rules.specs.MessageLaws.{SiteClear, site-clear}
-use Rattle.rules.specs.Record.{partOk, partTests, recordHead, stateOk}
-use Rattle.rules.specs.RecordLaws.{part-clear, part-passed-good, shape-clear, state-clear, state-passed-good}
+use Rattle.rules.specs.Record.{partOk, recordHead, stateOk}
+use Rattle.rules.specs.RecordLaws.{part-clear, part-passed-good, shape-clear, state-clear, state-passed-good, part-shape}
 use Rattle.kinds.specs.Kind as kind
 use Rattle.kinds.specs.Sizes as sizes
-use Rattle.kinds.specs.Word as word
 
 -- eight sources, as every merger of the code has, and the state is possible
 pub record Holds (g : Merger) (queues : List ℕ) : Type 0 where
@@ -71,10 +68,6 @@ module _ (g : Merger) (queues m : List ℕ) (i : ℕ) (s : Source) where
   source-other : (k : ℕ) → (k ≡ i → ⊥) → sourceAt (withSource g i s) k ≡ sourceAt g k
   source-other k f = getD-set-other (g .sources) i k s pastSource f
 
-part-whole : (o : House) (m : List ℕ) → partOk o m ≡ true → getD m word.length 0 ≡ length m
-unfolding partOk
-part-whole o m e = shape-clear m (every-at (partTests o m) 0 e) .whole
-
 module _ (g : Merger) (queues m : List ℕ) (i : ℕ) (s : Source) (c : Holds g queues) (b : i < g .house .sites) where
   -- the places of the sites, as the counts with the new source say
   counted : (k : ℕ) → k < g .house .sites → s .queued ≤ sizes.queue → sourceAt (withSource g i s) k .queued ≤ sizes.queue
@@ -114,7 +107,7 @@ module _ (g : Merger) (queues m : List ℕ) (i : ℕ) (s : Source) (c : Holds g 
         let q = sourceAt g i .queued in
         let h = part-long (g .house) m p in
         let l = part-short (g .house) m p in
-        let w = part-whole (g .house) m p in
+        let w = shape-clear m (part-shape (g .house) m p) .whole in
         let f = c .clear .few in
         let k = put-length queues m i q (c .clear .size) (omega arith) r l (omega arith) w in
         let z = put-part-back queues m i q (c .clear .size) (omega arith) r l (omega arith) w in
@@ -211,7 +204,7 @@ merge-kept g queues m c =
     (λ t. rw t c)
 
 -- Emit: the sites of the mask are without their heads.
-pop-house : (g : Merger) (mask n : ℕ) → popMerger g mask n .house ≡ g .house
+pub pop-house : (g : Merger) (mask n : ℕ) → popMerger g mask n .house ≡ g .house
 unfolding popMerger foldBelow popMergerAt
 pop-house g mask zero = refl
 pop-house g mask (suc n) = by-test (inMask mask (n + 1)) (λ t. rw t (pop-house g mask n)) (λ t. rw t (pop-house g mask n))
@@ -283,48 +276,3 @@ emit-kept g room queues c =
     (λ d. rw (t, d) (pop-kept g queues (headIn heads least .mask) c (due-queued g heads least (eqb-true _ _ d))))
     (λ d. rw (t, d) c))
     (λ t. rw t c)
-
-pub start-kept : (sites : ℕ) (queues : List ℕ) → mergerStartOf sites queues .answer ≡ Done
-    → Holds (mergerStartOf sites queues .merger) (mergerStartOf sites queues .queues)
-unfolding mergerStartOf mergerStartCode
-start-kept sites queues e =
-    by-test (houseOk (record { sites = sites }))
-    (λ h. by-test (eqb (length queues) sizes.queues)
-    (λ q. let o = house-clear (record { sites = sites }) h in rw (h, q) (fresh-holds sites (length queues) (o .0) (o .1) (eqb-true _ _ q)))
-    (λ q. absurd (let z = rw (h, q) at e in let y : _≡_ {A = ℕ} 0 1 = cc in omega arith)))
-    (λ h. absurd (let z = rw h at e in let y : _≡_ {A = ℕ} 0 1 = cc in omega arith))
-
--- An emit takes exactly the heads of its pair: there the places move up by one and the last is 0, and every other site is as it was.
-pub record HeadGone (g : Merger) (queues : List ℕ) (e : Merging) (i : ℕ) : Type 0 where
-  pub source : sourceAt (e .merger) i ≡ popSource (sourceAt g i)
-  pub up : (j : ℕ) → j + 1 < sizes.queue → placeWords (e .queues) i j ≡ placeWords queues i (j + 1)
-  pub last : placeWords (e .queues) i (sizes.queue - 1) ≡ replicate sizes.part 0
-
-pub record HeadStays (g : Merger) (queues : List ℕ) (e : Merging) (i : ℕ) : Type 0 where
-  pub source : sourceAt (e .merger) i ≡ sourceAt g i
-  pub same : (j : ℕ) → j < sizes.queue → placeWords (e .queues) i j ≡ placeWords queues i j
-
-module _ (g : Merger) (queues : List ℕ) (e : Merging) (i : ℕ) (c : Holds g queues) (d : Emits g queues e) (b : i < g .house .sites) where
-  popped-here : sourceAt (e .merger) i ≡ pick (inMask (dueHead g queues .mask) (i + 1)) (popSource (sourceAt g i)) (sourceAt g i)
-  popped-here =
-      rw (d .merger)
-      (popped-source g (dueHead g queues .mask) (g .house .sites) i (omega (arith, c .sized, c .clear .few)) b)
-
-  pub emit-takes : hasPart g (headsOf queues (g .house .sites)) (dueHead g queues) i ≡ true → HeadGone g queues e i
-  emit-takes h =
-      let m = d .whole i b .there ∙ h in
-      let n = g .house .sites in
-      record {
-        source = rw m at popped-here;
-        up = λ j l. rw (d .queues-left) (popped-place queues (dueHead g queues .mask) n i (c .clear .size) (c .clear .few) b j m l);
-        last = rw (d .queues-left) (popped-last queues (dueHead g queues .mask) n i (c .clear .size) (c .clear .few) b m);
-      }
-
-  pub emit-leaves : hasPart g (headsOf queues (g .house .sites)) (dueHead g queues) i ≡ false → HeadStays g queues e i
-  emit-leaves h =
-      let m = d .whole i b .there ∙ h in
-      let n = g .house .sites in
-      record {
-        source = rw m at popped-here;
-        same = λ j l. rw (d .queues-left) (kept-place queues (dueHead g queues .mask) n i (c .clear .size) (c .clear .few) b j m l);
-      }

@@ -1,4 +1,4 @@
--- Laws of the merger in 01's words: the least head, what is due and whole, what emit writes and leaves, and that a possible state stays so.
+-- 01, "Merger and copy": the least head, what is due and what is whole, in 01's words.
 use Prim.Native.Nat.{_+_, _-_, _<_, _≤_, suc, zero, ℕ}
 use borrow.Author.Tests.{eq-eqb, eqb-true, le-leb, le-ltb, leb-true, lt-ltb, ltb-false, ltb-true, not-true}
 use lib.Dec.{eqb, ltb}
@@ -13,7 +13,7 @@ use Rattle.kinds.specs.declared.House.{House}
 use Rattle.kinds.specs.declared.Merger.{Merger}
 use Rattle.kinds.specs.declared.RecordHead.{RecordHead}
 use Rattle.laws.specs.Choice.{by-test, every, every-at, some}
-use Rattle.laws.specs.Pair.{precedes}
+use Rattle.laws.specs.Pair.{precedes-trans, precedes-self}
 use Rattle.laws.specs.Scan.{all-below, all-below-at, allBelow, fold-more, foldBelow, split-last}
 use Rattle.rules.specs.House.{inMask}
 use Rattle.rules.specs.Merger.{betterHead, dueCode, hasHead, hasPart, headAt, headBefore, headIn, headsOf, isDue, isDueAt, isWhole, isWholeAt, leastHead, mergeState, mergeStateCode, mergerOutOf, noHead, pastSource, popMerger, popMergerAt, popSource, queuedPart, sourceAt}
@@ -54,34 +54,6 @@ pop-later g mask zero k h = refl
 pop-later g mask (suc n) k h = pop-other (popMerger g mask n) mask n k h ∙ pop-later g mask n k (omega arith)
 
 -- The least head: no head precedes it by (number, coordinator), and it is one.
-precedes-cases : (m d n c : ℕ) → precedes m d n c ≡ true → (m < n) ⊎ ((m ≡ n) × (d < c))
-unfolding precedes
-precedes-cases m d n c e =
-    by-test (ltb m n)
-    (λ h. inl (ltb-true m n h))
-    (λ h. by-test (eqb m n)
-    (λ q. inr (eqb-true m n q, ltb-true d c (rw (h, q) at e)))
-    (λ q. absurd (let z = rw (h, q) at e in let y : _≡_ {A = ℕ} 0 1 = cc in omega arith)))
-
-cases-precedes : (m d n c : ℕ) → (m < n) ⊎ ((m ≡ n) × (d < c)) → precedes m d n c ≡ true
-unfolding precedes
-cases-precedes m d n c (inl h) = rw (lt-ltb m n h)
-cases-precedes m d n c (inr (h, l)) = rw (le-ltb m n (omega arith), eq-eqb m n h, lt-ltb d c l)
-
-pub precedes-trans : (m d n c p e : ℕ) → precedes m d n c ≡ true → precedes n c p e ≡ true → precedes m d p e ≡ true
-precedes-trans m d n c p e a b =
-    cases-precedes m d p e
-    (⊎-elim
-    (λ (x : m < n). ⊎-elim (λ (y : n < p). inl (omega arith)) (λ (y : (n ≡ p) × (c < e)). inl (omega (arith, y .0))) (precedes-cases n c p e b))
-    (λ (x : (m ≡ n) × (d < c)). ⊎-elim
-    (λ (y : n < p). inl (omega (arith, x .0)))
-    (λ (y : (n ≡ p) × (c < e)). inr (omega (arith, x .0, y .0), omega (arith, x .1, y .1))) (precedes-cases n c p e b))
-    (precedes-cases m d n c a))
-
-precedes-not-self : (m d : ℕ) → precedes m d m d ≡ false
-unfolding precedes
-precedes-not-self m d = rw (le-ltb m m (omega arith), eq-eqb m m refl, le-ltb d d (omega arith))
-
 pub record LeastOf (g : Merger) (heads : List RecordHead) (n k : ℕ) : Type 0 where
   pub below : k < n
   pub queued : 0 < sourceAt g k .queued
@@ -109,7 +81,7 @@ module _ (g : Merger) (heads : List RecordHead) (n k : ℕ) (b : n < sizes.sites
         below = omega arith;
         queued = q;
         least = λ i h p. split-last h
-            (λ (z : i ≡ n). rw z (precedes-not-self (headIn heads n .number) (headIn heads n .coordinator)))
+            (λ (z : i ≡ n). rw z (precedes-self (headIn heads n .number) (headIn heads n .coordinator)))
             (λ (y : i < n). absurd (omega (arith, f i y)));
       }
 
@@ -119,7 +91,7 @@ module _ (g : Merger) (heads : List RecordHead) (n k : ℕ) (b : n < sizes.sites
         below = omega arith;
         queued = q;
         least = λ i h p. split-last h
-            (λ (z : i ≡ n). rw z (precedes-not-self (headIn heads n .number) (headIn heads n .coordinator)))
+            (λ (z : i ≡ n). rw z (precedes-self (headIn heads n .number) (headIn heads n .coordinator)))
             (λ (y : i < n). by-test (headBefore (headIn heads i) (headIn heads n))
             (λ u. absurd (let v = l .least i y p in
             let w = precedes-trans (headIn heads i .number) (headIn heads i .coordinator) (headIn heads n .number) (headIn heads n .coordinator) (headIn heads k .number) (headIn heads k .coordinator) u t in

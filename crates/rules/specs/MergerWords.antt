@@ -284,11 +284,7 @@ behind-place ws j e h =
     ∙ ap (take sizes.part) (drop-drop k sizes.part ws)
     ∙ ap (λ (i : ℕ). take sizes.part (drop i ws)) f
 
-behind-last : (ws : List ℕ) → length ws ≡ sizes.siteQueue
-    → take sizes.part (drop (sizes.part * (sizes.queue - 1)) (behindHead ws)) ≡ replicate sizes.part 0
-behind-last ws e = ap (take sizes.part) (drop-at (drop sizes.part ws) (replicate sizes.part 0) (sizes.part * (sizes.queue - 1)) (length-drop sizes.part ws ∙ omega arith))
-
--- Popped, a site's places move up by one, and the last is 0; one that is not popped keeps its places.
+-- Popped, a site's places move up by one; one that is not popped keeps its places.
 module _ (queues : List ℕ) (mask n i : ℕ) (e : length queues ≡ sizes.queues) (h : n ≤ sizes.sites) (l : i < n) where
   pub popped-place : (j : ℕ) → inMask mask (i + 1) ≡ true → j + 1 < sizes.queue
       → placeWords (popQueues queues mask n) i j ≡ placeWords queues i (j + 1)
@@ -298,13 +294,6 @@ module _ (queues : List ℕ) (mask n i : ℕ) (e : length queues ≡ sizes.queue
       ∙ ap (λ (ws : List ℕ). take sizes.part (drop (sizes.part * j) ws)) s
       ∙ behind-place (siteWords queues i) j (length-site queues i e (omega arith)) b
       ∙ sym (place-in-site queues i (j + 1) b)
-
-  pub popped-last : inMask mask (i + 1) ≡ true → placeWords (popQueues queues mask n) i (sizes.queue - 1) ≡ replicate sizes.part 0
-  popped-last m =
-      let s = rw m at (popped-site queues mask n i e h l) in
-      place-in-site (popQueues queues mask n) i (sizes.queue - 1) (omega arith)
-      ∙ ap (λ (ws : List ℕ). take sizes.part (drop (sizes.part * (sizes.queue - 1)) ws)) s
-      ∙ behind-last (siteWords queues i) (length-site queues i e (omega arith))
 
   pub kept-place : (j : ℕ) → inMask mask (i + 1) ≡ false → j < sizes.queue → placeWords (popQueues queues mask n) i j ≡ placeWords queues i j
   kept-place j m b =

@@ -1,8 +1,7 @@
 -- 01, course 10, and the state number: the queue's least entry, and what a site has finished.
-use Prim.Native.Nat.{ℕ, zero, suc, _+_, _-_, _*_, _≤_, _<_, min}
+use Prim.Native.Nat.{ℕ, _-_, min}
 use mathlib.Core.List.{List, [], _∷_}
-use mathlib.Core.Bool.{Bool, true, false, not}
-use lib.ListN.{getD}
+use mathlib.Core.Bool.{Bool}
 use lib.Dec.{ltb, leb, eqb}
 use Rattle.laws.specs.Choice.{pick, every, some}
 use Rattle.laws.specs.Scan.{foldBelow}

@@ -4,14 +4,14 @@ use Prim.Native.Nat.{ℕ, zero, suc, _+_, _-_, _/_, _≤_, _<_, min}
 use mathlib.Core.Path.{_≡_, refl, ap, sym, _∙_}
 use mathlib.Core.List.{List, [], _∷_}
 use mathlib.Core.Bool.{Bool, true, false}
-use mathlib.Core.Logic.{_⊎_, inl, inr}
+use mathlib.Core.Logic.{_⊎_, inl, inr, ⊎-elim}
 use native.Mathlib.Omega.{arith}
 use native.Mathlib.Numerals.{add-one}
-use borrow.Author.Tests.{ltb-true, eqb-true, eqb-false, lt-ltb, le-ltb, le-leb, lt-leb, eq-eqb, ne-eqb}
+use borrow.Author.Tests.{eqb-true, eqb-false, lt-ltb, le-ltb, le-leb, lt-leb}
 use lib.Dec.{ltb, leb, eqb}
-use Rattle.laws.specs.Choice.{pick, every, some, by-test, picked-left, picked-right}
+use Rattle.laws.specs.Choice.{set-not, unset, pick, every, some, by-test, picked-left, picked-right}
 use Rattle.laws.specs.Scan.{foldBelow, fold-more, split-last}
-use Rattle.laws.specs.Pair.{precedes}
+use Rattle.laws.specs.Pair.{precedes, precedes-cases, cases-precedes, precedes-trans, precedes-self}
 use Rattle.kinds.specs.Sizes as sizes
 use Rattle.kinds.specs.Stage as stage
 use Rattle.kinds.specs.declared.Sub.{Sub}
@@ -20,52 +20,18 @@ use Rattle.rules.specs.Live.{partAt, stageAt, isQueued}
 use Rattle.rules.specs.Queue.{queuedBefore, comesFirst, betterPlace, leastQueued, stateBound, stateNumber}
 use Rattle.rules.specs.KeysLaws.{by-order}
 
--- The order of pairs.
-
-precedes-lt : (m d n c : ℕ) → m < n → precedes m d n c ≡ true
-unfolding precedes
-precedes-lt m d n c h = rw (lt-ltb m n h)
-
-precedes-gt : (m d n c : ℕ) → n < m → precedes m d n c ≡ false
-unfolding precedes
-precedes-gt m d n c h = rw (le-ltb m n (omega arith), ne-eqb m n (λ e. omega arith))
-
-precedes-eq : (m d n c : ℕ) → m ≡ n → precedes m d n c ≡ ltb d c
-unfolding precedes
-precedes-eq m d n c e = rw (le-ltb m n (omega arith), eq-eqb m n e)
-
--- by cases on the first numbers
-by-first : {P : Type 0} (m n : ℕ) → (m < n → P) → (m ≡ n → P) → (n < m → P) → P
-by-first m n f g h = by-order m n f (λ l. by-order n m h (λ q. g (omega arith)))
-
-precedes-self : (m d : ℕ) → precedes m d m d ≡ false
-precedes-self m d = precedes-eq m d m d refl ∙ le-ltb d d (omega arith)
-
-no : {P : Type 0} {b : Bool} → b ≡ true → b ≡ false → P
-no t f = absurd (let z : _≡_ {A = ℕ} 0 1 = cc in omega arith)
-
-precedes-trans : (a x b y c z : ℕ) → precedes a x b y ≡ true → precedes b y c z ≡ true → precedes a x c z ≡ true
-precedes-trans a x b y c z t u =
-    by-first a b
-    (λ h. by-first b c
-    (λ k. precedes-lt a x c z (omega arith))
-    (λ k. precedes-lt a x c z (omega arith))
-    (λ k. no u (precedes-gt b y c z k)))
-    (λ h. by-first b c
-    (λ k. precedes-lt a x c z (omega arith))
-    (λ k. precedes-eq a x c z (h ∙ k)
-    ∙ lt-ltb x z (omega (arith, ltb-true x y (sym (precedes-eq a x b y h) ∙ t), ltb-true y z (sym (precedes-eq b y c z k) ∙ u))))
-    (λ k. no u (precedes-gt b y c z k)))
-    (λ h. no t (precedes-gt a x b y h))
+-- The order of the queue.
 
 -- (coordinator; transaction) is the order of transaction numbers
 pub tx-order : (a b : ℕ) → precedes (coordinatorOf a) a (coordinatorOf b) b ≡ ltb a b
 unfolding coordinatorOf
 tx-order a b =
-    by-first (a / sizes.serials) (b / sizes.serials)
-    (λ h. precedes-lt (a / sizes.serials) a (b / sizes.serials) b h ∙ sym (lt-ltb a b (omega arith)))
-    (λ h. precedes-eq (a / sizes.serials) a (b / sizes.serials) b h)
-    (λ h. precedes-gt (a / sizes.serials) a (b / sizes.serials) b h ∙ sym (le-ltb a b (omega arith)))
+    by-order a b
+    (λ h. cases-precedes _ _ _ _ (by-order (a / sizes.serials) (b / sizes.serials) (λ l. inl l) (λ l. inr (omega arith, h))) ∙ sym (lt-ltb a b h))
+    (λ h. unset _ (λ t. ⊎-elim
+    (λ (l : a / sizes.serials < b / sizes.serials). omega arith)
+    (λ (l : (a / sizes.serials ≡ b / sizes.serials) × (a < b)). omega (arith, l .1))
+    (precedes-cases _ _ _ _ t)) ∙ sym (le-ltb a b h))
 
 -- so the queue's order is by (number; coordinator; transaction)
 pub queued-order : (a b : Sub) → queuedBefore a b
@@ -85,7 +51,7 @@ not-before : (a b c : Sub) → queuedBefore b c ≡ true → queuedBefore a c �
 unfolding queuedBefore
 not-before a b c t f =
     by-test (queuedBefore a b)
-    (λ q. no (precedes-trans (a .course .number) (a .tx) (b .course .number) (b .tx) (c .course .number) (c .tx) q t) f)
+    (λ q. absurd (set-not _ (precedes-trans (a .course .number) (a .tx) (b .course .number) (b .tx) (c .course .number) (c .tx) q t) f))
     (λ q. q)
 
 -- The queue's least.
@@ -114,14 +80,14 @@ first-true b best first t =
     let r = picked-right (isQueued b) (every (some (leb sizes.live best ∷ queuedBefore b first ∷ []) ∷ [])) t in
     let s = picked-left (some (leb sizes.live best ∷ queuedBefore b first ∷ [])) true r in (
       picked-left (isQueued b) (every (some (leb sizes.live best ∷ queuedBefore b first ∷ []) ∷ [])) t,
-      λ h. by-test (queuedBefore b first) (λ q. q) (λ q. no s (rw (lt-leb sizes.live best h, q))),
+      λ h. by-test (queuedBefore b first) (λ q. q) (λ q. absurd (set-not _ s (rw (lt-leb sizes.live best h, q)))),
     )
 
 first-false : (b : Sub) (best : ℕ) (first : Sub) → comesFirst b best first ≡ false → isQueued b ≡ true → (best < sizes.live) × (queuedBefore b first ≡ false)
 unfolding comesFirst
 first-false b best first f t = (
-  by-order best sizes.live (λ h. h) (λ h. absurd (no (rw (t, le-leb sizes.live best h)) f)),
-  by-test (queuedBefore b first) (λ q. no (rw (t, q) (last (leb sizes.live best))) f) (λ q. q),
+  by-order best sizes.live (λ h. h) (λ h. absurd (set-not _ (rw (t, le-leb sizes.live best h)) f)),
+  by-test (queuedBefore b first) (λ q. absurd (set-not _ (rw (t, q) (last (leb sizes.live best))) f)) (λ q. q),
 )
   where
     last : (x : Bool) → pick (pick x true true) true false ≡ true

@@ -7,7 +7,7 @@ use native.Mathlib.Omega.{arith}
 use borrow.Author.Tests.{leb-true, eqb-true, le-leb, eq-eqb}
 use lib.ListN.{length, getD, length-drop}
 use lib.Dec.{eqb}
-use Rattle.laws.specs.Choice.{every-at, by-test}
+use Rattle.laws.specs.Choice.{every-at, by-test, set-not, unset}
 use Rattle.kinds.specs.Sizes as sizes
 use Rattle.kinds.specs.Kind as kinds
 use Rattle.kinds.specs.Word as word
@@ -148,7 +148,7 @@ pub part-written-passes : (o : House) (r : RecordHead) (ws : List ℕ) → GoodP
 unfolding partOk
 part-written-passes o r ws g = rw (shape-written r ws (g .size), head-back r ws, writes-back r ws, g .head, g .writes)
 
-part-shape : (o : House) (m : List ℕ) → partOk o m ≡ true → recordShape m ≡ true
+pub part-shape : (o : House) (m : List ℕ) → partOk o m ≡ true → recordShape m ≡ true
 unfolding partOk
 part-shape o m e = every-at (partTests o m) 0 e
 
@@ -169,7 +169,7 @@ pub state-written-passes : (o : House) (r : RecordHead) (ws : List ℕ) → Good
 unfolding stateOk
 state-written-passes o r ws g = rw (shape-written r ws (g .size), head-back r ws, g .head)
 
-state-shape : (o : House) (m : List ℕ) → stateOk o m ≡ true → recordShape m ≡ true
+pub state-shape : (o : House) (m : List ℕ) → stateOk o m ≡ true → recordShape m ≡ true
 unfolding stateOk
 state-shape o m e = every-at (stateTests o m) 0 e
 
@@ -249,7 +249,7 @@ pub record MessageAlone (o : House) (m : List ℕ) : Type 0 where
   pub merged : mergedOk m ≡ false
 
 apart : (a b : Bool) → (a ≡ true → b ≡ false) → b ≡ true → a ≡ false
-apart a b f e = by-test a (λ q. let z = f q in absurd (let y : _≡_ {A = ℕ} 0 1 = cc in omega arith)) (λ q. q)
+apart a b f e = unset a (λ q. set-not b e (f q))
 
 pub message-no-record : (o p : House) (m : List ℕ) → messageOk p m ≡ true → MessageAlone o m
 message-no-record o p m e =

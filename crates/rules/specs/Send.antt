@@ -1,12 +1,12 @@
 -- 01, "Message and record words": outgoing messages, each directly behind the one before it, by destination ascending.
 -- Each ordered pair of sites counts its messages from 1.
-use Prim.Native.Nat.{ℕ, zero, suc, _+_, _*_, _≤_, _<_}
+use Prim.Native.Nat.{ℕ, _+_, _<_}
 use mathlib.Core.List.{List, [], _∷_, _++_}
-use mathlib.Core.Bool.{Bool, true, false, not}
+use mathlib.Core.Bool.{Bool, true, not}
 use mathlib.Core.Path.{_≡_}
+use borrow.Author.Tests.{ltb-true}
 use lib.ListN.{getD, set}
 use lib.Dec.{eqb, ltb}
-use borrow.Author.Tests.{ltb-true}
 use Rattle.laws.specs.Choice.{pick, every}
 use Rattle.laws.specs.Digits.{digit}
 use Rattle.laws.specs.Scan.{allBelow, foldBelow, all-below-at}

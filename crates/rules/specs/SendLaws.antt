@@ -2,7 +2,7 @@
 use Prim.Native.Nat.{ℕ, zero, suc, _+_, _*_, _≤_, _<_}
 use mathlib.Core.Path.{_≡_, refl, ap, _∙_}
 use mathlib.Core.List.{List, [], _++_}
-use mathlib.Core.Bool.{Bool, true, false, not}
+use mathlib.Core.Bool.{Bool, true, false}
 use mathlib.Core.Logic.{⊎-elim}
 use native.Mathlib.Nat.{eq-or-lt-of-le}
 use native.Mathlib.Omega.{arith}
@@ -74,9 +74,6 @@ module _ (h : MessageHead) (sent : List ℕ) (mask : ℕ) (es : List ℕ) (size 
       by-test (leb (h .from) (k + 1))
       (λ e. omega (arith, more-length k, past-sender (k + 1) l (leb-true _ _ e)))
       (λ e. omega (arith, more-length k, all-fit (k + 1), leb-false (h .from) (k + 1) e))
-
-  pub messages-outgoing : 1 ≤ h .from → h .from ≤ sizes.sites → length (messagesTo h sent mask es sizes.sites) ≤ sizes.outgoing
-  messages-outgoing l u = omega (arith, messages-fit 7 l u (omega arith), more-length 7)
 
 -- The counts: a step keeps those of the sites behind it, so each recipient's is stepped once.
 pub steps-more : (sent : List ℕ) (mask sender k : ℕ) → stepRecipients sent mask sender (k + 1) ≡ pick (isRecipient mask sender k) (stepCount (stepRecipients sent mask sender k) k) (stepRecipients sent mask sender k)

@@ -1,9 +1,9 @@
 -- 01, "Sizes of a house": a handed state whose counts, keys or masks are past these sizes gives 2.
-use Prim.Native.Nat.{ℕ, _+_, _*_, _≤_, _<_}
+use Prim.Native.Nat.{ℕ, _+_, _*_}
 use mathlib.Core.List.{List, [], _∷_}
-use mathlib.Core.Bool.{Bool, true, false, not}
+use mathlib.Core.Bool.{Bool, not}
 use lib.ListN.{getD}
-use lib.Dec.{ltb, leb, eqb}
+use lib.Dec.{leb}
 use Rattle.laws.specs.Choice.{every}
 use Rattle.laws.specs.Scan.{allBelow}
 use Rattle.kinds.specs.Sizes as sizes

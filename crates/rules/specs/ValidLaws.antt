@@ -219,9 +219,6 @@ valid-site s t =
 pub live-wrote : (s : Site) → siteOk s ≡ true → (i : ℕ) → i < 16 → subAt s i .keys .wrote ≤ 16
 live-wrote s t i h = valid-site s t .part i h .keys .few-wrote
 
-pub history-wrote : (s : Site) → siteOk s ≡ true → (i : ℕ) → i < 32 → entryAt s i .keys .wrote ≤ 16
-history-wrote s t i h = valid-site s t .entry i h .keys .few-wrote
-
 -- each remembered install lies in a slot of the history
 pub valid-recall : (s : Site) → siteOk s ≡ true → (i : ℕ) → ValidEntry (s .house) (s .counters .own) (recall (s .history) (s .counters .installs) i)
 valid-recall s t i =

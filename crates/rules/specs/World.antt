@@ -141,6 +141,7 @@ logStep w s e base =
       words = e .words;
     }
 
+-- word for word
 abbrev pub sameWords : List ℕ → List ℕ → Bool
 sameWords [] [] = true
 sameWords [] (y ∷ ys) = false
@@ -151,6 +152,7 @@ sameWords (x ∷ xs) (y ∷ ys) = pick (eqb x y) (sameWords xs ys) false
 unfoldable pub stepTaken : Answer → List (List ℕ) → ℕ → List ℕ → ℕ
 stepTaken a records n m = pick (isRefused a) n (pick (every (ltb n (length records) ∷ sameWords (getD records n []) m ∷ [])) (n + 1) n)
 
+-- a call of the merger, which writes the stream
 unfoldable pub mergerStep : World → Merging → (ℕ → ℕ) → Result
 mergerStep w e merged =
     record {
@@ -172,6 +174,7 @@ mergerStep w e merged =
       words = e .words;
     }
 
+-- a call of copy c, of which n merged records were taken then
 unfoldable pub copyStep : World → ℕ → Copying → ℕ → Result
 copyStep w c e n =
     record {
@@ -202,6 +205,7 @@ mergeStep w m e =
 unfoldable pub replayStep : World → ℕ → List ℕ → Copying → Result
 replayStep w c m e = copyStep w c e (stepTaken (e .answer) (w .stream) (w .replayed c) m)
 
+-- a call, by its own definition, on the state that the list left
 unfoldable pub step : World → Call → Result
 step w (begin s) = siteStep w s (beginOf (w .site s)) (w .base s) (w .lists s)
 step w (enlist s out tx site) = siteStep w s (enlistOf (w .site s) (length out) tx site) (w .base s) (w .lists s)
@@ -217,12 +221,13 @@ step w (emit out) = mergerStep w (emitOf (w .merger) (length out) (w .queues)) (
 step w (replay c m) = replayStep w c m (replayOf (w .copy c) m)
 step w (value c key) = record { world = w; answer = valueOf (w .copy c) key; words = [] }
 
--- What may be handed in: words that an earlier call wrote. A log's record reaches the merger, and a merged one a copy, only after
--- all before it were taken there; one taken before may come again.
+-- a stands in a list
 pub data Is {A : Type 0} (a : A) : List A → Type 0 where
   here : {l : List A} → Is a (a ∷ l)
   there : {b : A} {l : List A} → Is a l → Is a (b ∷ l)
 
+-- What may be handed in: words that an earlier call wrote. A log's record reaches the merger, and a merged one a copy, only after
+-- all before it were taken there; one taken before may come again.
 abbrev pub Reached : List (List ℕ) → ℕ → List ℕ → Type 0
 Reached records taken m = (i : ℕ) × (i ≤ taken) × (i < length records) × (getD records i [] ≡ m)
 
@@ -244,6 +249,7 @@ Handed w (report s out) = Unit {0}
 Handed w (emit out) = Unit {0}
 Handed w (value c key) = Unit {0}
 
+-- a list of calls that are handed no more than this
 abbrev pub Lawful : World → List Call → Type 0
 Lawful w [] = Unit {0}
 Lawful w (c ∷ cs) = Handed w c × Lawful (step w c .world) cs

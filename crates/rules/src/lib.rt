@@ -2,6 +2,7 @@
 ghost use Rattle.rules.specs.Claim.{Demand3};
 ghost use Rattle.rules.specs.Progress.{MessagesProgress, RecordsProgress};
 ghost use Rattle.rules.specs.Reads.{ReadsRight};
+ghost use Rattle.rules.specs.Refusals.{RefusedLeaves};
 
 // Demand 3: any list of the thirteen calls, from a fresh house.
 pub fn demand3_holds()
@@ -21,4 +22,9 @@ pub fn messages_progress()
 // In such a list every log ascends, its next record is taken, a due record is whole, and a drained house emits.
 pub fn records_progress()
     ensures { λ _. ⌜ RecordsProgress ⌝ }
+{}
+
+// In any state a refused call leaves all as it was.
+pub fn refused_leaves()
+    ensures { λ _. ⌜ RefusedLeaves ⌝ }
 {}
