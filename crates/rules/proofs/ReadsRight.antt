@@ -6,10 +6,12 @@ use mathlib.Core.Logic.{inl, inr}
 use lib.ListN.{getD-replicate}
 use Rattle.kinds.specs.Sizes as sizes
 use Rattle.rules.specs.History.{forgotten}
+use Rattle.rules.specs.Install.{startCode}
 use Rattle.rules.specs.World.{World, freshWorld}
 use Rattle.rules.specs.Reads.{ReadsRight}
 use Rattle.rules.proofs.Protocol.{freshProtocol}
 use Rattle.rules.proofs.BookKept.{at-same}
+use Rattle.rules.proofs.RefineFresh.{fresh-table}
 use Rattle.rules.proofs.Stream.{Stream, Steps, freshStream}
 use Rattle.rules.proofs.StreamReached.{Standing, standing-steps}
 use Rattle.rules.proofs.RefineMerger.{StreamIs}
@@ -51,7 +53,7 @@ call-reads few w v u c h i z ss e j m =
 -- nothing is forgotten of no installs
 bases-fresh : (sites : ℕ) → BasesAre sites (freshWorld sites) freshProtocol
 unfolding freshWorld freshProtocol forgotten
-bases-fresh sites s k l h low = getD-replicate {A = ℕ} sizes.keys k 0 0 low ∙ sym (left-none _ k)
+bases-fresh sites s k l h low = rw (fresh-table (startCode sites s sizes.keys sizes.lists) sizes.keys) (getD-replicate {A = ℕ} sizes.keys k 0 0 low ∙ sym (left-none _ k))
 
 fresh-reads : (sites : ℕ) → Reads sites (freshWorld sites) freshStream
 unfolding freshStream

@@ -5,15 +5,15 @@ use mathlib.Core.Bool.{false}
 use mathlib.Core.List.{[], _∷_}
 use native.Mathlib.Omega.{arith}
 use borrow.Author.Tests.{leb-true, le-leb}
-use lib.Dec.{leb}
+use lib.Dec.{leb, eqb}
 use lib.ListN.{replicate, length-replicate, getD-replicate}
-use Rattle.laws.specs.Choice.{every, every-at, by-test}
+use Rattle.laws.specs.Choice.{every, every-at, by-test, pick-same}
 use Rattle.kinds.specs.Sizes as sizes
 use Rattle.kinds.specs.State.{noSub, pastSub, noEntry}
 use Rattle.rules.specs.House.{houseOk, isSite}
 use Rattle.rules.specs.Live.{partAt}
 use Rattle.rules.specs.History.{remembered}
-use Rattle.rules.specs.Install.{freshSite, startCode, startOf}
+use Rattle.rules.specs.Install.{freshSite, startCode, startOf, startTable}
 use Rattle.rules.specs.Valid.{siteOk}
 use Rattle.rules.specs.World.{freshWorld}
 use Rattle.rules.proofs.Tables.{a-nil}
@@ -67,12 +67,17 @@ fresh-site sites s a b =
       base-size = length-replicate {A = ℕ} sizes.keys 0;
     }
 
+-- a start that is handed zeros leaves zeros, refused or not
+pub fresh-table : (code n : ℕ) → startTable code (replicate n 0) ≡ replicate n 0
+unfolding startTable
+fresh-table code n = rw (length-replicate {A = ℕ} n 0) (pick-same (eqb code 0) (replicate n 0))
+
 pub refines-fresh : (sites : ℕ) → 1 ≤ sites → sites ≤ 8 → Refines sites (freshWorld sites) freshProtocol
 unfolding freshWorld freshProtocol
 refines-fresh sites a b =
     record {
       few = b;
-      site = λ s l h. rw (started sites s a b l h) (fresh-site sites s a b);
+      site = λ s l h. rw (started sites s a b l h, fresh-table (startCode sites s sizes.keys sizes.lists) sizes.keys, fresh-table (startCode sites s sizes.keys sizes.lists) sizes.lists) (fresh-site sites s a b);
       outside = not-started sites;
       sent = a-nil;
       log = λ s. refl;

@@ -21,7 +21,7 @@ use Rattle.rules.specs.Access.{readOf, writeOf}
 use Rattle.rules.specs.Enlist.{enlistOf}
 use Rattle.rules.specs.Commit.{commitOf, abandonOf}
 use Rattle.rules.specs.Deliver.{messageOf}
-use Rattle.rules.specs.Install.{installOf, reportOf, startOf}
+use Rattle.rules.specs.Install.{installOf, reportOf, startCode, startOf, startTable}
 use Rattle.rules.specs.Merger.{Merging, mergeOf, emitOf, mergerStartOf}
 use Rattle.rules.specs.Copy.{Copying, replayOf, valueOf, copyStartOf}
 
@@ -65,8 +65,8 @@ unfoldable pub freshWorld : ℕ → World
 freshWorld n =
     record {
       site = λ s. startOf n s sizes.keys sizes.lists .site;
-      base = λ s. replicate sizes.keys 0;
-      lists = λ s. replicate sizes.lists 0;
+      base = λ s. startTable (startCode n s sizes.keys sizes.lists) (replicate sizes.keys 0);
+      lists = λ s. startTable (startCode n s sizes.keys sizes.lists) (replicate sizes.lists 0);
       merger = mergerStartOf n (replicate sizes.queues 0) .merger;
       queues = mergerStartOf n (replicate sizes.queues 0) .queues;
       copy = λ c. copyStartOf (replicate sizes.copy 0) .copy;
