@@ -52,6 +52,11 @@ def process(f):
     t=open(f).read()
     own=f.split('/crates/')[1].split('/')[0] if '/crates/' in f else re.search(r'crates/([^/]+)/',f).group(1)
     d=crate_names(own)
+    # a name that the file imports already stays with its module: two law files may have one of that name
+    for m in re.finditer(r'^use (\S+)\.\{(.*)\}$',t,re.M):
+        if m.group(1).endswith('.Statement'): continue
+        for n in (x.strip() for x in m.group(2).split(',')):
+            if n not in [o[1] for o in ops.values()]: d[n]=(m.group(1),n)
     lines=t.split('\n')
     head=[];keep=[];body=[]
     for l in lines:
