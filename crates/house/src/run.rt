@@ -122,6 +122,7 @@ fn rest(
             break;
         }
         let c = a.command;
+        // A message apart from the other calls, each with its site straight from the table: one function for all copies it twice more.
         let o = if let Command::Take(_, _) = c {
             take_at(sites[i], i, &mut lists, &item, a.words, &mut out)
         } else {
