@@ -70,9 +70,9 @@ passed-goes : (s : Site) (a : ℕ) → GoesOn (passed s a)
 unfolding passed
 passed-goes s a = record { in-turn = accepted _ refl; known = none }
 
-pub arrival-other : (ok : Bool) (room : ℕ) (given fine : Bool) → arrivalCode ok room given fine ≡ reason.stage → ⊥
+pub arrival-other : (ok : Bool) (room : ℕ) (fine : Bool) → arrivalCode ok room fine ≡ reason.stage → ⊥
 unfolding arrivalCode
-arrival-other ok room given fine e = other-code reason.stage (arrivalCauses ok room given fine) (λ z. omega arith) refl e
+arrival-other ok room fine e = other-code reason.stage (arrivalCauses ok room fine) (λ z. omega arith) refl e
 
 pub next-other : (to own channel taken : ℕ) → nextCode to own channel taken ≡ reason.stage → ⊥
 unfolding nextCode
@@ -100,7 +100,7 @@ pub gather-speaks : (x : Site) (h : MessageHead) (place : ℕ) (lists : List ℕ
 unfolding gatherChange
 gather-speaks x h place lists =
     let c = withReply (subAt x place .course) (h .from) 0 (h .count) in
-    by-test (allHeard (c .heard) (c .mask))
+    by-test (allHeard (x .counters .own) (c .heard) (c .mask))
     (λ e. rw e (cast-speaks _ _ (joined (drop (sizes.gathered * place) lists) (c .listed)) (join-whole (drop (sizes.gathered * place) lists) (c .listed))))
     (λ e. rw e (quietly-speaks _))
 

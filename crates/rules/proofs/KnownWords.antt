@@ -20,7 +20,7 @@ use Rattle.rules.specs.Live.{placeOf, freePlace, stageAt, allHeard}
 use Rattle.rules.specs.History.{isForgotten}
 use Rattle.rules.specs.Join.{joined}
 use Rattle.rules.specs.Certify.{concurrent}
-use Rattle.rules.specs.Valid.{siteOk}
+use Rattle.rules.specs.Valid.{siteOk, handedOk}
 use Rattle.rules.specs.Answers.{isRefused}
 use Rattle.rules.specs.Effect.{Change, Effect, turnAt, changed, unless}
 use Rattle.rules.specs.Course.{quietly, channelSpent}
@@ -103,7 +103,7 @@ unfolding abandonOf
 abandon-writes s room tx =
     let place = placeOf (s .live) tx in
     let c = subAt s place .course in
-    or-refused (requestCode (siteOk s) room true place (isMine s tx)) s [] _
+    or-refused (requestCode (siteOk s) room place (isMine s tx)) s [] _
     (or-refused (abandonCode (c .stage) (countsLow (s .channels .sent) (c .mask) (s .counters .own))) s [] _
     (change-writes s place _ [] [] (abort-speaks (turnAt s place) reason.abandoned)))
 
@@ -111,7 +111,7 @@ abandon-writes s room tx =
 request-speaks : (s : Site) (place : ℕ) (own : List ℕ) → Speaks (requestChange s place own)
 unfolding requestChange
 request-speaks s place own =
-    by-test (allHeard 0 (subAt s place .course .mask))
+    by-test (allHeard (s .counters .own) 0 (subAt s place .course .mask))
     (λ e. rw e (cast-speaks _ _ (joined own (entryCount own)) (join-whole own (entryCount own))))
     (λ e. rw e (prepare-speaks _))
 
@@ -129,6 +129,6 @@ unfolding commitOf
 commit-writes s room lists tx =
     let place = placeOf (s .live) tx in
     let c = subAt s place .course in
-    or-refused (requestCode (siteOk s) room (eqb (length lists) sizes.lists) place (isMine s tx)) s lists _
-    (or-refused (commitCode (c .stage) (allHeard (c .heard) (c .mask)) (countsLow (s .channels .sent) (c .mask) (s .counters .own))) s lists _
+    or-refused (requestCode (handedOk s lists) room place (isMine s tx)) s lists _
+    (or-refused (commitCode (c .stage) (allHeard (s .counters .own) (c .heard) (c .mask)) (countsLow (s .channels .sent) (c .mask) (s .counters .own))) s lists _
     (change-writes s place _ (commitLists s lists place) lists (commit-speaks s place)))

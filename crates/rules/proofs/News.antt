@@ -21,7 +21,7 @@ OwnStage p t g = AtStage p (coordinatorOf t) t g
 
 -- every other participant has replied to t's coordinator
 abbrev pub Replies : Protocol → ℕ → Type 0
-Replies p t = allHeard (courseAt p (coordinatorOf t) t .heard) (courseAt p (coordinatorOf t) t .mask) ≡ true
+Replies p t = allHeard (coordinatorOf t) (courseAt p (coordinatorOf t) t .heard) (courseAt p (coordinatorOf t) t .mask) ≡ true
 
 -- The flags as they are set now.
 abbrev pub AskedNow : Protocol → ℕ → ℕ → Type 0

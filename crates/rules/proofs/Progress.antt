@@ -12,7 +12,8 @@ use Rattle.kinds.specs.declared.Site.{Site}
 use Rattle.rules.specs.Message.{messageHead, messageEntries, messageOk}
 use Rattle.rules.specs.MessageLaws.{head-clear, passed-good}
 use Rattle.rules.specs.Live.{placeOf}
-use Rattle.rules.specs.Valid.{siteOk}
+use Rattle.rules.specs.Valid.{handedOk}
+use Rattle.rules.specs.ValidLaws.{handed-site}
 use Rattle.rules.specs.Effect.{Effect}
 use Rattle.rules.specs.Course.{headOf}
 use Rattle.rules.specs.CallLaws.{arrival-clear, next-clear}
@@ -53,14 +54,14 @@ module _ {sites : ℕ} {w : World} {p : Protocol} (r : Refines sites w p) (i : I
   head = messageHead m
 
   -- the next of its channel
-  next-goes : Handed w (world.message s out m) → arrivalCode (siteOk site) (length out) (eqb (length lists) sizes.lists) (messageOk (site .house) m) ≡ 0
+  next-goes : Handed w (world.message s out m) → arrivalCode (handedOk site lists) (length out) (messageOk (site .house) m) ≡ 0
       → nextCode (head .to) (site .counters .own) (head .channel) (getD (site .channels .taken) (head .from - 1) 0) ≡ 0
       → GoesOn (takeKind (head .kind) site head (messageEntries m) lists (placeOf (site .live) (head .tx)))
   unfolding headOf
   next-goes handed e k =
-      let c = arrival-clear (siteOk site) (length out) (eqb (length lists) sizes.lists) (messageOk (site .house) m) e in
+      let c = arrival-clear (handedOk site lists) (length out) (messageOk (site .house) m) e in
       let d = next-clear (head .to) (site .counters .own) (head .channel) (getD (site .channels .taken) (head .from - 1) 0) k in
-      let (l, h) = inside r s (c .valid) in
+      let (l, h) = inside r s (handed-site site lists (c .valid)) in
       let a = arrives i s (r .site s l h) m (posted r i s out m handed (c .formed)) (d .here) (d .in-order) in
       let apart = ends-apart head (a .from) s (a .number) (a .message) (a .head) (head-clear (site .house) head (passed-good (site .house) m (c .formed) .head) .ends .apart) in
       rw (a .head, a .entries) (takes-on i f s (a .from) (a .number) (r .site s l h) (a .message) (a .next) apart)
@@ -68,12 +69,12 @@ module _ {sites : ℕ} {w : World} {p : Protocol} (r : Refines sites w p) (i : I
   message-goes : Handed w (world.message s out m) → GoesOn (messageOf site (length out) lists m)
   unfolding messageOf messageAt
   message-goes handed =
-      let code = arrivalCode (siteOk site) (length out) (eqb (length lists) sizes.lists) (messageOk (site .house) m) in
+      let code = arrivalCode (handedOk site lists) (length out) (messageOk (site .house) m) in
       let late = nextCode (head .to) (site .counters .own) (head .channel) (getD (site .channels .taken) (head .from - 1) 0) in
       by-code GoesOn code site lists (messageAt site lists m)
       (λ e. by-code GoesOn late site lists (takeKind (head .kind) site head (messageEntries m) lists (placeOf (site .live) (head .tx))) (next-goes handed e)
       (refused-goes late site lists (next-other _ _ _ _)))
-      (refused-goes code site lists (arrival-other _ _ _ _))
+      (refused-goes code site lists (arrival-other _ _ _))
 
 -- What was sent, after a call.
 known-sent : (w : World) (s : ℕ) (e : Effect) (base : List Value) (lent : List ℕ) → All Known (w .sent) → Made Known (e .words) → All Known (siteStep w s e base lent .world .sent)

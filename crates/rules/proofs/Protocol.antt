@@ -257,7 +257,7 @@ pub data Move (sites : ℕ) (p : Protocol) : Protocol → Type 0 where
       → Move sites p (set-keys (upd₂ (p .keys) s t b) (withLive p s t (withKeys (p .live s t) b)))
   -- the commit request: every other participant has answered its JOIN by 0
   request : (s t : ℕ) (es : List ℕ) → coordinatorOf t ≡ s → AtStage p s t stage.active
-      → allHeard (courseAt p s t .heard) (courseAt p s t .mask) ≡ true → courseAt p s t .reason ≡ 0 → Covers p s t es
+      → allHeard s (courseAt p s t .heard) (courseAt p s t .mask) ≡ true → courseAt p s t .reason ≡ 0 → Covers p s t es
       → Move sites p
       (postedAll
       (withCourseAt
@@ -272,7 +272,7 @@ pub data Move (sites : ℕ) (p : Protocol) : Protocol → Type 0 where
       → Move sites p (postedAll (withLive (set-dead (upd (p .dead) t true) p) s t noSub) s (courseAt p s t .mask) (mAbort t))
   -- all lists are gathered: the coordinator votes yes on their join
   cast : (s t : ℕ) (es : List ℕ) → coordinatorOf t ≡ s → AtStage p s t stage.prepared
-      → allHeard (courseAt p s t .heard) (courseAt p s t .mask) ≡ true → Within (p .gathered t) es → Certified p s t es
+      → allHeard s (courseAt p s t .heard) (courseAt p s t .mask) ≡ true → Within (p .gathered t) es → Certified p s t es
       → Move sites p
       (postedAll
       (withCourseAt
@@ -283,7 +283,7 @@ pub data Move (sites : ℕ) (p : Protocol) : Protocol → Type 0 where
       s (courseAt p s t .mask) (mCert t es))
   -- all have voted yes: the clock plus 1 is the commit number
   decide : (s t : ℕ) → coordinatorOf t ≡ s → AtStage p s t stage.queued
-      → allHeard (courseAt p s t .heard) (courseAt p s t .mask) ≡ true
+      → allHeard s (courseAt p s t .heard) (courseAt p s t .mask) ≡ true
       → Move sites p
       (postedAll
       (withCourseAt

@@ -21,7 +21,8 @@ use Rattle.rules.specs.Send.{countsLow}
 use Rattle.rules.specs.Live.{placeOf, allHeard}
 use Rattle.rules.specs.Join.{joined}
 use Rattle.rules.specs.Certify.{concurrent}
-use Rattle.rules.specs.Valid.{siteOk}
+use Rattle.rules.specs.Valid.{siteOk, handedOk}
+use Rattle.rules.specs.ValidLaws.{handed-site}
 use Rattle.rules.specs.Effect.{Effect, turnAt, refused, changed}
 use Rattle.rules.specs.Course.{sendAll, abortStep}
 use Rattle.rules.specs.Commit.{requestCode, commitCode, isFull, isLost, commitChange, commitLists, commitOf, abandonCode, abandonOf}
@@ -36,7 +37,7 @@ use Rattle.rules.proofs.Refines.{Refines}
 use Rattle.rules.proofs.RefineStep.{Follows, toldBy, by-code, inside, stays}
 use Rattle.rules.proofs.RefineTurn.{at-place, course-is}
 use Rattle.rules.proofs.RefineActs.{acts-follow}
-use Rattle.rules.proofs.RefineCourse.{abort-acts}
+use Rattle.rules.proofs.RefineCourse.{heard-here, abort-acts}
 use Rattle.rules.proofs.RefineRequest.{Ready, prepare-acts, lone-commit-acts}
 
 -- Abandon: an abort before the decision.
@@ -50,12 +51,12 @@ module _ {sites : ℕ} {w : World} {p : Protocol} (r : Refines sites w p) (i : I
   abbrev course : Course
   course = subAt here spot .course
 
-  abandons : requestCode (siteOk here) (length out) true spot (isMine here t) ≡ 0
+  abandons : requestCode (siteOk here) (length out) spot (isMine here t) ≡ 0
       → abandonCode (course .stage) (countsLow (here .channels .sent) (course .mask) (here .counters .own)) ≡ 0
       → Follows sites p (siteStep w s (changed here spot (abortStep (turnAt here spot) reason.abandoned) []) (w .base s) (w .lists s) .world) []
   unfolding abortStep sendAll
   abandons e f =
-      let c = request-clear (siteOk here) (length out) true spot (isMine here t) e in
+      let c = request-clear (siteOk here) (length out) spot (isMine here t) e in
       let d = abandon-clear (course .stage) (countsLow (here .channels .sent) (course .mask) (here .counters .own)) f in
       let (l, h) = inside r s (c .valid) in
       let y = r .site s l h in
@@ -67,7 +68,7 @@ module _ {sites : ℕ} {w : World} {p : Protocol} (r : Refines sites w p) (i : I
   pub abandon-moves : Follows sites p (step w (world.abandon s out t) .world) []
   unfolding step abandonOf
   abandon-moves =
-      by-code (λ e. Follows sites p (siteStep w s e (w .base s) (w .lists s) .world) []) (requestCode (siteOk here) (length out) true spot (isMine here t)) here [] _
+      by-code (λ e. Follows sites p (siteStep w s e (w .base s) (w .lists s) .world) []) (requestCode (siteOk here) (length out) spot (isMine here t)) here [] _
       (λ e. by-code (λ e. Follows sites p (siteStep w s e (w .base s) (w .lists s) .world) [])
       (abandonCode (course .stage) (countsLow (here .channels .sent) (course .mask) (here .counters .own))) here []
       (changed here spot (abortStep (turnAt here spot) reason.abandoned) []) (abandons e) (stays r s _ refl refl))
@@ -91,13 +92,14 @@ module _ {sites : ℕ} {w : World} {p : Protocol} (r : Refines sites w p) (i : I
   unfolding isFull
   not-full f = eqb-true _ _ (not-false _ f)
 
-  commits : requestCode (siteOk site) (length out) (eqb (length (w .lists s)) sizes.lists) place (isMine site t) ≡ 0
-      → commitCode (stood .stage) (allHeard (stood .heard) (stood .mask)) (countsLow (site .channels .sent) (stood .mask) (site .counters .own)) ≡ 0
+  commits : requestCode (handedOk site (w .lists s)) (length out) place (isMine site t) ≡ 0
+      → commitCode (stood .stage) (allHeard (site .counters .own) (stood .heard) (stood .mask)) (countsLow (site .channels .sent) (stood .mask) (site .counters .own)) ≡ 0
       → Goal (changed site place (commitChange site place) (commitLists site (w .lists s) place))
   commits e f =
-      let c = request-clear (siteOk site) (length out) (eqb (length (w .lists s)) sizes.lists) place (isMine site t) e in
-      let d = commit-clear (stood .stage) (allHeard (stood .heard) (stood .mask)) (countsLow (site .channels .sent) (stood .mask) (site .counters .own)) f in
-      let (l, h) = inside r s (c .valid) in
+      let c = request-clear (handedOk site (w .lists s)) (length out) place (isMine site t) e in
+      let d = commit-clear (stood .stage) (allHeard (site .counters .own) (stood .heard) (stood .mask)) (countsLow (site .channels .sent) (stood .mask) (site .counters .own)) f in
+      let valid = handed-site site (w .lists s) (c .valid) in
+      let (l, h) = inside r s valid in
       let y = r .site s l h in
       let a = at-place site p s t (y .live) (c .held) in
       let k = course-is a in
@@ -112,25 +114,25 @@ module _ {sites : ℕ} {w : World} {p : Protocol} (r : Refines sites w p) (i : I
       (λ lost.
       let own = concurrent site place in
       let n = entryCount own in
-      let ready : Ready (r .few) i mine y a (c .valid) =
+      let ready : Ready (r .few) i mine y a valid =
       record {
         active = active;
-        heard = sym (ap (λ (z : Course). allHeard (z .heard) (z .mask)) k) ∙ d .replied;
+        heard = heard-here (y .counters .own-is) k (λ z. z .heard) (d .replied);
         joined = sym (ap (λ (z : Course). z .reason) k) ∙ not-full full;
         kept = lost;
       } in
       rw (commit-request site place full lost, lists-made site place (w .lists s) full lost)
-      (by-test (allHeard 0 (stood .mask))
+      (by-test (allHeard (site .counters .own) 0 (stood .mask))
       (λ lone. rw (request-lone site place own n refl lone)
       (acts-follow r s l h (changed site place _ _)
-      (lone-commit-acts (r .few) l i mine y a (c .valid) ready (sym (ap (λ (z : Course). allHeard 0 (z .mask)) k) ∙ lone) .1)))
-      (λ more. rw (request-prepare site place own n refl more) (acts-follow r s l h (changed site place _ _) (prepare-acts (r .few) i mine y a (c .valid) ready))))))
+      (lone-commit-acts (r .few) l i mine y a valid ready (heard-here (y .counters .own-is) k (λ z. 0) lone) .1)))
+      (λ more. rw (request-prepare site place own n refl more) (acts-follow r s l h (changed site place _ _) (prepare-acts (r .few) i mine y a valid ready))))))
 
   pub commit-moves : let x = step w (world.commit s out t) in Follows sites p (x .world) (toldBy (world.commit s out t) (x .answer) (x .words))
   unfolding step siteStep commitOf
   commit-moves =
-      let code = requestCode (siteOk site) (length out) (eqb (length (w .lists s)) sizes.lists) place (isMine site t) in
-      let late = commitCode (stood .stage) (allHeard (stood .heard) (stood .mask)) (countsLow (site .channels .sent) (stood .mask) (site .counters .own)) in
+      let code = requestCode (handedOk site (w .lists s)) (length out) place (isMine site t) in
+      let late = commitCode (stood .stage) (allHeard (site .counters .own) (stood .heard) (stood .mask)) (countsLow (site .channels .sent) (stood .mask) (site .counters .own)) in
       by-code Goal code site (w .lists s) _
       (λ e. by-code Goal late site (w .lists s)
       (changed site place (commitChange site place) (commitLists site (w .lists s) place)) (commits e) (stays r s (refused late site (w .lists s)) refl refl))

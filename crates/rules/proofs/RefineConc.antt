@@ -44,7 +44,7 @@ use Rattle.rules.proofs.RefineActs.{Acts, acts-then, settled-turn, sett
 use Rattle.rules.proofs.RefineCertify.{certifies, join-within}
 use Rattle.rules.proofs.RefineLists.{list-more, lists-put}
 use Rattle.rules.proofs.RefineJoined.{joined-take}
-use Rattle.rules.proofs.RefineCourse.{cast-acts, settled-place}
+use Rattle.rules.proofs.RefineCourse.{heard-here, cast-acts, settled-place}
 use Rattle.rules.proofs.RefineRequest.{listed-few, certified-course}
 use Rattle.rules.proofs.RefineTake.{quiet-acts}
 use Rattle.rules.proofs.RefineQuiet.{reply-stage}
@@ -143,7 +143,7 @@ module _ {sites : ℕ} (p : Protocol) (s a : ℕ) {t : ℕ} {x : Site} {base lis
       rw same (join-within g (list-is .marks))
 
   -- the last list
-  all-acts : allHeard (heard .heard) (heard .mask) ≡ true
+  all-acts : allHeard (x .counters .own) (heard .heard) (heard .mask) ≡ true
       → (let c = castStep turn (voteOf x place join (entryCount join)) join in (q : Protocol) × Acts sites s p q (settle x place (c .turn)) base gatheredLists (c .words) (book.commits t (c .answer)))
   all-acts all =
       let v = voteOf x place join (entryCount join) in
@@ -155,11 +155,11 @@ module _ {sites : ℕ} (p : Protocol) (s a : ℕ) {t : ℕ} {x : Site} {base lis
       let stage1 : AtStage p1 s t stage.prepared = ap (λ (b : Sub). b .course .stage) same ∙ reply-stage (courseAt p s t) a 0 (entryCount es) ∙ prepared in
       let within : Within (p1 .gathered t) join = rw (upd-same (p .gathered) t (p .gathered t ++ es)) join-all in
       let (q, two) = cast-acts few from (invariant-moves few (gather-acts .moves) i) mine (gather-acts .site) there stage1
-      (ap (λ (c : Course). allHeard (c .heard) (c .mask)) new ∙ all) v join (join-whole (drop (sizes.gathered * place) gatheredLists) (heard .listed)) within
+      (heard-here (y .counters .own-is) (sym new) (λ c. c .heard) all) v join (join-whole (drop (sizes.gathered * place) gatheredLists) (heard .listed)) within
       (λ z. certified-course p p1 s t join refl (ap (λ (b : Sub). b .keys) same) (ap (λ (b : Sub). b .snapshot) same) (certifies y (i .parts) A join z)) in
       (q, acts-then gather-acts (rw (settled-turn x place turn long, settled-again x place turn (castStep turn v join .turn)) at two))
 
-  pub conc-acts : (let c = pick (allHeard (heard .heard) (heard .mask)) (castStep turn (voteOf x place join (entryCount join)) join) (quietly turn) in
+  pub conc-acts : (let c = pick (allHeard (x .counters .own) (heard .heard) (heard .mask)) (castStep turn (voteOf x place join (entryCount join)) join) (quietly turn) in
       (q : Protocol) × Acts sites s p q (settle x place (c .turn)) base gatheredLists (c .words) (book.commits t (c .answer)))
   unfolding quietly
-  conc-acts = by-test (allHeard (heard .heard) (heard .mask)) (λ f. rw f (all-acts f)) (λ f. rw f (_, gather-acts))
+  conc-acts = by-test (allHeard (x .counters .own) (heard .heard) (heard .mask)) (λ f. rw f (all-acts f)) (λ f. rw f (_, gather-acts))

@@ -37,8 +37,12 @@ use Rattle.rules.proofs.RefineMail.{none, grows-all}
 use Rattle.rules.proofs.RefineTurn.{AtPlace, part-place, course-is, site-course, site-gone, mark-stage, decision-stage, tx-of}
 use Rattle.rules.proofs.RefineActs.{Acts, acts-then, settled-turn, settled-again, others-elsewhere, members, send-all-site, send-all-made}
 
+-- what a site counts of its part's replies is what the protocol's course has
+pub heard-here : {own s : ℕ} {b c : Course} → own ≡ s → b ≡ c → (f : Course → ℕ) → allHeard own (f b) (b .mask) ≡ true → allHeard s (f c) (c .mask) ≡ true
+heard-here e k f h = rw (e, k) at h
+
 -- Alone, a coordinator has nobody to send to.
-pub lone : {sites : ℕ} {p : Protocol} (s t : ℕ) → Invariant sites p → coordinatorOf t ≡ s → 1 ≤ s → Held p s t → allHeard 0 (courseAt p s t .mask) ≡ true
+pub lone : {sites : ℕ} {p : Protocol} (s t : ℕ) → Invariant sites p → coordinatorOf t ≡ s → 1 ≤ s → Held p s t → allHeard s 0 (courseAt p s t .mask) ≡ true
     → (r : ℕ) → In (courseAt p s t .mask) r → (r ≡ s → ⊥) → ⊥
 lone {p = p} s t i e l h all r k n =
     let held : Held p (coordinatorOf t) t = rw e h in
@@ -111,7 +115,7 @@ module _ {sites s t place : ℕ} {x : Site} {base lists : List ℕ} {p : Protoco
       )
 
   -- The decision: the clock plus 1 is the commit number.
-  commit-acts : AtStage p s t stage.queued → allHeard (courseAt p s t .heard) mask ≡ true → (n : ℕ) → n ≡ p .clock s + 1
+  commit-acts : AtStage p s t stage.queued → allHeard s (courseAt p s t .heard) mask ≡ true → (n : ℕ) → n ≡ p .clock s + 1
       → (q : Protocol) × Acts sites s p q (settle x place (commitStep turn n .turn)) base lists (commitStep turn n .words) (book.commits t (commitStep turn n .answer))
   unfolding commitStep settle turnAt sendAll
   commit-acts g all n z =
@@ -148,7 +152,7 @@ module _ {sites s t place : ℕ} {x : Site} {base lists : List ℕ} {p : Protoco
       )
 
   -- at the last clock an abort
-  pub decide-acts : AtStage p s t stage.queued → allHeard (courseAt p s t .heard) mask ≡ true
+  pub decide-acts : AtStage p s t stage.queued → allHeard s (courseAt p s t .heard) mask ≡ true
       → (q : Protocol) × Acts sites s p q (settle x place (decideStep turn .turn)) base lists (decideStep turn .words) (book.commits t (decideStep turn .answer))
   unfolding decideStep turnAt
   decide-acts g all =
@@ -171,7 +175,7 @@ module _ {sites s t place : ℕ} {x : Site} {base lists : List ℕ} {p : Protoco
   marks : withMark (subAt x place .course) (x .counters .clock) ≡ withMark (courseAt p s t) (p .clock s)
   marks = rw (course-is a, y .counters .clock-is)
 
-  cert-acts : AtStage p s t stage.prepared → allHeard (courseAt p s t .heard) mask ≡ true → (es : List ℕ) → Whole es → Within (p .gathered t) es → Certified p s t es
+  cert-acts : AtStage p s t stage.prepared → allHeard s (courseAt p s t .heard) mask ≡ true → (es : List ℕ) → Whole es → Within (p .gathered t) es → Certified p s t es
       → (q : Protocol) × Acts sites s p q (settle x place (sendAll marked Done kind.cert 0 0 es .turn)) base lists (sendAll marked Done kind.cert 0 0 es .words) (book.commits t (sendAll marked Done kind.cert 0 0 es .answer))
   unfolding settle turnAt sendAll
   cert-acts g all es whole w v =
@@ -202,7 +206,7 @@ module _ {sites s t place : ℕ} {x : Site} {base lists : List ℕ} {p : Protoco
       )
 
   -- Alone, all votes are there.
-  lone-acts : AtStage p s t stage.prepared → allHeard (courseAt p s t .heard) mask ≡ true → (es : List ℕ) → Within (p .gathered t) es → Certified p s t es
+  lone-acts : AtStage p s t stage.prepared → allHeard s (courseAt p s t .heard) mask ≡ true → (es : List ℕ) → Within (p .gathered t) es → Certified p s t es
       → ((r : ℕ) → In mask r → (r ≡ s → ⊥) → ⊥) → Acts sites s p (castAt p s t es) (settle x place marked) base lists [] []
   unfolding settle turnAt
   lone-acts g all es w v alone =
@@ -245,15 +249,15 @@ settled-place {s = s} {t = t} {q = q} x place u h l y e f =
     let b : subAt (settle x place u) place ≡ u .sub = ap (λ (z : Turn). z .sub) (settled-turn x place u h) in
     rw (ap (λ (z : Sub). z .tx) b ∙ e) at (part-place (settle x place u) q s place (y .live) l (λ z. f (sym (ap (λ (c : Sub). c .course .stage) b) ∙ z)))
 
-mark-all : (c : Course) (n : ℕ) → allHeard 0 (c .mask) ≡ true → allHeard (withMark c n .heard) (withMark c n .mask) ≡ true
+mark-all : (s : ℕ) (c : Course) (n : ℕ) → allHeard s 0 (c .mask) ≡ true → allHeard s (withMark c n .heard) (withMark c n .mask) ≡ true
 unfolding withMark
-mark-all c n h = h
+mark-all s c n h = h
 
 -- The vote on the joined lists: with a yes CERT, or the decision where the coordinator is alone; with a no an abort.
 module _ {sites s t place : ℕ} {x : Site} {base lists : List ℕ} {p : Protocol} (few : sites ≤ sizes.sites) (low : 1 ≤ s) (i : Invariant sites p)
     (e : coordinatorOf t ≡ s) (y : SiteIs sites s x base lists (sliceOf p s)) (a : AtPlace x p s t place) where
-  lone-decides : AtStage p s t stage.prepared → allHeard (courseAt p s t .heard) (courseAt p s t .mask) ≡ true → (es : List ℕ) → Within (p .gathered t) es → Certified p s t es
-      → allHeard 0 (courseAt p s t .mask) ≡ true
+  lone-decides : AtStage p s t stage.prepared → allHeard s (courseAt p s t .heard) (courseAt p s t .mask) ≡ true → (es : List ℕ) → Within (p .gathered t) es → Certified p s t es
+      → allHeard s 0 (courseAt p s t .mask) ≡ true
       → (q : Protocol) × Acts sites s p q (settle x place (decideStep (marked few i e y a) .turn)) base lists (decideStep (marked few i e y a) .words)
       (book.commits t (decideStep (marked few i e y a) .answer))
   lone-decides g all es w c h =
@@ -267,17 +271,17 @@ module _ {sites s t place : ℕ} {x : Site} {base lists : List ℕ} {p : Protoco
       let stage1 = mark-stage (courseAt p s t) (p .clock s) in
       let there = settled-place x place u long (a .spot .low) (one .site) (marked-tx few i e y a) (marked-held few i e y a) in
       let (q, two) = decide-acts few (invariant-moves few (one .moves) i) e (one .site) there (ap (λ (c : Course). c .stage) new ∙ stage1)
-      (ap (λ (c : Course). allHeard (c .heard) (c .mask)) new ∙ mark-all (courseAt p s t) (p .clock s) h) in
+      (ap (λ (c : Course). allHeard s (c .heard) (c .mask)) new ∙ mark-all s (courseAt p s t) (p .clock s) h) in
       (q, acts-then one (rw (settled-turn x place u long, settled-again x place u (decideStep u .turn)) at two))
 
-  pub cast-acts : AtStage p s t stage.prepared → allHeard (courseAt p s t .heard) (courseAt p s t .mask) ≡ true → (v : ℕ) (es : List ℕ) → Whole es → Within (p .gathered t) es
+  pub cast-acts : AtStage p s t stage.prepared → allHeard s (courseAt p s t .heard) (courseAt p s t .mask) ≡ true → (v : ℕ) (es : List ℕ) → Whole es → Within (p .gathered t) es
       → (v ≡ 0 → Certified p s t es)
       → (q : Protocol) × Acts sites s p q (settle x place (castStep (turnAt x place) v es .turn)) base lists (castStep (turnAt x place) v es .words)
       (book.commits t (castStep (turnAt x place) v es .answer))
   unfolding castStep turnAt
   cast-acts g all v es whole w c =
       by-test (eqb v 0)
-      (λ f. by-test (allHeard 0 (subAt x place .course .mask))
-      (λ h. rw (f, h) (lone-decides g all es w (c (eqb-true v 0 f)) (sym (ap (λ (c : Course). allHeard 0 (c .mask)) (course-is a)) ∙ h)))
+      (λ f. by-test (allHeard (x .counters .own) 0 (subAt x place .course .mask))
+      (λ h. rw (f, h) (lone-decides g all es w (c (eqb-true v 0 f)) (heard-here (y .counters .own-is) (course-is a) (λ c. 0) h)))
       (λ h. rw (f, h) (cert-acts few i e y a g all es whole w (c (eqb-true v 0 f)))))
       (λ f. rw f (abort-acts few i e y a v (λ o. omega arith)))

@@ -29,7 +29,7 @@ use Rattle.rules.proofs.Reached.{invariant-moves}
 use Rattle.rules.proofs.Refines.{IsFree, sliceOf, SiteIs}
 use Rattle.rules.proofs.RefineTurn.{AtPlace, course-is, tx-of}
 use Rattle.rules.proofs.RefineActs.{Acts, acts-then, settled-turn, settled-again}
-use Rattle.rules.proofs.RefineCourse.{abort-acts, decide-acts, settled-place}
+use Rattle.rules.proofs.RefineCourse.{heard-here, abort-acts, decide-acts, settled-place}
 use Rattle.rules.proofs.RefineQuiet.{reply-stage, votes-acts, raised-acts}
 
 -- What a vote in its turn says.
@@ -86,7 +86,7 @@ module _ {sites : ℕ} (p : Protocol) (s a : ℕ) {t : ℕ} {x : Site} {base lis
   heard-tx n = tx-of A
 
   last-acts : (n : ℕ) → Next p a s (mVote t n 0) → AtStage p s t stage.queued → isOutstanding (courseAt p s t) a ≡ true
-      → (let c = withReply (courseAt p s t) a 0 0 in allHeard (c .heard) (c .mask) ≡ true)
+      → (let c = withReply (courseAt p s t) a 0 0 in allHeard s (c .heard) (c .mask) ≡ true)
       → (q : Protocol) × Acts sites s p q (settle x place (decideStep (heardTurn n) .turn)) base lists (decideStep (heardTurn n) .words)
       (book.commits t (decideStep (heardTurn n) .answer))
   last-acts n next queued out all =
@@ -98,7 +98,7 @@ module _ {sites : ℕ} (p : Protocol) (s a : ℕ) {t : ℕ} {x : Site} {base lis
       let queued1 : AtStage p1 s t stage.queued = ap (λ (c : Course). c .stage) new ∙ reply-stage (courseAt p s t) a 0 0 ∙ queued in
       let held : (IsFree (u .sub) → ⊥) = λ z. omega (arith, reply-stage (subAt x place .course) a 0 0, ap (λ (c : Course). c .stage) (course-is A)) in
       let there = settled-place x place u long (A .spot .low) (one .site) (heard-tx n) held in
-      let (q, two) = decide-acts few (invariant-moves few (one .moves) i) (said i next .0) (one .site) there queued1 (ap (λ (c : Course). allHeard (c .heard) (c .mask)) new ∙ all) in
+      let (q, two) = decide-acts few (invariant-moves few (one .moves) i) (said i next .0) (one .site) there queued1 (ap (λ (c : Course). allHeard s (c .heard) (c .mask)) new ∙ all) in
       (q, acts-then one (rw (settled-turn x place u long, settled-again x place u (decideStep u .turn)) at two))
 
   pub vote-acts : (n v : ℕ) → Next p a s (mVote t n v) → voteInTurn (subAt x place .course) a v ≡ true
@@ -115,8 +115,8 @@ module _ {sites : ℕ} (p : Protocol) (s a : ℕ) {t : ℕ} {x : Site} {base lis
       let z : v ≡ 0 = eqb-true v 0 e in
       let next′ : Next p a s (mVote t n 0) = rw z at next in
       let queued : AtStage p s t stage.queued = sym (ap (λ (c : Course). c .stage) k) ∙ ⊎-elim (λ (q : b .stage ≡ stage.queued). q) (λ (q : (b .stage ≡ stage.prepared) × (v ≡ 0 → ⊥)). absurd (q .1 z)) g in
-      by-test (allHeard (withReply b a 0 0 .heard) (withReply b a 0 0 .mask))
-      (λ f. rw (e, f) (last-acts n next′ queued out (sym (ap (λ (c : Course). allHeard (withReply c a 0 0 .heard) (withReply c a 0 0 .mask)) k) ∙ f)))
+      by-test (allHeard (x .counters .own) (withReply b a 0 0 .heard) (withReply b a 0 0 .mask))
+      (λ f. rw (e, f) (last-acts n next′ queued out (heard-here (y .counters .own-is) (ap (λ (c : Course). withReply c a 0 0) k) (λ c. c .heard) f)))
       (λ f. rw (e, f) (_, votes-acts p s a few low high y place A n next′ queued out)))
       (λ e.
       let st : (b .stage ≡ stage.queued) ⊎ (b .stage ≡ stage.prepared) = ⊎-elim (λ (q : b .stage ≡ stage.queued). inl q) (λ (q : (b .stage ≡ stage.prepared) × (v ≡ 0 → ⊥)). inr (q .0)) g in

@@ -19,7 +19,8 @@ use Rattle.rules.specs.RecordLaws.{shape-written, record-no-message}
 use Rattle.rules.specs.Keys.{sortedCount}
 use Rattle.rules.specs.KeysLaws.{words-length}
 use Rattle.rules.specs.Live.{placeOf}
-use Rattle.rules.specs.Valid.{siteOk}
+use Rattle.rules.specs.Valid.{handedOk}
+use Rattle.rules.specs.ValidLaws.{handed-site}
 use Rattle.rules.specs.Effect.{Effect, refused}
 use Rattle.rules.specs.Course.{headOf}
 use Rattle.rules.specs.Install.{stateWords}
@@ -119,22 +120,22 @@ module _ {sites : ℕ} {w : World} {p : Protocol} (r : Refines sites w p) (i : I
   posted (inr (inl (j, h))) e = let l : All IsRecord (w .log j) = rw (r .log j) (log-all j (p .log j)) in let (a, b) = all-is l h in absurd (set-not _ e (record-no-message (site .house) m a b))
   posted (inr (inr h)) e = let (a, b) = all-is (r .stream) h in absurd (set-not _ e (record-no-message (site .house) m a b))
 
-  delivers : Handed w (world.message s out m) → arrivalCode (siteOk site) (length out) (eqb (length lists) sizes.lists) (messageOk (site .house) m) ≡ 0
+  delivers : Handed w (world.message s out m) → arrivalCode (handedOk site lists) (length out) (messageOk (site .house) m) ≡ 0
       → nextCode (head .to) (site .counters .own) (head .channel) (getD (site .channels .taken) (head .from - 1) 0) ≡ 0
       → Goal (takeKind (head .kind) site head (messageEntries m) lists (placeOf (site .live) (head .tx)))
   unfolding headOf
   delivers handed e f =
-      let c = arrival-clear (siteOk site) (length out) (eqb (length lists) sizes.lists) (messageOk (site .house) m) e in
+      let c = arrival-clear (handedOk site lists) (length out) (messageOk (site .house) m) e in
       let d = next-clear (head .to) (site .counters .own) (head .channel) (getD (site .channels .taken) (head .from - 1) 0) f in
-      let (l, h) = inside r s (c .valid) in
+      let (l, h) = inside r s (handed-site site lists (c .valid)) in
       let a = arrives i s (r .site s l h) m (posted handed (c .formed)) (d .here) (d .in-order) in
       let good = rw (a .head, a .entries) at (passed-good (site .house) m (c .formed)) in
-      rw (a .head, a .entries) (takes r i s (a .from) (a .number) l h (a .low) (a .high) (c .valid) (a .message) (a .next) good)
+      rw (a .head, a .entries) (takes r i s (a .from) (a .number) l h (a .low) (a .high) (handed-site site lists (c .valid)) (a .message) (a .next) good)
 
   pub message-moves : Handed w (world.message s out m) → (let x = step w (world.message s out m) in Follows sites p (x .world) (toldBy (world.message s out m) (x .answer) (x .words)))
   unfolding step siteStep messageOf messageAt
   message-moves handed =
-      let code = arrivalCode (siteOk site) (length out) (eqb (length lists) sizes.lists) (messageOk (site .house) m) in
+      let code = arrivalCode (handedOk site lists) (length out) (messageOk (site .house) m) in
       let late = nextCode (head .to) (site .counters .own) (head .channel) (getD (site .channels .taken) (head .from - 1) 0) in
       by-code Goal code site lists (messageAt site lists m)
       (λ e. by-code Goal late site lists (takeKind (head .kind) site head (messageEntries m) lists (placeOf (site .live) (head .tx))) (delivers handed e)

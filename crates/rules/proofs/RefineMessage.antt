@@ -22,7 +22,7 @@ use Rattle.kinds.specs.declared.Answer.{Answer}
 use Rattle.kinds.specs.declared.Answer.the-variants.{Refused, Done, Begun, Found, Committed, Aborted, Installed, Reported, Emitted, Standing}
 use Rattle.kinds.specs.State.{noSub, subAt}
 use Rattle.rules.specs.House.{isTx, isMask}
-use Rattle.rules.specs.Message.{messageWords, entryTx, entryMask, entryMark, entryBefore, entryCount, entryOk, GoodMessage, mostEntries}
+use Rattle.rules.specs.Message.{messageWords, entryTx, entryMask, entryMark, entryBefore, entryCount, entryOk, entryPossible, GoodMessage, mostEntries}
 use Rattle.rules.specs.MessageLaws.{head-clear}
 use Rattle.rules.specs.EntryLaws.{Marks}
 use Rattle.rules.specs.KeysLaws.{by-order}
@@ -78,12 +78,13 @@ no-join s k t words (Standing v n c) e = refl
 
 -- marks of good entries
 good-marks : (o : House) (h : MessageHead) (es : List ℕ) → GoodMessage o h es → Marks es
-unfolding entryOk
+unfolding entryOk entryPossible
 good-marks o h es g k =
     by-order k (h .count)
     (λ l. leb-true (entryMark es k) 1
-    (every-at (ltb (entryBefore es k) (entryTx es k) ∷ isTx o (entryTx es k) ∷ isMask o (entryMask es k) ∷ leb (entryMark es k) 1 ∷ []) 3
-    (all-below-at (entryOk o es) (h .count) k (g .entries) l)))
+    (every-at (isTx o (entryTx es k) ∷ isMask o (entryMask es k) ∷ leb (entryMark es k) 1 ∷ []) 2
+    (every-at (ltb (entryBefore es k) (entryTx es k) ∷ entryPossible o es k ∷ []) 1
+    (all-below-at (entryOk o es) (h .count) k (g .entries) l))))
     (λ l. let z = List·getD-eq-default es 0 {n = sizes.entry * k + 2} (omega (arith, g .size)) in omega arith)
 
 both : (a b : Bool) → every (a ∷ b ∷ []) ≡ true → (a ≡ true) × (b ≡ true)
@@ -173,7 +174,7 @@ module _ {sites : ℕ} {w : World} {p : Protocol} (r : Refines sites w p) (i : I
       let place = placeOf (x .live) t in
       let b = subAt x place .course in
       let c = withReply b a 0 (entryCount es) in
-      let spent = every (allHeard (c .heard) (c .mask) ∷ spentToAll x (b .mask) ∷ []) in
+      let spent = every (allHeard (x .counters .own) (c .heard) (c .mask) ∷ spentToAll x (b .mask) ∷ []) in
       let few = head-clear (x .house) (headIn a s n (mConc t es)) (good .head) .few in
       by-code (Goal t) (replyCode (concInTurn b a) spent) x lists _
       (λ z. let d = both (eqb (b .stage) stage.prepared) (isOutstanding b a) (reply-clear (concInTurn b a) spent z .turn) in
@@ -211,8 +212,8 @@ module _ {sites : ℕ} {w : World} {p : Protocol} (r : Refines sites w p) (i : I
       let c = subAt x place .course in
       by-held x p s (y .live) t
       (λ A e. rw e
-      (taken-step t (replyCode (voteInTurn c a v) (every (voteDecides c a v ∷ spentToAll x (c .mask) ∷ []))) place (voteStep (raise (arrived x place a) k) a v)
-      (λ z. vote-acts p s a (r .few) low high i y place A k v next (reply-clear (voteInTurn c a v) (every (voteDecides c a v ∷ spentToAll x (c .mask) ∷ [])) z .turn))))
+      (taken-step t (replyCode (voteInTurn c a v) (every (voteDecides (x .counters .own) c a v ∷ spentToAll x (c .mask) ∷ []))) place (voteStep (raise (arrived x place a) k) a v)
+      (λ z. vote-acts p s a (r .few) low high i y place A k v next (reply-clear (voteInTurn c a v) (every (voteDecides (x .counters .own) c a v ∷ spentToAll x (c .mask) ∷ [])) z .turn))))
       (λ f e. rw e (passes-by (mVote t k v) next))
   handles (mCommit t k) o next good =
       let place = placeOf (x .live) t in

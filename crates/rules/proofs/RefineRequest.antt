@@ -130,7 +130,7 @@ module _ {sites s t place : ℕ} {x : Site} {base lists : List ℕ} {p : Protoco
   -- the part has every reply to its JOINs, and none of 12
   pub record Ready : Type 0 where
     pub active : AtStage p s t stage.active
-    pub heard : allHeard (courseAt p s t .heard) (courseAt p s t .mask) ≡ true
+    pub heard : allHeard s (courseAt p s t .heard) (courseAt p s t .mask) ≡ true
     pub joined : courseAt p s t .reason ≡ 0
     pub kept : isForgotten (x .counters .installs) (subAt x place .snapshot) ≡ false
 
@@ -202,14 +202,14 @@ pub certified-course : (p q : Protocol) (s t : ℕ) (es : List ℕ) → inst q s
 certified-course p q s t es l k n c j m h names b seen tx =
     rw (l, k) (c j m h names (rw l at b) (rw (ap (λ (z : Snapshot). z .installs) n) at seen) (rw l at tx))
 
-request-all : (c : Course) (n : ℕ) → allHeard 0 (c .mask) ≡ true → allHeard (withRequest c n .heard) (withRequest c n .mask) ≡ true
+request-all : (s : ℕ) (c : Course) (n : ℕ) → allHeard s 0 (c .mask) ≡ true → allHeard s (withRequest c n .heard) (withRequest c n .mask) ≡ true
 unfolding withRequest
-request-all c n h = h
+request-all s c n h = h
 
 -- Alone it votes on its list at once.
 module _ {sites s t place : ℕ} {x : Site} {base lists : List ℕ} {p : Protocol} (few : sites ≤ sizes.sites) (low : 1 ≤ s) (i : Invariant sites p) (e : coordinatorOf t ≡ s)
     (y : SiteIs sites s x base lists (sliceOf p s)) (a : AtPlace x p s t place) (valid : siteOk x ≡ true) where
-  pub lone-commit-acts : Ready few i e y a valid → allHeard 0 (courseAt p s t .mask) ≡ true
+  pub lone-commit-acts : Ready few i e y a valid → allHeard s 0 (courseAt p s t .mask) ≡ true
       → (let own = concurrent x place in let es = joined own (entryCount own) in let c = castStep (turn few i e y a valid) (voteOf x place es (entryCount es)) es in
       (q : Protocol) × Acts sites s p q (settle x place (c .turn)) base (putAt (sizes.gathered * place) lists own) (c .words) (book.commits t (c .answer)))
   lone-commit-acts c h =
@@ -226,6 +226,6 @@ module _ {sites s t place : ℕ} {x : Site} {base lists : List ℕ} {p : Protoco
       let there = settled-place x place u long (a .spot .low) (one .site) (turn-tx few i e y a valid) (turn-held few i e y a valid) in
       let within : Within (p1 .gathered t) es = rw (upd-same (p .gathered) t own) (join-within own (concurrent-low x place)) in
       let (q, two) = cast-acts few low (invariant-moves few (one .moves) i) e (one .site) there (ap (λ (c : Course). c .stage) new ∙ request-stage (courseAt p s t) (entryCount own))
-      (ap (λ (c : Course). allHeard (c .heard) (c .mask)) new ∙ request-all (courseAt p s t) (entryCount own) h) v es (join-whole own (entryCount own)) within
+      (ap (λ (c : Course). allHeard s (c .heard) (c .mask)) new ∙ request-all s (courseAt p s t) (entryCount own) h) v es (join-whole own (entryCount own)) within
       (λ z. certified-course p p1 s t es refl (ap (λ (b : Sub). b .keys) same) (ap (λ (b : Sub). b .snapshot) same) (certifies y (i .parts) a es z)) in
       (q, acts-then one (rw (settled-turn x place u long, settled-again x place u (castStep u v es .turn)) at two))

@@ -102,7 +102,7 @@ pub cast-speaks : (t : Turn) (v : ℕ) (es : List ℕ) → Whole es → Speaks (
 unfolding castStep
 cast-speaks t v es w =
     by-test (eqb v 0)
-    (λ e. by-test (allHeard 0 (t .sub .course .mask))
+    (λ e. by-test (allHeard (t .counters .own) 0 (t .sub .course .mask))
     (λ f. rw (e, f) (decide-speaks _))
     (λ f. rw (e, f) (all-speaks _ Done kind.cert 0 0 es refl w (λ e. omega arith))))
     (λ e. rw e (abort-speaks t v))
@@ -112,7 +112,7 @@ unfolding voteStep
 vote-speaks t site v =
     let c = withReply (t .sub .course) site 0 0 in
     by-test (eqb v 0)
-    (λ e. by-test (allHeard (c .heard) (c .mask)) (λ f. rw (e, f) (decide-speaks _)) (λ f. rw (e, f) (quietly-speaks _)))
+    (λ e. by-test (allHeard (t .counters .own) (c .heard) (c .mask)) (λ f. rw (e, f) (decide-speaks _)) (λ f. rw (e, f) (quietly-speaks _)))
     (λ e. rw e (abort-speaks t v))
 
 pub prepared-speaks : (t : Turn) (to mask : ℕ) (lost : Bool) (es : List ℕ) → Whole es → Speaks (preparedStep t to mask lost es)

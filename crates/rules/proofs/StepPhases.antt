@@ -76,7 +76,7 @@ module _ {sites : ℕ} {p : Protocol} (i : Invariant sites p) (f : Phases p) whe
     heard-in : (r : ℕ) → In (courseAt p s t .heard) r → In (courseAt p s t .mask) r
     heard-in r h = (h .0, rw c at (i .rounds .heard t r (rw c held) (rw c h) .0))
 
-    all-in : allHeard (courseAt p s t .heard) (courseAt p s t .mask) ≡ true → (r : ℕ) → In (courseAt p s t .mask) r → (r ≡ s → ⊥) → In (courseAt p s t .heard) r
+    all-in : allHeard s (courseAt p s t .heard) (courseAt p s t .mask) ≡ true → (r : ℕ) → In (courseAt p s t .mask) r → (r ≡ s → ⊥) → In (courseAt p s t .heard) r
     all-in e r h n =
         let k = i .rounds .small t (rw c held) in
         let low = i .parts .site s t (i .parts .has s t held) .0 in (

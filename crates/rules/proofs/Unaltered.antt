@@ -13,7 +13,7 @@ use Rattle.kinds.specs.declared.Site.{Site}
 use Rattle.kinds.specs.declared.Merger.{Merger}
 use Rattle.kinds.specs.declared.MessageHead.{MessageHead}
 use Rattle.kinds.specs.declared.Answer.the-variants.{Refused}
-use Rattle.rules.specs.Valid.{siteOk}
+use Rattle.rules.specs.Valid.{siteOk, handedOk}
 use Rattle.rules.specs.Effect.{Change, Effect, changed}
 use Rattle.rules.specs.Record.{recordHead}
 use Rattle.rules.specs.Message.{messageHead, messageEntries, messageOk}
@@ -65,7 +65,7 @@ module _ (s : Site) (lists : List ℕ) where
       let c = withReply b (h .from) 0 (h .count) in
       let made = gatherLists s place es lists in
       let e = changed s place (gatherChange s h place made) made in
-      refusal-leaves (replyCode (concInTurn b (h .from)) (every (allHeard (c .heard) (c .mask) ∷ spentToAll s (b .mask) ∷ []))) s lists e
+      refusal-leaves (replyCode (concInTurn b (h .from)) (every (allHeard (s .counters .own) (c .heard) (c .mask) ∷ spentToAll s (b .mask) ∷ []))) s lists e
       (accepted-leaves s lists e (gather-speaks s h place made .accepts))
 
   held-leaves : (k : ℕ) (h : MessageHead) (es : List ℕ) (place : ℕ) → Leaves s lists (takeHeld k s h es lists place)
@@ -90,7 +90,7 @@ module _ (s : Site) (lists : List ℕ) where
   message-leaves room m =
       let h = messageHead m in
       let place = placeOf (s .live) (h .tx) in
-      refusal-leaves (arrivalCode (siteOk s) room (eqb (length lists) sizes.lists) (messageOk (s .house) m)) s lists _
+      refusal-leaves (arrivalCode (handedOk s lists) room (messageOk (s .house) m)) s lists _
       (refusal-leaves (nextCode (h .to) (s .counters .own) (h .channel) (getD (s .channels .taken) (h .from - 1) 0)) s lists _
       (by-test (eqb (h .kind) kind.join)
       (λ a. rw a (join-leaves h place))

@@ -111,23 +111,21 @@ joiner-clear st own there spent e =
       low = (clear-at l 3 refl e);
     }
 
-pub record RequestClear (ok : Bool) (room : ℕ) (given : Bool) (place : ℕ) (mine : Bool) : Type 0 where
+pub record RequestClear (ok : Bool) (room place : ℕ) (mine : Bool) : Type 0 where
   pub long : sizes.outgoing ≤ room
-  pub lists : given ≡ true
   pub valid : ok ≡ true
   pub held : place < sizes.live
   pub coordinator : mine ≡ true
 
-pub request-clear : (ok : Bool) (room : ℕ) (given : Bool) (place : ℕ) (mine : Bool) → requestCode ok room given place mine ≡ 0 → RequestClear ok room given place mine
+pub request-clear : (ok : Bool) (room place : ℕ) (mine : Bool) → requestCode ok room place mine ≡ 0 → RequestClear ok room place mine
 unfolding requestCode
-request-clear ok room given place mine e =
-    let l = requestCauses ok room given place mine in
+request-clear ok room place mine e =
+    let l = requestCauses ok room place mine in
     record {
       long = ltb-false room sizes.outgoing (clear-at l 0 refl e);
-      lists = not-false given (clear-at l 1 refl e);
-      valid = not-false ok (clear-at l 2 refl e);
-      held = leb-false sizes.live place (clear-at l 3 refl e);
-      coordinator = not-false mine (clear-at l 4 refl e);
+      valid = not-false ok (clear-at l 1 refl e);
+      held = leb-false sizes.live place (clear-at l 2 refl e);
+      coordinator = not-false mine (clear-at l 3 refl e);
     }
 
 pub record CommitClear (st : ℕ) (heard : Bool) (low : Bool) : Type 0 where
@@ -158,21 +156,19 @@ abandon-clear st low e =
       unspent = not-false low (clear-at l 1 refl e);
     }
 
-pub record ArrivalClear (ok : Bool) (room : ℕ) (given : Bool) (fine : Bool) : Type 0 where
+pub record ArrivalClear (ok : Bool) (room : ℕ) (fine : Bool) : Type 0 where
   pub long : sizes.outgoing ≤ room
-  pub lists : given ≡ true
   pub valid : ok ≡ true
   pub formed : fine ≡ true
 
-pub arrival-clear : (ok : Bool) (room : ℕ) (given : Bool) (fine : Bool) → arrivalCode ok room given fine ≡ 0 → ArrivalClear ok room given fine
+pub arrival-clear : (ok : Bool) (room : ℕ) (fine : Bool) → arrivalCode ok room fine ≡ 0 → ArrivalClear ok room fine
 unfolding arrivalCode
-arrival-clear ok room given fine e =
-    let l = arrivalCauses ok room given fine in
+arrival-clear ok room fine e =
+    let l = arrivalCauses ok room fine in
     record {
       long = ltb-false room sizes.outgoing (clear-at l 0 refl e);
-      lists = not-false given (clear-at l 1 refl e);
-      valid = not-false ok (clear-at l 2 refl e);
-      formed = not-false fine (clear-at l 3 refl e);
+      valid = not-false ok (clear-at l 1 refl e);
+      formed = not-false fine (clear-at l 2 refl e);
     }
 
 pub record NextClear (to : ℕ) (own : ℕ) (channel : ℕ) (taken : ℕ) : Type 0 where

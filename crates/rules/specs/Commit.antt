@@ -1,8 +1,7 @@
 -- 01, course 4 to 9, at the coordinator: the commit request and abandon.
 use Prim.Native.Nat.{ℕ, _*_}
 use mathlib.Core.List.{List, [], _∷_}
-use mathlib.Core.Bool.{Bool, true, not}
-use lib.ListN.{length}
+use mathlib.Core.Bool.{Bool, not}
 use lib.Dec.{ltb, leb, eqb}
 use Rattle.laws.specs.Choice.{pick}
 use Rattle.laws.specs.Cause.{Cause, cause, codeOf}
@@ -19,22 +18,21 @@ use Rattle.rules.specs.Live.{placeOf, allHeard}
 use Rattle.rules.specs.History.{isForgotten}
 use Rattle.rules.specs.Join.{joined}
 use Rattle.rules.specs.Certify.{concurrent, voteOf}
-use Rattle.rules.specs.Valid.{siteOk}
+use Rattle.rules.specs.Valid.{siteOk, handedOk}
 use Rattle.rules.specs.Effect.{Change, Effect, turnAt, changed, unless}
 use Rattle.rules.specs.Course.{withCourseOf, withRequest, abortStep, castStep, prepareStep}
 
--- Commit request and abandon: buffer, lent lists (a commit's), state, part, and that it is the coordinator's.
-abbrev pub requestCauses : Bool → ℕ → Bool → ℕ → Bool → List Cause
-requestCauses ok room given place mine =
+-- Commit request and abandon: buffer, state (a commit's with its lent lists), part, and that it is the coordinator's.
+abbrev pub requestCauses : Bool → ℕ → ℕ → Bool → List Cause
+requestCauses ok room place mine =
     cause (ltb room sizes.outgoing) reason.short
-    ∷ cause (not given) reason.malformed
     ∷ cause (not ok) reason.malformed
     ∷ cause (leb sizes.live place) reason.unknown
     ∷ cause (not mine) reason.notCoordinator
     ∷ []
 
-unfoldable pub requestCode : Bool → ℕ → Bool → ℕ → Bool → ℕ
-requestCode ok room given place mine = codeOf (requestCauses ok room given place mine)
+unfoldable pub requestCode : Bool → ℕ → ℕ → Bool → ℕ
+requestCode ok room place mine = codeOf (requestCauses ok room place mine)
 
 -- Commit: whatever follows, each other participant is sent one message.
 abbrev pub commitCauses : ℕ → Bool → Bool → List Cause
@@ -52,7 +50,7 @@ unfoldable pub requestChange : Site → ℕ → List ℕ → Change
 requestChange s place own =
     let t = withCourseOf (turnAt s place) (withRequest (subAt s place .course) (entryCount own)) in
     let es = joined own (entryCount own) in
-    pick (allHeard 0 (subAt s place .course .mask)) (castStep t (voteOf s place es (entryCount es)) es) (prepareStep t)
+    pick (allHeard (s .counters .own) 0 (subAt s place .course .mask)) (castStep t (voteOf s place es (entryCount es)) es) (prepareStep t)
 
 -- where it makes no list: with a JOINED of 12, or where an install after the snapshot is forgotten
 unfoldable pub isFull : Site → ℕ → Bool
@@ -74,8 +72,8 @@ unfoldable pub commitOf : Site → ℕ → List ℕ → ℕ → Effect
 commitOf s room lists tx =
     let place = placeOf (s .live) tx in
     let c = subAt s place .course in
-    unless (requestCode (siteOk s) room (eqb (length lists) sizes.lists) place (isMine s tx)) s lists
-    (unless (commitCode (c .stage) (allHeard (c .heard) (c .mask)) (countsLow (s .channels .sent) (c .mask) (s .counters .own))) s lists
+    unless (requestCode (handedOk s lists) room place (isMine s tx)) s lists
+    (unless (commitCode (c .stage) (allHeard (s .counters .own) (c .heard) (c .mask)) (countsLow (s .channels .sent) (c .mask) (s .counters .own))) s lists
     (changed s place (commitChange s place) (commitLists s lists place)))
 
 -- Abandon, before the decision.
@@ -89,6 +87,6 @@ unfoldable pub abandonOf : Site → ℕ → ℕ → Effect
 abandonOf s room tx =
     let place = placeOf (s .live) tx in
     let c = subAt s place .course in
-    unless (requestCode (siteOk s) room true place (isMine s tx)) s []
+    unless (requestCode (siteOk s) room place (isMine s tx)) s []
     (unless (abandonCode (c .stage) (countsLow (s .channels .sent) (c .mask) (s .counters .own))) s []
     (changed s place (abortStep (turnAt s place) reason.abandoned) []))

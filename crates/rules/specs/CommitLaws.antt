@@ -17,13 +17,13 @@ use Rattle.rules.specs.Course.{withCourseOf, withRequest, abortStep, cas
 use Rattle.rules.specs.Commit.{requestChange, isFull, isLost, commitChange, commitLists}
 
 module _ (s : Site) (place : ℕ) where
-  pub request-lone : (own : List ℕ) (n : ℕ) → entryCount own ≡ n → allHeard 0 (subAt s place .course .mask) ≡ true
+  pub request-lone : (own : List ℕ) (n : ℕ) → entryCount own ≡ n → allHeard (s .counters .own) 0 (subAt s place .course .mask) ≡ true
       → requestChange s place own
       ≡ castStep (withCourseOf (turnAt s place) (withRequest (subAt s place .course) n)) (voteOf s place (joined own n) (entryCount (joined own n))) (joined own n)
   unfolding requestChange
   request-lone own n k h = rw (k, h)
 
-  pub request-prepare : (own : List ℕ) (n : ℕ) → entryCount own ≡ n → allHeard 0 (subAt s place .course .mask) ≡ false
+  pub request-prepare : (own : List ℕ) (n : ℕ) → entryCount own ≡ n → allHeard (s .counters .own) 0 (subAt s place .course .mask) ≡ false
       → requestChange s place own ≡ prepareStep (withCourseOf (turnAt s place) (withRequest (subAt s place .course) n))
   unfolding requestChange
   request-prepare own n k h = rw (k, h)

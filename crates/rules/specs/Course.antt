@@ -139,7 +139,7 @@ withMark c clock = record { stage = stage.queued; mask = c .mask; number = clock
 unfoldable pub castStep : Turn → ℕ → List ℕ → Change
 castStep t v es =
     let q = withCourseOf t (withMark (t .sub .course) (t .counters .clock)) in
-    pick (eqb v 0) (pick (allHeard 0 (t .sub .course .mask)) (decideStep q) (sendAll q Done kind.cert 0 0 es)) (abortStep t v)
+    pick (eqb v 0) (pick (allHeard (t .counters .own) 0 (t .sub .course .mask)) (decideStep q) (sendAll q Done kind.cert 0 0 es)) (abortStep t v)
 
 -- the commit request, once its list of n entries is made
 unfoldable pub withRequest : Course → ℕ → Course
@@ -149,14 +149,14 @@ unfoldable pub prepareStep : Turn → Change
 prepareStep t = sendAll t Done kind.prepare (t .counters .clock) (t .sub .course .mask) []
 
 -- a VOTE decides: a no, or the last yes
-unfoldable pub voteDecides : Course → ℕ → ℕ → Bool
-voteDecides c from v = some (not (eqb v 0) ∷ allHeard (withReply c from 0 0 .heard) (c .mask) ∷ [])
+unfoldable pub voteDecides : ℕ → Course → ℕ → ℕ → Bool
+voteDecides own c from v = some (not (eqb v 0) ∷ allHeard own (withReply c from 0 0 .heard) (c .mask) ∷ [])
 
 -- a VOTE with its reason, 0 for yes: the first no aborts, the last yes decides
 unfoldable pub voteStep : Turn → ℕ → ℕ → Change
 voteStep t site v =
     let c = withReply (t .sub .course) site 0 0 in
-    pick (eqb v 0) (pick (allHeard (c .heard) (c .mask)) (decideStep (withCourseOf t c)) (quietly (withCourseOf t c))) (abortStep t v)
+    pick (eqb v 0) (pick (allHeard (t .counters .own) (c .heard) (c .mask)) (decideStep (withCourseOf t c)) (quietly (withCourseOf t c))) (abortStep t v)
 
 -- A participant's steps.
 

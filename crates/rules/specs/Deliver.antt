@@ -2,7 +2,7 @@
 use Prim.Native.Nat.{ℕ, _+_, _-_, _*_, _≤_, _<_}
 use mathlib.Core.List.{List, [], _∷_}
 use mathlib.Core.Bool.{Bool, true, false, not}
-use lib.ListN.{length, getD, drop}
+use lib.ListN.{getD, drop}
 use lib.Dec.{ltb, leb, eqb}
 use Rattle.laws.specs.Choice.{pick, every, some}
 use Rattle.laws.specs.Cause.{Cause, cause, codeOf}
@@ -25,21 +25,20 @@ use Rattle.rules.specs.Live.{placeOf, freePlace, allHeard}
 use Rattle.rules.specs.History.{isForgotten}
 use Rattle.rules.specs.Join.{joined}
 use Rattle.rules.specs.Certify.{concurrent, voteOf}
-use Rattle.rules.specs.Valid.{siteOk}
+use Rattle.rules.specs.Valid.{handedOk}
 use Rattle.rules.specs.Effect.{Change, Effect, changed, unless}
 use Rattle.rules.specs.Course.{newSub, withSubOf, withCourseOf, raise, takenFrom, channelSpent, sendTo, quietly, isOutstanding, withReply, withDecision, castStep, voteDecides, voteStep, preparedStep, certifiedStep}
 
 -- causes before the message's kind is looked at
-abbrev pub arrivalCauses : Bool → ℕ → Bool → Bool → List Cause
-arrivalCauses ok room given fine =
+abbrev pub arrivalCauses : Bool → ℕ → Bool → List Cause
+arrivalCauses ok room fine =
     cause (ltb room sizes.outgoing) reason.short
-    ∷ cause (not given) reason.malformed
     ∷ cause (not ok) reason.malformed
     ∷ cause (not fine) reason.malformed
     ∷ []
 
-unfoldable pub arrivalCode : Bool → ℕ → Bool → Bool → ℕ
-arrivalCode ok room given fine = codeOf (arrivalCauses ok room given fine)
+unfoldable pub arrivalCode : Bool → ℕ → Bool → ℕ
+arrivalCode ok room fine = codeOf (arrivalCauses ok room fine)
 
 -- and its place on its channel
 abbrev pub nextCauses : ℕ → ℕ → ℕ → ℕ → List Cause
@@ -141,7 +140,7 @@ gatherChange s h place lists =
     let c = withReply (subAt s place .course) (h .from) 0 (h .count) in
     let t = withCourseOf (arrived s place (h .from)) c in
     let es = joined (drop (sizes.gathered * place) lists) (c .listed) in
-    pick (allHeard (c .heard) (c .mask)) (castStep t (voteOf s place es (entryCount es)) es) (quietly t)
+    pick (allHeard (s .counters .own) (c .heard) (c .mask)) (castStep t (voteOf s place es (entryCount es)) es) (quietly t)
 
 unfoldable pub gatherLists : Site → ℕ → List ℕ → List ℕ → List ℕ
 gatherLists s place es lists = putAt (sizes.gathered * place + sizes.entry * subAt s place .course .listed) lists es
@@ -150,7 +149,7 @@ unfoldable pub takeConc : Site → MessageHead → List ℕ → List ℕ → ℕ
 takeConc s h es lists place =
     let b = subAt s place .course in
     let c = withReply b (h .from) 0 (h .count) in
-    unless (replyCode (concInTurn b (h .from)) (every (allHeard (c .heard) (c .mask) ∷ spentToAll s (b .mask) ∷ []))) s lists
+    unless (replyCode (concInTurn b (h .from)) (every (allHeard (s .counters .own) (c .heard) (c .mask) ∷ spentToAll s (b .mask) ∷ []))) s lists
     (changed s place (gatherChange s h place (gatherLists s place es lists)) (gatherLists s place es lists))
 
 -- CERT
@@ -169,7 +168,7 @@ unfoldable pub takeVote : Site → MessageHead → ℕ → Effect
 takeVote s h place =
     let t = raise (arrived s place (h .from)) (h .clock) in
     let c = t .sub .course in
-    stepUnless (replyCode (voteInTurn c (h .from) (h .argument)) (every (voteDecides c (h .from) (h .argument) ∷ spentToAll s (c .mask) ∷ []))) s place
+    stepUnless (replyCode (voteInTurn c (h .from) (h .argument)) (every (voteDecides (s .counters .own) c (h .from) (h .argument) ∷ spentToAll s (c .mask) ∷ []))) s place
     (voteStep t (h .from) (h .argument))
 
 -- COMMIT, after a yes: its clock is the commit number
@@ -216,4 +215,4 @@ messageAt s lists m =
 
 unfoldable pub messageOf : Site → ℕ → List ℕ → List ℕ → Effect
 messageOf s room lists m =
-    unless (arrivalCode (siteOk s) room (eqb (length lists) sizes.lists) (messageOk (s .house) m)) s lists (messageAt s lists m)
+    unless (arrivalCode (handedOk s lists) room (messageOk (s .house) m)) s lists (messageAt s lists m)

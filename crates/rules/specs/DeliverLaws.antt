@@ -36,12 +36,12 @@ module _ (s : Site) (h : MessageHead) (place : ℕ) (lists : List ℕ) where
   abbrev pub heardAfter : Course
   heardAfter = withReply (subAt s place .course) (h .from) 0 (h .count)
 
-  pub gather-more : allHeard (heardAfter .heard) (heardAfter .mask) ≡ false
+  pub gather-more : allHeard (s .counters .own) (heardAfter .heard) (heardAfter .mask) ≡ false
       → gatherChange s h place lists ≡ quietly (withCourseOf (arrived s place (h .from)) heardAfter)
   unfolding gatherChange
   gather-more e = rw e
 
-  pub gather-last : allHeard (heardAfter .heard) (heardAfter .mask) ≡ true
+  pub gather-last : allHeard (s .counters .own) (heardAfter .heard) (heardAfter .mask) ≡ true
       → gatherChange s h place lists
       ≡ castStep (withCourseOf (arrived s place (h .from)) heardAfter)
       (voteOf s place (joined (drop (sizes.gathered * place) lists) (heardAfter .listed)) (entryCount (joined (drop (sizes.gathered * place) lists) (heardAfter .listed))))

@@ -18,8 +18,8 @@ use Rattle.kinds.specs.declared.Turn.{Turn}
 use Rattle.rules.specs.Message.{messageOk, messageTests, messageHead, messageEntries, mostEntries}
 use Rattle.rules.specs.MessageLaws.{site-clear, head-clear, shape-clear, passed-good}
 use Rattle.rules.specs.Live.{placeOf}
-use Rattle.rules.specs.Valid.{siteOk}
-use Rattle.rules.specs.ValidLaws.{valid-site}
+use Rattle.rules.specs.Valid.{siteOk, handedOk}
+use Rattle.rules.specs.ValidLaws.{valid-site, handed-site}
 use Rattle.rules.specs.Effect.{Effect, refused}
 use Rattle.rules.specs.Course.{quietly, raise, withCourseOf, withSubOf, withReply, withDecision}
 use Rattle.rules.specs.CallLaws.{arrival-clear, next-clear}
@@ -115,38 +115,36 @@ module _ (s : Site) (h : MessageHead) (place : ℕ) where
   quiet-abort = quiet-or s h place (takeAbort s h place) abort-quiet
 
 -- The layout is looked at in a valid site only.
-pub arrival-valid : (ok : Bool) (room : ℕ) (given a b : Bool) → (ok ≡ true → a ≡ b) → arrivalCode ok room given a ≡ arrivalCode ok room given b
+pub arrival-valid : (ok : Bool) (room : ℕ) (a b : Bool) → (ok ≡ true → a ≡ b) → arrivalCode ok room a ≡ arrivalCode ok room b
 unfolding arrivalCode
-arrival-valid true room given a b f = rw (f refl)
-arrival-valid false room given a b f = refl
+arrival-valid true room a b f = rw (f refl)
+arrival-valid false room a b f = refl
 
 -- Past the first causes: the site is valid, the buffers are long enough, and the words are a message of the house.
 pub record Checked (s : Site) (room : ℕ) (lists m : List ℕ) : Type 0 where
-  pub valid : siteOk s ≡ true
+  pub handed : handedOk s lists ≡ true
   pub long : sizes.outgoing ≤ room
-  pub whole : length lists ≡ sizes.lists
   pub formed : messageOk (s .house) m ≡ true
   pub header : sizes.messageHeader ≤ length m
   pub from-low : 1 ≤ messageHead m .from
   pub from-high : messageHead m .from ≤ sizes.sites
 
-pub checked : (s : Site) (room : ℕ) (lists m : List ℕ) (ok fine : Bool) → ok ≡ siteOk s → (ok ≡ true → fine ≡ messageOk (s .house) m)
-    → arrivalCode ok room (eqb (length lists) sizes.lists) fine ≡ 0 → Checked s room lists m
+pub checked : (s : Site) (room : ℕ) (lists m : List ℕ) (ok fine : Bool) → ok ≡ handedOk s lists → (ok ≡ true → fine ≡ messageOk (s .house) m)
+    → arrivalCode ok room fine ≡ 0 → Checked s room lists m
 unfolding messageOk
 checked s room lists m ok fine v f e =
-    let a = arrival-clear ok room (eqb (length lists) sizes.lists) fine e in
+    let a = arrival-clear ok room fine e in
     let w = sym v ∙ a .valid in
     let g = sym (f (a .valid)) ∙ a .formed in
     let c = head-clear (s .house) (messageHead m) (passed-good (s .house) m g .head) in
     let b = site-clear (s .house) (messageHead m .from) (c .ends .from) in
     record {
-      valid = w;
+      handed = w;
       long = a .long;
-      whole = eqb-true _ _ (a .lists);
       formed = g;
       header = shape-clear m (every-at (messageTests (s .house) m) 0 g) .long;
       from-low = b .low;
-      from-high = omega (arith, b .high, valid-site s w .house .few-sites);
+      from-high = omega (arith, b .high, valid-site s (handed-site s lists w) .house .few-sites);
     }
 
 -- its refusal by its channel, and its handler
@@ -154,9 +152,9 @@ unfoldable pub nextIn : Site → List ℕ → ℕ
 nextIn s m = nextCode (messageHead m .to) (s .counters .own) (messageHead m .channel) (getD (s .channels .taken) (messageHead m .from - 1) 0)
 
 module _ {s : Site} {room : ℕ} {lists m : List ℕ} (c : Checked s room lists m) where
-  past-arrival : arrivalCode (siteOk s) room (eqb (length lists) sizes.lists) (messageOk (s .house) m) ≡ 0
+  past-arrival : arrivalCode (handedOk s lists) room (messageOk (s .house) m) ≡ 0
   unfolding arrivalCode
-  past-arrival = rw (c .valid, c .formed, le-ltb room sizes.outgoing (c .long), eq-eqb (length lists) sizes.lists (c .whole))
+  past-arrival = rw (c .handed, c .formed, le-ltb room sizes.outgoing (c .long))
 
   pub message-refused : (nextIn s m ≡ 0 → ⊥) → messageOf s room lists m ≡ refused (nextIn s m) s lists
   unfolding messageOf messageAt nextIn

@@ -5,7 +5,10 @@ use mathlib.Core.Path.{_≡_, refl, _∙_}
 use mathlib.Core.List.{List}
 use mathlib.Core.Bool.{true, false}
 use native.Mathlib.Omega.{arith}
-use borrow.Author.Tests.{ltb-true, lt-ltb, le-ltb}
+use borrow.Author.Tests.{ltb-true, ltb-false, lt-ltb, le-ltb}
+use lib.Dec.{ltb}
+use native.Mathlib.Nat.{mod-eq-of-lt}
+use Rattle.laws.specs.Choice.{by-test}
 use lib.ListN.{getD}
 use Rattle.laws.specs.Scan.{NoneBelow, first-below, first-below-none}
 use Rattle.kinds.specs.declared.Entry.{Entry}
@@ -45,6 +48,17 @@ after-forgotten n p m h l = lt-ltb (p .installs) (forgotten n) (omega arith)
 
 pub slot-low : (n : ℕ) → slotOf n < 32
 slot-low n = omega arith
+
+-- and among those in use
+pub slot-used : (n i : ℕ) → i < remembered n → slotOf (forgotten n + i) < remembered n
+unfolding remembered forgotten
+slot-used n i h =
+    by-test (ltb 32 n)
+    (λ t. omega (arith, ltb-true 32 n t, slot-low (n - 32 + i)))
+    (λ f. omega (arith, ltb-false 32 n f, small (n - 32 + i) (omega (arith, ltb-false 32 n f))))
+  where
+    small : (m : ℕ) → m < 32 → slotOf m ≡ m
+    small m h = mod-eq-of-lt h
 
 -- Reading goes backwards from the newest version within the snapshot, and ends at the first that wrote the key.
 

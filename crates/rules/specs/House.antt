@@ -5,6 +5,7 @@ use mathlib.Core.Bool.{Bool}
 use mathlib.Core.List.{[], _∷_}
 use lib.Dec.{ltb, leb, eqb}
 use lib.Count.{ones}
+use lib.Bits.{bitOr}
 use Rattle.laws.specs.Choice.{every}
 use Rattle.laws.specs.Digits.{digit, onesBelow, ones-below}
 use Rattle.kinds.specs.Sizes as sizes
@@ -60,9 +61,9 @@ pub participants-sites : (mask : ℕ) → mask < 2 ^ sizes.sites → participant
 unfolding participants
 participants-sites mask h = ones-below sizes.sites mask h
 
--- replies wanted are one fewer
-unfoldable pub repliesWanted : ℕ → ℕ
-repliesWanted mask = participants mask - 1
+-- replies wanted are one fewer: this site, which counts as a participant, replies to nobody
+unfoldable pub repliesWanted : ℕ → ℕ → ℕ
+repliesWanted own mask = participants (bitOr mask (maskOf own)) - 1
 
 -- the largest house: where no other is known, as at a copy
 unfoldable pub wholeHouse : House

@@ -43,7 +43,7 @@ own-here : (s : Site) → siteOk s ≡ true → isSite (s .house) (s .counters .
 unfolding siteOk
 own-here s t =
     counters-own (s .house) (s .counters)
-    (every-at (houseOk (s .house) ∷ countersOk (s .house) (s .counters) ∷ liveOk (s .house) (s .counters .own) (s .live) ∷ historyOk (s .house) (s .counters .own) (s .history) ∷ []) 1 t)
+    (every-at (houseOk (s .house) ∷ countersOk (s .house) (s .counters) ∷ liveOk (s .house) (s .counters .own) (s .live) ∷ historyOk (s .house) (s .counters .own) (s .counters .installs) (s .history) ∷ []) 1 t)
 
 -- The part record passes its check.
 

@@ -36,6 +36,7 @@ pub mod RecordLaws
 pub mod SendLaws
 pub mod KeysLaws
 pub mod LiveLaws
+pub mod MaskLaws
 pub mod HistoryLaws
 pub mod QueueLaws
 pub mod JoinLaws

@@ -4,6 +4,7 @@ use mathlib.Core.List.{List, [], _∷_}
 use mathlib.Core.Bool.{Bool, true, not}
 use lib.ListN.{length, getD}
 use lib.Dec.{ltb, leb, eqb}
+use lib.Bits.{bitAnd}
 use Rattle.laws.specs.Choice.{pick, every}
 use Rattle.laws.specs.Scan.{firstBelow, anyBelow}
 use Rattle.kinds.specs.Sizes as sizes
@@ -58,6 +59,6 @@ isPrepared b = leb stage.prepared (b .course .stage)
 unfoldable pub isQueued : Sub → Bool
 isQueued b = pick (eqb (b .course .stage) stage.queued) true (eqb (b .course .stage) stage.decided)
 
--- every other participant has replied in this round, as their ones say
-unfoldable pub allHeard : ℕ → ℕ → Bool
-allHeard heard mask = eqb (participants heard) (repliesWanted mask)
+-- every other participant has replied in this round: the replies of participants are as many as are wanted
+unfoldable pub allHeard : ℕ → ℕ → ℕ → Bool
+allHeard own heard mask = eqb (participants (bitAnd heard mask)) (repliesWanted own mask)

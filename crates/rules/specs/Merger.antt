@@ -63,7 +63,7 @@ placeWords queues i j = take sizes.part (drop (placeAt i j) queues)
 unfoldable pub queuedPart : List ℕ → ℕ → ℕ → List ℕ
 queuedPart queues i j = take (getD (placeWords queues i j) word.length 0) (placeWords queues i j)
 
--- A handed state: counts within the sizes, queued parts well made and of their site.
+-- A handed state: counts within the sizes, queued parts well made and of their site. No part is of a site that the house lacks.
 unfoldable pub queuedOk : House → List ℕ → ℕ → ℕ → Bool
 queuedOk o queues i j =
     every (leb (getD (placeWords queues i j) word.length 0) sizes.part
@@ -78,7 +78,7 @@ unfoldable pub mergerOk : Merger → List ℕ → Bool
 mergerOk g queues =
     every (eqb (length queues) sizes.queues
     ∷ houseOk (g .house)
-    ∷ allBelow (λ i. sourceOk (g .house) queues (sourceAt g i) i) (g .house .sites)
+    ∷ allBelow (λ i. sourceOk (g .house) queues (sourceAt g i) i) sizes.sites
     ∷ [])
 
 -- Merge: a part behind the site's queue, or its state number.

@@ -1,6 +1,6 @@
 -- 01, "Sizes of a house", at the merger: what a state and a record that are not refused say, by name.
 use Prim.Native.Nat.{_+_, _<_, _≤_, ℕ}
-use borrow.Author.Tests.{eq-eqb, eqb-true, le-leb, leb-false, leb-true, ltb-false, not-false}
+use borrow.Author.Tests.{eq-eqb, eqb-true, le-leb, leb-false, leb-true, ltb-true, ltb-false, not-false}
 use lib.Dec.{eqb, leb, ltb}
 use lib.ListN.{getD, length}
 use mathlib.Core.Bool.{Bool, not, true}
@@ -55,6 +55,7 @@ pub record MergerClear (g : Merger) (queues : List ℕ) : Type 0 where
   pub few : g .house .sites ≤ sizes.sites
   pub counts : (i : ℕ) → i < g .house .sites → sourceAt g i .queued ≤ sizes.queue
   pub parts : (i j : ℕ) → i < g .house .sites → j < sourceAt g i .queued → QueuedClear (g .house) queues i j
+  pub rest : (i : ℕ) → g .house .sites ≤ i → i < sizes.sites → sourceAt g i .queued ≡ 0
 
 queued-clear : (o : House) (queues : List ℕ) (i j : ℕ) → queuedOk o queues i j ≡ true → QueuedClear o queues i j
 unfolding queuedOk
@@ -80,19 +81,32 @@ unfolding sourceOk
 clear-source o queues c i n f =
     rw (le-leb _ _ n, ← all-below (queuedOk o queues i) (c .queued) (λ j h. clear-queued o queues i j (f j h)))
 
+-- a site that the house lacks has no part queued: it would be of a site of the house
+source-rest : (o : House) (queues : List ℕ) (c : Source) (i : ℕ) → o .sites ≤ i → sourceOk o queues c i ≡ true → c .queued ≡ 0
+source-rest o queues c i h e =
+    by-test (ltb 0 (c .queued))
+    (λ t. let q = source-clear o queues c i e .1 0 (ltb-true 0 (c .queued) t) in
+    let s = site-clear o (recordHead (queuedPart queues i 0) .site) (part-clear o _ (part-passed-good o _ (q .part) .head) .site) in
+    absurd (omega (arith, s .high, q .site)))
+    (λ f. omega (arith, ltb-false 0 (c .queued) f))
+
+rest-source : (o : House) (queues : List ℕ) (c : Source) (i : ℕ) → c .queued ≡ 0 → sourceOk o queues c i ≡ true
+rest-source o queues c i e = clear-source o queues c i (omega arith) (λ j h. absurd (omega arith))
+
 pub merger-clear : (g : Merger) (queues : List ℕ) → mergerOk g queues ≡ true → MergerClear g queues
 unfolding mergerOk
 merger-clear g queues e =
     let t : ℕ → Bool = λ i. sourceOk (g .house) queues (sourceAt g i) i in
-    let n = g .house .sites in
-    let l = eqb (length queues) sizes.queues ∷ houseOk (g .house) ∷ allBelow t n ∷ [] in
+    let l = eqb (length queues) sizes.queues ∷ houseOk (g .house) ∷ allBelow t sizes.sites ∷ [] in
+    let each : (i : ℕ) → i < sizes.sites → t i ≡ true = λ i b. all-below-at t sizes.sites i (every-at l 2 e) b in
     let h = house-clear (g .house) (every-at l 1 e) in
     record {
       size = eqb-true _ _ (every-at l 0 e);
       some = h .0;
       few = h .1;
-      counts = λ i b. source-clear (g .house) queues (sourceAt g i) i (all-below-at t n i (every-at l 2 e) b) .0;
-      parts = λ i j b. source-clear (g .house) queues (sourceAt g i) i (all-below-at t n i (every-at l 2 e) b) .1 j;
+      counts = λ i b. source-clear (g .house) queues (sourceAt g i) i (each i (omega (arith, h .1))) .0;
+      parts = λ i j b. source-clear (g .house) queues (sourceAt g i) i (each i (omega (arith, h .1))) .1 j;
+      rest = λ i b k. source-rest (g .house) queues (sourceAt g i) i b (each i k);
     }
 
 pub clear-merger : (g : Merger) (queues : List ℕ) → MergerClear g queues → mergerOk g queues ≡ true
@@ -102,8 +116,14 @@ clear-merger g queues c =
       eq-eqb _ _ (c .size),
       le-leb _ _ (c .some),
       le-leb _ _ (c .few),
-      ← all-below (λ i. sourceOk (g .house) queues (sourceAt g i) i) (g .house .sites) (λ i h. clear-source (g .house) queues (sourceAt g i) i (c .counts i h) (λ j b. c .parts i j h b)),
+      ← all-below (λ i. sourceOk (g .house) queues (sourceAt g i) i) sizes.sites each,
     )
+  where
+    each : (i : ℕ) → i < sizes.sites → sourceOk (g .house) queues (sourceAt g i) i ≡ true
+    each i b =
+        by-test (ltb i (g .house .sites))
+        (λ t. let h = ltb-true i _ t in clear-source (g .house) queues (sourceAt g i) i (c .counts i h) (λ j b. c .parts i j h b))
+        (λ f. rest-source (g .house) queues (sourceAt g i) i (c .rest i (ltb-false i _ f) b))
 
 -- What merge takes: a part that fits its place, or a state.
 pub record StateReady (m : List ℕ) : Type 0 where

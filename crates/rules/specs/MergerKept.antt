@@ -54,6 +54,7 @@ fresh-holds n k a b e =
             few = b;
             counts = λ i h. rw (none i (omega arith)) (omega arith);
             parts = λ i j h l. absurd (let z = none i (omega arith) in omega arith);
+            rest = λ i h l. none i l;
           };
     }
   where
@@ -76,6 +77,10 @@ module _ (g : Merger) (queues m : List ℕ) (i : ℕ) (s : Source) (c : Holds g 
       (λ t. let e = eqb-true k i t in rw (e, source-same g queues m i s (omega (arith, c .sized, c .clear .few))) n)
       (λ t. rw (source-other g queues m i s k (eqb-false k i t)) (c .clear .counts k h))
 
+  -- the sites that the house lacks
+  others-none : (k : ℕ) → g .house .sites ≤ k → k < sizes.sites → sourceAt (withSource g i s) k .queued ≡ 0
+  others-none k h l = rw (source-other g queues m i s k (λ z. omega arith)) (c .clear .rest k h l)
+
   state-kept : s .queued ≡ sourceAt g i .queued → Holds (withSource g i s) queues
   state-kept n =
       record {
@@ -87,6 +92,7 @@ module _ (g : Merger) (queues m : List ℕ) (i : ℕ) (s : Source) (c : Holds g 
               few = c .clear .few;
               counts = λ k h. counted k h (omega (arith, c .clear .counts i b));
               parts = λ k j h l. c .clear .parts k j h (rw (same k) at l);
+              rest = others-none;
             };
       }
     where
@@ -155,6 +161,7 @@ module _ (g : Merger) (queues m : List ℕ) (i : ℕ) (s : Source) (c : Holds g 
                 few = c .clear .few;
                 counts = λ k h. counted k h (omega arith);
                 parts = part-there;
+                rest = others-none;
               };
         }
 
@@ -263,6 +270,7 @@ pop-kept g queues mask c f =
                 moved-clear (g .house) queues (popQueues queues mask n) i (j + 1) j (popped-place queues mask n i (c .clear .size) u k j t (omega arith)) (c .clear .parts i (j + 1) k (omega arith)))
                 (λ t. let b : j < sourceAt g i .queued = rw (s i k, t) at l in
                 moved-clear (g .house) queues (popQueues queues mask n) i j j (kept-place queues mask n i (c .clear .size) u k j t (omega arith)) (c .clear .parts i j k b)));
+            rest = λ i h l. let k : n ≤ i = rw o at h in rw (pop-later g mask n i k) (c .clear .rest i k l);
           };
     }
 

@@ -123,13 +123,12 @@ headOk o h = every (headTests o h)
 unfoldable pub entryBefore : List ℕ → ℕ → ℕ
 entryBefore es i = pick (eqb i 0) 0 (entryTx es (i - 1))
 
+-- what one entry says
+unfoldable pub entryPossible : House → List ℕ → ℕ → Bool
+entryPossible o es i = every (isTx o (entryTx es i) ∷ isMask o (entryMask es i) ∷ leb (entryMark es i) 1 ∷ [])
+
 unfoldable pub entryOk : House → List ℕ → ℕ → Bool
-entryOk o es i =
-    every (ltb (entryBefore es i) (entryTx es i)
-    ∷ isTx o (entryTx es i)
-    ∷ isMask o (entryMask es i)
-    ∷ leb (entryMark es i) 1
-    ∷ [])
+entryOk o es i = every (ltb (entryBefore es i) (entryTx es i) ∷ entryPossible o es i ∷ [])
 
 -- The check: word 0 is the length, the count and the offset agree with it, and the values are good.
 abbrev pub shapeTests : List ℕ → List Bool

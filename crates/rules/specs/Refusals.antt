@@ -47,17 +47,17 @@ pub enlist-order : (ok : Bool) (room : ℕ) (known : Bool) (place : ℕ) (mine :
     → InOrder (enlistCauses ok room known place mine ++ joinerCauses st own there spent)
 enlist-order ok room known place mine st own there spent = refl
 
-pub commit-order : (ok : Bool) (room : ℕ) (given : Bool) (place : ℕ) (mine : Bool) (st : ℕ) (heard low : Bool)
-    → InOrder (requestCauses ok room given place mine ++ commitCauses st heard low)
-commit-order ok room given place mine st heard low = refl
+pub commit-order : (ok : Bool) (room : ℕ) (place : ℕ) (mine : Bool) (st : ℕ) (heard low : Bool)
+    → InOrder (requestCauses ok room place mine ++ commitCauses st heard low)
+commit-order ok room place mine st heard low = refl
 
-pub abandon-order : (ok : Bool) (room : ℕ) (given : Bool) (place : ℕ) (mine : Bool) (st : ℕ) (low : Bool)
-    → InOrder (requestCauses ok room given place mine ++ abandonCauses st low)
-abandon-order ok room given place mine st low = refl
+pub abandon-order : (ok : Bool) (room : ℕ) (place : ℕ) (mine : Bool) (st : ℕ) (low : Bool)
+    → InOrder (requestCauses ok room place mine ++ abandonCauses st low)
+abandon-order ok room place mine st low = refl
 
-pub message-order : (ok : Bool) (room : ℕ) (given fine : Bool) (to own channel taken : ℕ) (inTurn spent : Bool)
-    → InOrder (arrivalCauses ok room given fine ++ (nextCauses to own channel taken ++ replyCauses inTurn spent))
-message-order ok room given fine to own channel taken inTurn spent = refl
+pub message-order : (ok : Bool) (room : ℕ) (fine : Bool) (to own channel taken : ℕ) (inTurn spent : Bool)
+    → InOrder (arrivalCauses ok room fine ++ (nextCauses to own channel taken ++ replyCauses inTurn spent))
+message-order ok room fine to own channel taken inTurn spent = refl
 
 pub install-order : (ok : Bool) (room given : ℕ) (due : Bool) (installs : ℕ) → InOrder (installCauses ok room given due installs)
 install-order ok room given due installs = refl

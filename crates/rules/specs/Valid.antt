@@ -1,10 +1,11 @@
--- 01, "Sizes of a house": a handed state whose counts, keys or masks are past these sizes gives 2.
+-- 01, "Sizes of a house": a handed state whose counts, keys or masks are past these sizes gives 2. A number that is no transaction of
+-- the house counts with them: it goes out in messages that every receiver refuses 2.
 use Prim.Native.Nat.{ℕ, _+_, _*_}
 use mathlib.Core.List.{List, [], _∷_}
-use mathlib.Core.Bool.{Bool, not}
-use lib.ListN.{getD}
-use lib.Dec.{leb}
-use Rattle.laws.specs.Choice.{every}
+use mathlib.Core.Bool.{Bool, true, not}
+use lib.ListN.{length, getD, drop}
+use lib.Dec.{ltb, leb, eqb}
+use Rattle.laws.specs.Choice.{pick, every}
 use Rattle.laws.specs.Scan.{allBelow}
 use Rattle.kinds.specs.Sizes as sizes
 use Rattle.kinds.specs.Stage as stage
@@ -15,8 +16,10 @@ use Rattle.kinds.specs.declared.Entry.{Entry}
 use Rattle.kinds.specs.declared.Counters.{Counters}
 use Rattle.kinds.specs.declared.Site.{Site}
 use Rattle.kinds.specs.State.{pastSub, pastEntry}
-use Rattle.rules.specs.House.{houseOk, isSite, isMask, inMask, participants}
+use Rattle.rules.specs.House.{houseOk, isSite, isTx, isMask, inMask, participants}
+use Rattle.rules.specs.Message.{entryPossible}
 use Rattle.rules.specs.Keys.{keysOk}
+use Rattle.rules.specs.History.{remembered}
 
 -- replies come from other sites, and each list gathered has at most 47 entries, the own one included
 unfoldable pub courseOk : House → ℕ → Course → Bool
@@ -28,11 +31,18 @@ courseOk o own c =
     ∷ leb (c .listed) (sizes.concEntries * (participants (c .heard) + 1))
     ∷ [])
 
-unfoldable pub subOk : House → ℕ → Sub → Bool
-subOk o own b = every (courseOk o own (b .course) ∷ keysOk o own (b .keys) ∷ [])
+-- what a held part puts into messages: a later field that goes out in one is asked for here
+unfoldable pub heldOk : House → Sub → Bool
+heldOk o b = every (isTx o (b .tx) ∷ [])
 
-unfoldable pub entryOk : House → ℕ → Entry → Bool
-entryOk o own e = every (isMask o (e .mask) ∷ keysOk o own (e .keys) ∷ [])
+-- a free place is not asked what it would say
+unfoldable pub subOk : House → ℕ → Sub → Bool
+subOk o own b =
+    every (courseOk o own (b .course) ∷ keysOk o own (b .keys) ∷ pick (eqb (b .course .stage) stage.free) true (heldOk o b) ∷ [])
+
+-- an install in a slot of the history; one that is remembered goes out in messages too
+unfoldable pub entryOk : House → ℕ → Bool → Entry → Bool
+entryOk o own used e = every (isMask o (e .mask) ∷ keysOk o own (e .keys) ∷ pick used (isTx o (e .tx)) true ∷ [])
 
 unfoldable pub countersOk : House → Counters → Bool
 countersOk o c = every (isSite o (c .own) ∷ leb (c .serial) sizes.lastSerial ∷ [])
@@ -40,13 +50,30 @@ countersOk o c = every (isSite o (c .own) ∷ leb (c .serial) sizes.lastSerial �
 unfoldable pub liveOk : House → ℕ → List Sub → Bool
 liveOk o own live = allBelow (λ i. subOk o own (getD live i pastSub)) sizes.live
 
-unfoldable pub historyOk : House → ℕ → List Entry → Bool
-historyOk o own history = allBelow (λ i. entryOk o own (getD history i pastEntry)) sizes.history
+-- the first `remembered` slots are in use
+unfoldable pub historyOk : House → ℕ → ℕ → List Entry → Bool
+historyOk o own installs history =
+    allBelow (λ i. entryOk o own (ltb i (remembered installs)) (getD history i pastEntry)) sizes.history
 
 unfoldable pub siteOk : Site → Bool
 siteOk s =
     every (houseOk (s .house)
     ∷ countersOk (s .house) (s .counters)
     ∷ liveOk (s .house) (s .counters .own) (s .live)
-    ∷ historyOk (s .house) (s .counters .own) (s .history)
+    ∷ historyOk (s .house) (s .counters .own) (s .counters .installs) (s .history)
     ∷ [])
+
+-- The gathered lists are handed state too: each held part has `listed` possible entries at its place. The words behind them, and
+-- those of a free place, are free.
+abbrev pub listAt : List ℕ → ℕ → List ℕ
+listAt lists place = drop (sizes.gathered * place) lists
+
+unfoldable pub gatheredOk : House → Sub → List ℕ → Bool
+gatheredOk o b es = pick (eqb (b .course .stage) stage.free) true (allBelow (entryPossible o es) (b .course .listed))
+
+unfoldable pub listsOk : House → List Sub → List ℕ → Bool
+listsOk o live lists = allBelow (λ i. gatheredOk o (getD live i pastSub) (listAt lists i)) sizes.live
+
+-- a site with its gathered lists, as commit and message are handed them
+unfoldable pub handedOk : Site → List ℕ → Bool
+handedOk s lists = every (eqb (length lists) sizes.lists ∷ siteOk s ∷ listsOk (s .house) (s .live) lists ∷ [])

@@ -2,13 +2,13 @@
 use Prim.Native.Nat.{ℕ, zero, suc, _+_, _-_, _*_, _^_, _≤_, _<_}
 use mathlib.Core.Path.{_≡_}
 use mathlib.Core.List.{List, [], _∷_}
-use mathlib.Core.Bool.{true, false, not}
+use mathlib.Core.Bool.{Bool, true, false, not}
 use native.Mathlib.Nat.{pow-le-pow-right}
 use native.Mathlib.Omega.{arith}
-use borrow.Author.Tests.{ltb-true, ltb-false, leb-true, eqb-true, eqb-false, not-true}
-use lib.ListN.{getD}
+use borrow.Author.Tests.{ltb-true, ltb-false, lt-ltb, leb-true, eqb-true, eqb-false, ne-eqb, not-true}
+use lib.ListN.{length, getD}
 use lib.Dec.{ltb, leb, eqb, lit<}
-use Rattle.laws.specs.Choice.{every-at, by-test}
+use Rattle.laws.specs.Choice.{pick, every, every-at, by-test}
 use Rattle.laws.specs.Scan.{all-below-at, split-last}
 use Rattle.laws.specs.Digits.{digit, onesBelow, digit-le, ones-most}
 use Rattle.kinds.specs.Sizes as sizes
@@ -21,11 +21,12 @@ use Rattle.kinds.specs.declared.Entry.{Entry}
 use Rattle.kinds.specs.declared.Counters.{Counters}
 use Rattle.kinds.specs.declared.Site.{Site}
 use Rattle.kinds.specs.State.{pastSub, pastEntry, subAt, entryAt}
-use Rattle.rules.specs.House.{houseOk, isSite, siteOf, isMask, inMask, participants, participants-sites}
+use Rattle.rules.specs.House.{houseOk, isSite, isTx, siteOf, isMask, inMask, participants, participants-sites}
 use Rattle.rules.specs.Keys.{keysAt, keysOk}
-use Rattle.rules.specs.History.{forgotten, slotOf, recall}
-use Rattle.rules.specs.HistoryLaws.{slot-low}
-use Rattle.rules.specs.Valid.{courseOk, subOk, entryOk, countersOk, liveOk, historyOk, siteOk}
+use Rattle.rules.specs.History.{forgotten, remembered, slotOf, recall}
+use Rattle.rules.specs.HistoryLaws.{slot-low, slot-used}
+use Rattle.rules.specs.Message.{entryPossible}
+use Rattle.rules.specs.Valid.{courseOk, heldOk, subOk, entryOk, countersOk, liveOk, historyOk, siteOk, listAt, gatheredOk, listsOk, handedOk}
 
 -- The house and the site in it.
 pub record ValidHouse (o : House) (own : ℕ) : Type 0 where
@@ -57,17 +58,19 @@ pub record ValidCourse (o : House) (own : ℕ) (c : Course) : Type 0 where
 pub record ValidSub (o : House) (own : ℕ) (b : Sub) : Type 0 where
   pub course : ValidCourse o own (b .course)
   pub keys : ValidKeys o own (b .keys)
+  pub tx : (b .course .stage ≡ stage.free → ⊥) → isTx o (b .tx) ≡ true
 
-pub record ValidEntry (o : House) (own : ℕ) (e : Entry) : Type 0 where
+pub record ValidEntry (o : House) (own : ℕ) (used : Bool) (e : Entry) : Type 0 where
   pub mask-house : isMask o (e .mask) ≡ true
   pub mask-low : e .mask < 256
   pub keys : ValidKeys o own (e .keys)
+  pub tx : used ≡ true → isTx o (e .tx) ≡ true
 
 pub record ValidSite (s : Site) : Type 0 where
   pub house : ValidHouse (s .house) (s .counters .own)
   pub serial : s .counters .serial < 4294967296
   pub part : (i : ℕ) → i < 16 → ValidSub (s .house) (s .counters .own) (subAt s i)
-  pub entry : (i : ℕ) → i < 32 → ValidEntry (s .house) (s .counters .own) (entryAt s i)
+  pub entry : (i : ℕ) → i < 32 → ValidEntry (s .house) (s .counters .own) (ltb i (remembered (s .counters .installs))) (entryAt s i)
 
 -- a key of a site of the house is below 2,048
 pub key-low : (o : House) (own k : ℕ) → own ≤ 8 → siteOf o k ≡ own → k < 2048
@@ -167,22 +170,25 @@ valid-course o own c h t =
     }
 
 pub valid-sub : (o : House) (own : ℕ) (b : Sub) → ValidHouse o own → subOk o own b ≡ true → ValidSub o own b
-unfolding subOk
+unfolding subOk heldOk
 valid-sub o own b h t =
-    let l = courseOk o own (b .course) ∷ keysOk o own (b .keys) ∷ [] in
+    let held = every (isTx o (b .tx) ∷ []) in
+    let l = courseOk o own (b .course) ∷ keysOk o own (b .keys) ∷ pick (eqb (b .course .stage) stage.free) true held ∷ [] in
     record {
       course = valid-course o own (b .course) h (every-at l 0 t);
       keys = valid-keys o own (b .keys) (omega arith) (every-at l 1 t);
+      tx = λ n. every-at (isTx o (b .tx) ∷ []) 0 (rw (ne-eqb (b .course .stage) stage.free n) at (every-at l 2 t));
     }
 
-pub valid-entry : (o : House) (own : ℕ) (e : Entry) → ValidHouse o own → entryOk o own e ≡ true → ValidEntry o own e
+pub valid-entry : (o : House) (own : ℕ) (used : Bool) (e : Entry) → ValidHouse o own → entryOk o own used e ≡ true → ValidEntry o own used e
 unfolding entryOk
-valid-entry o own e h t =
-    let l = isMask o (e .mask) ∷ keysOk o own (e .keys) ∷ [] in
+valid-entry o own used e h t =
+    let l = isMask o (e .mask) ∷ keysOk o own (e .keys) ∷ pick used (isTx o (e .tx)) true ∷ [] in
     record {
       mask-house = every-at l 0 t;
       mask-low = mask-low o (e .mask) (h .few-sites) (every-at l 0 t);
       keys = valid-keys o own (e .keys) (omega arith) (every-at l 1 t);
+      tx = λ u. rw u at (every-at l 2 t);
     }
 
 pub counters-own : (o : House) (c : Counters) → countersOk o c ≡ true → isSite o (c .own) ≡ true
@@ -197,22 +203,24 @@ live-at : (o : House) (own : ℕ) (live : List Sub) (i : ℕ) → liveOk o own l
 unfolding liveOk
 live-at o own live i t h = all-below-at (λ i. subOk o own (getD live i pastSub)) 16 i t h
 
-history-at : (o : House) (own : ℕ) (history : List Entry) (i : ℕ) → historyOk o own history ≡ true → i < 32 → entryOk o own (getD history i pastEntry) ≡ true
+history-at : (o : House) (own installs : ℕ) (history : List Entry) (i : ℕ) → historyOk o own installs history ≡ true → i < 32
+    → entryOk o own (ltb i (remembered installs)) (getD history i pastEntry) ≡ true
 unfolding historyOk
-history-at o own history i t h = all-below-at (λ i. entryOk o own (getD history i pastEntry)) 32 i t h
+history-at o own installs history i t h = all-below-at (λ i. entryOk o own (ltb i (remembered installs)) (getD history i pastEntry)) 32 i t h
 
 pub valid-site : (s : Site) → siteOk s ≡ true → ValidSite s
 unfolding siteOk
 valid-site s t =
     let o = s .house in
     let own = s .counters .own in
-    let l = houseOk o ∷ countersOk o (s .counters) ∷ liveOk o own (s .live) ∷ historyOk o own (s .history) ∷ [] in
+    let n = s .counters .installs in
+    let l = houseOk o ∷ countersOk o (s .counters) ∷ liveOk o own (s .live) ∷ historyOk o own n (s .history) ∷ [] in
     let h = valid-house o own (every-at l 0 t) (counters-own o (s .counters) (every-at l 1 t)) in
     record {
       house = h;
       serial = counters-serial o (s .counters) (every-at l 1 t);
       part = λ i q. valid-sub o own (subAt s i) h (live-at o own (s .live) i (every-at l 2 t) q);
-      entry = λ i q. valid-entry o own (entryAt s i) h (history-at o own (s .history) i (every-at l 3 t) q);
+      entry = λ i q. valid-entry o own (ltb i (remembered n)) (entryAt s i) h (history-at o own n (s .history) i (every-at l 3 t) q);
     }
 
 -- What the scans of the tables ask for.
@@ -220,7 +228,32 @@ pub live-wrote : (s : Site) → siteOk s ≡ true → (i : ℕ) → i < 16 → s
 live-wrote s t i h = valid-site s t .part i h .keys .few-wrote
 
 -- each remembered install lies in a slot of the history
-pub valid-recall : (s : Site) → siteOk s ≡ true → (i : ℕ) → ValidEntry (s .house) (s .counters .own) (recall (s .history) (s .counters .installs) i)
+pub valid-recall : (s : Site) → siteOk s ≡ true → (i : ℕ) → (let n = forgotten (s .counters .installs) + i in
+    ValidEntry (s .house) (s .counters .own) (ltb (slotOf n) (remembered (s .counters .installs))) (recall (s .history) (s .counters .installs) i))
 valid-recall s t i =
     let n = forgotten (s .counters .installs) + i in
     valid-site s t .entry (slotOf n) (slot-low n)
+
+-- the i-th remembered install is a possible transaction's
+pub recall-tx : (s : Site) → siteOk s ≡ true → (i : ℕ) → i < remembered (s .counters .installs)
+    → isTx (s .house) (recall (s .history) (s .counters .installs) i .tx) ≡ true
+recall-tx s t i h = valid-recall s t i .tx (lt-ltb _ _ (slot-used (s .counters .installs) i h))
+
+-- A site with its gathered lists.
+pub handed-length : (s : Site) (lists : List ℕ) → handedOk s lists ≡ true → length lists ≡ sizes.lists
+unfolding handedOk
+handed-length s lists t = eqb-true _ _ (every-at (eqb (length lists) sizes.lists ∷ siteOk s ∷ listsOk (s .house) (s .live) lists ∷ []) 0 t)
+
+pub handed-site : (s : Site) (lists : List ℕ) → handedOk s lists ≡ true → siteOk s ≡ true
+unfolding handedOk
+handed-site s lists t = every-at (eqb (length lists) sizes.lists ∷ siteOk s ∷ listsOk (s .house) (s .live) lists ∷ []) 1 t
+
+-- an entry that a held part has gathered
+pub handed-entry : (s : Site) (lists : List ℕ) → handedOk s lists ≡ true → (place i : ℕ) → place < sizes.live
+    → (subAt s place .course .stage ≡ stage.free → ⊥) → i < subAt s place .course .listed → entryPossible (s .house) (listAt lists place) i ≡ true
+unfolding handedOk listsOk gatheredOk
+handed-entry s lists t place i h n l =
+    let o = s .house in
+    let all = every-at (eqb (length lists) sizes.lists ∷ siteOk s ∷ listsOk o (s .live) lists ∷ []) 2 t in
+    let here = all-below-at (λ i. gatheredOk o (getD (s .live) i pastSub) (listAt lists i)) sizes.live place all h in
+    all-below-at (entryPossible o (listAt lists place)) (subAt s place .course .listed) i (rw (ne-eqb _ stage.free n) at here) l
