@@ -90,10 +90,11 @@ fn cast_yes(t: Turn, es: &[u64], out: &mut [u64]) -> Taken
     ensures { λ _. ⌜ now (out .exit) ≡ overlay (now (out .entry)) (castStep t 0 (now (es .entry)) .words) ⌝ }
 {
     let mask = t.sub.course.mask;
+    let own = t.counters.own;
     let clock = t.counters.clock;
     let c = with_mark(t.sub.course, clock);
     let u = with_course(t, c);
-    if live::all_heard(0, mask) {
+    if live::all_heard(own, 0, mask) {
         return decide_step(u, out);
     }
     send_all(u, Answer::Done, CERT, 0, 0, es, out)
@@ -124,19 +125,20 @@ pub fn prepare_step(t: Turn, out: &mut [u64]) -> Taken
 
 // A VOTE taken: the first no aborts, the last yes decides.
 pub fn vote_step(t: Turn, site: u64, vote: u64, out: &mut [u64]) -> Taken
-    requires { ⌜ ((voteDecides (t .sub .course) site vote ≡ true) → CanSendAll t (length (now out))) ⌝ }
-    requires { ⌜ (1 ≤ site) × (site ≤ sizes.sites) ⌝ }
+    requires { ⌜ ((voteDecides (t .counters .own) (t .sub .course) site vote ≡ true) → CanSendAll t (length (now out))) ⌝ }
+    requires { ⌜ ((1 ≤ site) × (site ≤ sizes.sites)) × ((1 ≤ t .counters .own) × (t .counters .own ≤ sizes.sites)) ⌝ }
     ensures { λ r. ⌜ r ≡ takenOf (voteStep t site vote) ⌝ }
     ensures { λ _. ⌜ now (out .exit) ≡ overlay (now (out .entry)) (voteStep t site vote .words) ⌝ }
 {
     if vote != 0 {
         return abort_step(t, vote, out);
     }
+    let own = t.counters.own;
     let c = with_heard(t.sub.course, site, 0);
     let heard = c.heard;
     let mask = c.mask;
     let u = with_course(t, c);
-    if live::all_heard(heard, mask) {
+    if live::all_heard(own, heard, mask) {
         return decide_step(u, out);
     }
     quietly(u)

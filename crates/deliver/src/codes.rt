@@ -7,14 +7,11 @@ use kinds::sizes::OUTGOING;
 ghost use mathlib.Core.Path.{_≡_};
 ghost use Rattle.rules.specs.Deliver.{arrivalCode, nextCode};
 
-pub fn arrival_code(ok: bool, room: usize, given: bool, fine: bool) -> u64
-    ensures { λ r. ⌜ r ≡ arrivalCode ok room given fine ⌝ }
+pub fn arrival_code(ok: bool, room: usize, fine: bool) -> u64
+    ensures { λ r. ⌜ r ≡ arrivalCode ok room fine ⌝ }
 {
     if room < OUTGOING {
         return SHORT;
-    }
-    if !given {
-        return MALFORMED;
     }
     if !ok {
         return MALFORMED;

@@ -5,7 +5,6 @@ use crate::dispatch::take_kind;
 use kinds::House;
 use kinds::Out;
 use kinds::Site;
-use kinds::sizes::LISTS;
 use kinds::sizes::MESSAGE_HEADER;
 ghost use mathlib.Core.Path.{_≡_};
 ghost use mathlib.Core.Bool.{true};
@@ -33,10 +32,10 @@ pub fn message(s: Site, m: &[u64], lists: &mut [u64], out: &mut [u64]) -> Out
     ensures { λ _. ⌜ now (lists .exit) ≡ messageOf s (length (now (out .entry))) (now (lists .entry)) (now (m .entry)) .lent ⌝ }
     ensures { λ _. ⌜ now (out .exit) ≡ overlay (now (out .entry)) (messageOf s (length (now (out .entry))) (now (lists .entry)) (now (m .entry)) .words) ⌝ }
 {
-    let ok = valid::site_ok(s);
+    let ok = valid::handed_ok(s, lists);
     let house = s.house;
     let fine = formed(ok, house, m);
-    let first = arrival_code(ok, out.len(), lists.len() == LISTS, fine);
+    let first = arrival_code(ok, out.len(), fine);
     if first != 0 {
         return handlers::settle::refused(s, first);
     }

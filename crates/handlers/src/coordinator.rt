@@ -71,15 +71,15 @@ fn vote_in_turn(c: Course, from: u64, vote: u64) -> bool
     wanted
 }
 
-fn vote_decides(c: Course, from: u64, vote: u64) -> bool
-    requires { ⌜ (1 ≤ from) × (from ≤ sizes.sites) ⌝ }
-    ensures { λ r. ⌜ r ≡ voteDecides c from vote ⌝ }
+fn vote_decides(own: u64, c: Course, from: u64, vote: u64) -> bool
+    requires { ⌜ ((1 ≤ from) × (from ≤ sizes.sites)) × ((1 ≤ own) × (own ≤ sizes.sites)) ⌝ }
+    ensures { λ r. ⌜ r ≡ voteDecides own c from vote ⌝ }
 {
     let d = course::turn::with_heard(c, from, 0);
     if vote != 0 {
         return true;
     }
-    live::all_heard(d.heard, c.mask)
+    live::all_heard(own, d.heard, c.mask)
 }
 
 // Whether a message to each other participant is due and cannot be counted.
@@ -101,7 +101,7 @@ pub fn take_vote(s: Site, h: MessageHead, place: usize, out: &mut [u64]) -> Out
     let t = course::turn::raise(first, h.clock);
     let c = t.sub.course;
     let turn = vote_in_turn(c, h.from, h.argument);
-    let due = vote_decides(c, h.from, h.argument);
+    let due = vote_decides(s.counters.own, c, h.from, h.argument);
     let channels = s.channels;
     let sent = channels.sent;
     let spent = all_spent(due, sent, c.mask, s.counters.own);

@@ -48,7 +48,7 @@ fn joined_step(s: Site, place: usize, t: Turn, n: usize, lists: &[u64], out: &mu
 fn gather_step(s: Site, h: MessageHead, place: usize, lists: &[u64], out: &mut [u64]) -> Taken
     requires { ⌜ (siteOk s ≡ true) × ((place < sizes.live) × (Arriving s (h .from) × (length (now lists) ≡ sizes.lists))) ⌝ }
     requires { ⌜ subAt s place .course .listed + h .count ≤ sizes.certEntries ⌝ }
-    requires { ⌜ ((allHeard (withReply (subAt s place .course) (h .from) 0 (h .count) .heard) (subAt s place .course .mask) ≡ true) → CanSendAll (turnAt s place) (length (now out))) ⌝ }
+    requires { ⌜ ((allHeard (s .counters .own) (withReply (subAt s place .course) (h .from) 0 (h .count) .heard) (subAt s place .course .mask) ≡ true) → CanSendAll (turnAt s place) (length (now out))) ⌝ }
     ensures { λ r. ⌜ r ≡ takenOf (gatherChange s h place (now (lists .entry))) ⌝ }
     ensures { λ _. ⌜ now (out .exit) ≡ overlay (now (out .entry)) (gatherChange s h place (now (lists .entry)) .words) ⌝ }
 {
@@ -56,7 +56,7 @@ fn gather_step(s: Site, h: MessageHead, place: usize, lists: &[u64], out: &mut [
     let n = h.count as usize;
     let c = course::turn::with_reply(t.sub.course, h.from, n);
     let u = course::turn::with_course(t, c);
-    if !live::all_heard(c.heard, c.mask) {
+    if !live::all_heard(s.counters.own, c.heard, c.mask) {
         return course::turn::quietly(u);
     }
     joined_step(s, place, u, c.listed, lists, out)
@@ -81,7 +81,7 @@ pub fn take_conc(
     let b = sub.course;
     let turn = conc_in_turn(b, h.from);
     let next = course::turn::with_heard(b, h.from, 0);
-    let due = live::all_heard(next.heard, b.mask);
+    let due = live::all_heard(s.counters.own, next.heard, b.mask);
     let channels = s.channels;
     let sent = channels.sent;
     let spent = all_spent(due, sent, b.mask, s.counters.own);

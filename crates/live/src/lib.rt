@@ -124,9 +124,10 @@ pub fn is_queued(b: Sub) -> bool
     stage == DECIDED
 }
 
-// Whether every other participant has replied in this round.
-pub fn all_heard(heard: u64, mask: u64) -> bool
-    ensures { λ r. ⌜ r ≡ allHeard heard mask ⌝ }
+// Whether every other participant has replied in this round: only replies of participants count.
+pub fn all_heard(own: u64, heard: u64, mask: u64) -> bool
+    requires { ⌜ (1 ≤ own) × (own ≤ 8) ⌝ }
+    ensures { λ r. ⌜ r ≡ allHeard own heard mask ⌝ }
 {
-    participants(heard) == replies_wanted(mask)
+    participants(heard & mask) == replies_wanted(own, mask)
 }

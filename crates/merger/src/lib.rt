@@ -1,5 +1,5 @@
 // The merger (01, "Merger and copy"): queues each site's parts, and emits the due record.
-pub mod heads;
+mod heads;
 
 use heads::Heads;
 use kinds::Answer;

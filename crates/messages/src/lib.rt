@@ -5,6 +5,7 @@ mod layout;
 mod send;
 mod write;
 
+pub use entries::entries_possible;
 pub use layout::message_ok;
 pub use layout::read_head;
 pub use send::broadcast;

@@ -102,10 +102,12 @@ pub fn participants(mask: u64) -> u64
     u64::count_ones(mask) as u64
 }
 
-pub fn replies_wanted(mask: u64) -> u64
-    ensures { λ r. ⌜ r ≡ repliesWanted mask ⌝ }
+// One fewer than the participants, of whom this site is one.
+pub fn replies_wanted(own: u64, mask: u64) -> u64
+    requires { ⌜ (1 ≤ own) × (own ≤ 8) ⌝ }
+    ensures { λ r. ⌜ r ≡ repliesWanted own mask ⌝ }
 {
-    let n = participants(mask);
+    let n = participants(mask | mask_of(own));
     if n == 0 {
         return 0;
     }

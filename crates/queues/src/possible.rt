@@ -7,6 +7,7 @@ use kinds::Source;
 use kinds::sizes::PART;
 use kinds::sizes::QUEUE;
 use kinds::sizes::QUEUES;
+use kinds::sizes::SITES;
 use kinds::word::LENGTH;
 use kinds::word::SITE;
 use numbers::house_ok;
@@ -67,12 +68,11 @@ fn source_ok(o: House, queues: &[u64], c: Source, i: usize) -> bool
 fn sources_ok(g: Merger, queues: &[u64]) -> bool
     requires { ⌜ g .house .sites ≤ sizes.sites ⌝ }
     requires { ⌜ length (now queues) ≡ sizes.queues ⌝ }
-    ensures { λ r. ⌜ r ≡ allBelow (λ i. sourceOk (g .house) (now (queues .entry)) (sourceAt g i) i) (g .house .sites) ⌝ }
+    ensures { λ r. ⌜ r ≡ allBelow (λ i. sourceOk (g .house) (now (queues .entry)) (sourceAt g i) i) sizes.sites ⌝ }
 {
     let o = g.house;
-    let n = o.sites as usize;
     let mut i: usize = 0;
-    while i < n {
+    while i < SITES {
         let c = g.sources[i];
         if !source_ok(o, queues, c, i) {
             return false;

@@ -223,6 +223,9 @@ valid-site s t =
       entry = λ i q. valid-entry o own (ltb i (remembered n)) (entryAt s i) h (history-at o own n (s .history) i (every-at l 3 t) q);
     }
 
+pub valid-own : (s : Site) → siteOk s ≡ true → (1 ≤ s .counters .own) × (s .counters .own ≤ sizes.sites)
+valid-own s t = let h = valid-site s t .house in (h .own-low, omega (arith, h .own-high, h .few-sites))
+
 -- What the scans of the tables ask for.
 pub live-wrote : (s : Site) → siteOk s ≡ true → (i : ℕ) → i < 16 → subAt s i .keys .wrote ≤ 16
 live-wrote s t i h = valid-site s t .part i h .keys .few-wrote

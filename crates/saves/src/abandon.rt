@@ -37,7 +37,7 @@ pub fn abandon(s: Site, tx: u64, out: &mut [u64]) -> Out
     let own = counters.own;
     let place = live::place_of(live, tx);
     let coordinator = numbers::coordinator_of(tx);
-    let code = request_code(ok, out.len(), true, place, coordinator == own);
+    let code = request_code(ok, out.len(), place, coordinator == own);
     if code != 0 {
         return Out {
             answer: Answer::Refused(code),

@@ -8,14 +8,11 @@ use kinds::sizes::OUTGOING;
 ghost use mathlib.Core.Path.{_≡_};
 ghost use Rattle.rules.specs.Commit.{requestCode};
 
-pub fn request_code(ok: bool, room: usize, given: bool, place: usize, mine: bool) -> u64
-    ensures { λ r. ⌜ r ≡ requestCode ok room given place mine ⌝ }
+pub fn request_code(ok: bool, room: usize, place: usize, mine: bool) -> u64
+    ensures { λ r. ⌜ r ≡ requestCode ok room place mine ⌝ }
 {
     if room < OUTGOING {
         return SHORT;
-    }
-    if !given {
-        return MALFORMED;
     }
     if !ok {
         return MALFORMED;

@@ -13,7 +13,6 @@ use kinds::reason::UNCERTAIN;
 use kinds::sizes::ENTRY;
 use kinds::sizes::GATHERED;
 use kinds::sizes::HISTORY;
-use kinds::sizes::LISTS;
 use kinds::sizes::LIVE;
 use kinds::stage::ACTIVE;
 ghost use mathlib.Core.Path.{_≡_};
@@ -70,10 +69,11 @@ fn request_step(s: Site, place: usize, own: &[u64], n: usize, out: &mut [u64]) -
     ensures { λ _. ⌜ now (out .exit) ≡ overlay (now (out .entry)) (requestChange s place (now (own .entry)) .words) ⌝ }
 {
     let t = turn_at(s, place);
+    let site = s.counters.own;
     let mask = t.sub.course.mask;
     let c = course::turn::with_request(t.sub.course, n);
     let u = course::turn::with_course(t, c);
-    if live::all_heard(0, mask) {
+    if live::all_heard(site, 0, mask) {
         return lone_step(s, place, u, own, n, out);
     }
     course::coordinator::prepare_step(u, out)
@@ -124,19 +124,13 @@ pub fn commit(s: Site, tx: u64, lists: &mut [u64], out: &mut [u64]) -> Out
     ensures { λ _. ⌜ now (lists .exit) ≡ commitOf s (length (now (out .entry))) (now (lists .entry)) tx .lent ⌝ }
     ensures { λ _. ⌜ now (out .exit) ≡ overlay (now (out .entry)) (commitOf s (length (now (out .entry))) (now (lists .entry)) tx .words) ⌝ }
 {
-    let ok = valid::site_ok(s);
+    let ok = valid::handed_ok(s, lists);
     let channels = s.channels;
     let live = s.live;
     let own = s.counters.own;
     let place = live::place_of(live, tx);
     let coordinator = numbers::coordinator_of(tx);
-    let code = request_code(
-        ok,
-        out.len(),
-        lists.len() == LISTS,
-        place,
-        coordinator == own,
-    );
+    let code = request_code(ok, out.len(), place, coordinator == own);
     if code != 0 {
         return Out {
             answer: Answer::Refused(code),
@@ -147,7 +141,7 @@ pub fn commit(s: Site, tx: u64, lists: &mut [u64], out: &mut [u64]) -> Out
     let sub = live[place];
     let c = sub.course;
     let sent = channels.sent;
-    let heard = live::all_heard(c.heard, c.mask);
+    let heard = live::all_heard(own, c.heard, c.mask);
     let low = messages::counts_low(sent, c.mask, own);
     let next = commit_code(c.stage, heard, low);
     if next != 0 {

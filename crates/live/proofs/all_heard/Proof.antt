@@ -1,4 +1,4 @@
--- Ones of the one mask against ones of the other, less one.
+-- Ones of the replies within the mask against those wanted.
 use borrow.Author.Needs.{needs}
 use Rattle.rules.specs.Live.{allHeard}
 use Rattle.live.proofs.all_heard.Statement.{statement}

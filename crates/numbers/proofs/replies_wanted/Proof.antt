@@ -1,27 +1,32 @@
--- One fewer than the participants.
+-- One fewer than the participants, this site among them.
+use mathlib.Core.Path.{_≡_}
 use native.Mathlib.Omega.{arith}
-use Rattle.rules.specs.House.{repliesWanted}
 use borrow.Author.Needs.{needs}
+use lib.Bits.{bitOr}
+use Rattle.rules.specs.House.{maskOf, participants, repliesWanted}
 use Rattle.numbers.proofs.replies_wanted.Statement.{statement}
 use Rattle.numbers.proofs.replies_wanted.Tie as tie
 
--- src/lib.rt:106:9
+-- what is counted
+counted : (c : tie.After-participants) → c .participants .result ≡ participants (bitOr (c .before .before .args .mask) (maskOf (c .before .before .args .own)))
+counted c = rw (← c .before .mask-of .ensures) (c .participants .ensures)
+
+mask-of-requires : tie.Need-mask-of-requires
+mask-of-requires c κs = search needs
+
 participants-requires : tie.Need-participants-requires
 participants-requires c κs = search needs
 
--- src/lib.rt:108:9
 returns : tie.Need-returns
 unfolding repliesWanted
-returns c = omega (arith, c .before .participants .ensures, c .if1 .taken)
+returns c = omega (arith, counted (c .before), c .if1 .taken)
 
--- src/lib.rt:110:5
 sub-result : tie.Need-sub-result
 sub-result c = search needs
 
--- src/lib.rt:103:1
 returns-2 : tie.Need-returns-2
 unfolding repliesWanted
-returns-2 c = omega (arith, c .before .participants .ensures)
+returns-2 c = omega (arith, counted (c .before))
 
 pub replies-wanted-spec : {M : Type 1} → statement M
-replies-wanted-spec = tie.close (tie.spec participants-requires returns sub-result returns-2)
+replies-wanted-spec = tie.close (tie.spec mask-of-requires participants-requires returns sub-result returns-2)

@@ -23,7 +23,10 @@ vote-in-turn-requires : tie.Need-vote-in-turn-requires
 vote-in-turn-requires c κs = let a = c .before .before .before .before .pre .1 .0 in (a .first, a .last)
 
 vote-decides-requires : tie.Need-vote-decides-requires
-vote-decides-requires c κs = let a = c .before .before .before .before .before .pre .1 .0 in (a .first, a .last)
+vote-decides-requires c κs =
+    let turn = c .before .before .before in
+    let p = turn .before .before .pre .1 in
+    ((p .0 .first, p .0 .last), p .1 .1)
 
 all-spent-requires : tie.Need-all-spent-requires
 all-spent-requires c κs = search needs
@@ -44,13 +47,18 @@ unfolding raise arrived
 vote-step-requires c κs = let a = c .before .before .before .before .before .before .before .before .before .before .before .before .pre .1 .0 in
     let r = reply-clear _ _ (sym (c .before .before .reply-code .ensures) ∙ c .before .if1 .left) in
     let e = c .before .before .before .before .before .before .before .before .before .raise .ensures ∙ ap (λ (x : Turn). raise x (c .before .before .before .before .before .before .before .before .before .before .before .before .args .h .clock)) (c .before .before .before .before .before .before .before .before .before .before .arrived .ensures) in (
-      (λ d. let f = counts-low _ _ _ (not-false _ (not-both (c .before .before .before .before .before .before .vote-decides .result) _ (sym (c .before .before .before .all-spent .ensures) ∙ r .low) (c .before .before .before .before .before .before .vote-decides .ensures ∙ d))) in
+      (λ d. let f = counts-low _ _ _ (not-false _ (not-both (c .before .before .before .before .before .before .vote-decides .result) _ (sym (c .before .before .before .all-spent .ensures) ∙ r .low) (rw e at (c .before .before .before .before .before .before .vote-decides .ensures) ∙ (rw e at d)))) in
           rw e (record { long = c .before .before .before .before .before .before .before .before .before .before .before .before .pre .1 .1 .0; first = c .before .before .before .before .before .before .before .before .before .before .before .before .pre .1 .1 .1 .0; last = c .before .before .before .before .before .before .before .before .before .before .before .before .pre .1 .1 .1 .1; low = rw e at f })),
-      (a .first, a .last),
+      ((a .first, a .last), rw e (c .before .before .before .before .before .before .before .before .before .before .before .before .pre .1 .1 .1)),
     )
 
 settled-requires : tie.Need-settled-requires
-settled-requires c κs = search needs
+settled-requires c κs =
+    let sent = c .before .before .before in
+    let code = sent .before .before .before in
+    let vote = code .before .before .before in
+    let turn = vote .before .before .before in
+    turn .before .before .before .pre .0
 
 same-length : tie.Need-same-length
 same-length c = search needs

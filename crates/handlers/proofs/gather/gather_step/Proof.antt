@@ -8,6 +8,7 @@ use Rattle.rules.specs.Course.{quietly, withReply}
 use Rattle.rules.specs.Deliver.{arrived}
 use Rattle.rules.specs.DeliverLaws.{gather-last, gather-more}
 use Rattle.rules.specs.Effect.{takenOf, turnAt}
+use Rattle.rules.specs.ValidLaws.{valid-own}
 use Rattle.handlers.proofs.gather.gather_step.Statement.{statement}
 use Rattle.handlers.proofs.gather.gather_step.Tie as tie
 
@@ -22,7 +23,7 @@ with-course-requires : tie.Need-with-course-requires
 with-course-requires c κs = search needs
 
 all-heard-requires : tie.Need-all-heard-requires
-all-heard-requires c κs = search needs
+all-heard-requires c κs = let turn = c .before .before .before in valid-own _ (turn .before .before .pre .0 .0)
 
 quietly-requires : tie.Need-quietly-requires
 quietly-requires c κs = search needs

@@ -14,7 +14,7 @@ use Rattle.rules.specs.DeliverLaws.{conc-room, unless-past, unless-refused}
 use Rattle.rules.specs.Effect.{changed, outOf, settledOf, takenOf, turnAt}
 use Rattle.rules.specs.MergerWords.{length-put}
 use Rattle.rules.specs.Send.{counts-low}
-use Rattle.rules.specs.ValidLaws.{valid-site}
+use Rattle.rules.specs.ValidLaws.{valid-site, valid-own}
 use Rattle.kinds.specs.Sizes as sizes
 use Rattle.handlers.proofs.gather.take_conc.Statement.{statement}
 use Rattle.handlers.proofs.gather.take_conc.Tie as tie
@@ -32,7 +32,10 @@ with-heard-requires : tie.Need-with-heard-requires
 with-heard-requires c κs = let a = c .before .before .before .before .before .before .before .pre .0 .1 .1 .0 in (a .first, a .last)
 
 all-heard-requires : tie.Need-all-heard-requires
-all-heard-requires c κs = search needs
+all-heard-requires c κs =
+    let place = c .before .before .before in
+    let lent = place .before .before .before in
+    valid-own _ (lent .before .before .pre .0 .0)
 
 all-spent-requires : tie.Need-all-spent-requires
 all-spent-requires c κs = search needs

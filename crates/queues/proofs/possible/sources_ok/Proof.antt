@@ -10,10 +10,10 @@ use Rattle.queues.proofs.possible.sources_ok.Statement.{statement}
 use Rattle.queues.proofs.possible.sources_ok.Tie as tie
 
 abbrev Inv-loop : tie.InvT-loop
-Inv-loop queues g o n i₀ i = (i ≤ n) × EachBelow (λ k. sourceOk (g .house) queues (sourceAt g k) k) i
+Inv-loop queues g o i₀ i = (i ≤ 8) × EachBelow (λ k. sourceOk (g .house) queues (sourceAt g k) k) i
 
 abbrev μ-loop : tie.MeasureT-loop
-μ-loop queues g o n i₀ i = n - i
+μ-loop queues g o i₀ i = 8 - i
 
 loop-holds : tie.Need-loop-holds Inv-loop μ-loop
 loop-holds c = (search needs, each-none _)

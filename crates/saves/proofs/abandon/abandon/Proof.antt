@@ -30,10 +30,10 @@ returns c = let n = ne-eqb (c .before .request-code .result) 0 (c .if1 .taken) i
     (simp (← c .before .before .before .before .before .before .before .site-ok .ensures, ← c .before .before .before .place-of .ensures, ← c .before .before .coordinator-of .ensures, ← c .before .request-code .ensures, n), simp (← c .before .before .before .before .before .before .before .site-ok .ensures, ← c .before .before .before .place-of .ensures, ← c .before .before .coordinator-of .ensures, ← c .before .request-code .ensures, n) (overlay-none (c .before .before .before .before .before .before .before .before .before .args .out .now)))
 
 mul-sub : tie.Need-mul-sub
-mul-sub c = omega (arith, request-clear _ _ _ _ _ (sym (c .before .request-code .ensures) ∙ c .if1 .left) .held)
+mul-sub c = omega (arith, request-clear _ _ _ _ (sym (c .before .request-code .ensures) ∙ c .if1 .left) .held)
 
 array-copy-out-sub : tie.Need-array-copy-out-sub
-array-copy-out-sub c = request-clear _ _ _ _ _ (sym (c .before .request-code .ensures) ∙ c .if1 .left) .held
+array-copy-out-sub c = request-clear _ _ _ _ (sym (c .before .request-code .ensures) ∙ c .if1 .left) .held
 
 counts-low-requires : tie.Need-counts-low-requires
 counts-low-requires c κs = search needs
@@ -48,16 +48,16 @@ returns-2 c = let z = eq-eqb (c .before .before .before .before .before .before 
     (simp (← c .before .before .before .before .before .before .before .before .before .before .before .before .site-ok .ensures, ← c .before .before .before .before .before .before .before .before .place-of .ensures, ← c .before .before .before .before .before .before .before .coordinator-of .ensures, ← c .before .before .before .before .before .before .request-code .ensures, z, ← c .before .before .counts-low .ensures, ← c .before .abandon-code .ensures, n), simp (← c .before .before .before .before .before .before .before .before .before .before .before .before .site-ok .ensures, ← c .before .before .before .before .before .before .before .before .place-of .ensures, ← c .before .before .before .before .before .before .before .coordinator-of .ensures, ← c .before .before .before .before .before .before .request-code .ensures, z, ← c .before .before .counts-low .ensures, ← c .before .abandon-code .ensures, n) (overlay-none (c .before .before .before .before .before .before .before .before .before .before .before .before .before .before .args .out .now)))
 
 abort-step-requires : tie.Need-abort-step-requires
-abort-step-requires c κs = let h = request-clear _ _ _ _ _ (sym (c .before .before .before .before .before .before .before .request-code .ensures) ∙ c .before .before .before .before .before .before .if1 .left) in
+abort-step-requires c κs = let h = request-clear _ _ _ _ (sym (c .before .before .before .before .before .before .before .request-code .ensures) ∙ c .before .before .before .before .before .before .if1 .left) in
     let b = abandon-clear _ _ (sym (c .before .before .abandon-code .ensures) ∙ c .before .if2 .left) in
     let v = valid-site (c .before .before .before .before .before .before .before .before .before .before .before .before .before .before .before .args .s) (sym (c .before .before .before .before .before .before .before .before .before .before .before .before .before .site-ok .ensures) ∙ h .valid) .house in
     record { long = h .long; first = v .own-low; last = omega (arith, v .own-high, v .few-sites); low = counts-low _ _ _ (sym (c .before .before .before .counts-low .ensures) ∙ b .unspent) }
 
 mul-b : tie.Need-mul-b
-mul-b c = omega (arith, request-clear _ _ _ _ _ (sym (c .before .before .before .before .before .before .before .before .before .before .before .before .before .before .request-code .ensures) ∙ c .before .before .before .before .before .before .before .before .before .before .before .before .before .if1 .left) .held)
+mul-b c = omega (arith, request-clear _ _ _ _ (sym (c .before .before .before .before .before .before .before .before .before .before .before .before .before .before .request-code .ensures) ∙ c .before .before .before .before .before .before .before .before .before .before .before .before .before .if1 .left) .held)
 
 element-set-from-b : tie.Need-element-set-from-b
-element-set-from-b c = request-clear _ _ _ _ _ (sym (c .before .before .before .before .before .before .before .before .before .before .before .before .before .before .request-code .ensures) ∙ c .before .before .before .before .before .before .before .before .before .before .before .before .before .if1 .left) .held
+element-set-from-b c = request-clear _ _ _ _ (sym (c .before .before .before .before .before .before .before .before .before .before .before .before .before .before .request-code .ensures) ∙ c .before .before .before .before .before .before .before .before .before .before .before .before .before .if1 .left) .held
 
 same-length : tie.Need-same-length
 same-length c = search needs

@@ -11,6 +11,7 @@ use Rattle.rules.specs.CourseLaws.{all-course, whole-count}
 use Rattle.rules.specs.Effect.{turnAt}
 use Rattle.rules.specs.Live.{allHeard}
 use Rattle.rules.specs.Message.{entryCount}
+use Rattle.rules.specs.ValidLaws.{valid-own}
 use Rattle.saves.proofs.commit.request_step.Statement.{statement}
 use Rattle.saves.proofs.commit.request_step.Tie as tie
 
@@ -24,7 +25,7 @@ with-course-requires : tie.Need-with-course-requires
 with-course-requires c κs = search needs
 
 all-heard-requires : tie.Need-all-heard-requires
-all-heard-requires c κs = search needs
+all-heard-requires c κs = let turned = c .before .before .before in valid-own _ (turned .before .before .pre .0 .0)
 
 lone-step-requires : tie.Need-lone-step-requires
 unfolding withRequest
@@ -37,10 +38,14 @@ same-length c = search needs
 
 returns : tie.Need-returns
 unfolding turnAt
-returns c = let k : entryCount (c .before .before .before .before .before .before .before .before .before .before .before .args .own .now) ≡ c .before .before .before .before .before .before .before .before .before .before .before .args .n = whole-count (c .before .before .before .before .before .before .before .before .before .before .before .args .own .now) (c .before .before .before .before .before .before .before .before .before .before .before .args .n) (c .before .before .before .before .before .before .before .before .before .before .before .pre .0 .1 .1 .0) in
+returns c =
+    let ready = c .before .before .before in
+    let turned = ready .before .before .before in
+    let start = (turned .before .before .before) .before .before in
+    let k : entryCount (start .args .own .now) ≡ start .args .n = whole-count (start .args .own .now) (start .args .n) (start .pre .0 .1 .1 .0) in
     let t = c .before .before .before .before .before .before .before .before .turn-at .ensures in
-    let h : allHeard 0 (subAt (c .before .before .before .before .before .before .before .before .before .before .before .args .s) (c .before .before .before .before .before .before .before .before .before .before .before .args .place) .course .mask) ≡ true = sym (rw t at (c .before .before .before .before .before .all-heard .ensures)) ∙ c .before .before .before .before .if1 .taken in
-    let e = request-lone (c .before .before .before .before .before .before .before .before .before .before .before .args .s) (c .before .before .before .before .before .before .before .before .before .before .before .args .place) (c .before .before .before .before .before .before .before .before .before .before .before .args .own .now) (c .before .before .before .before .before .before .before .before .before .before .before .args .n) k h in
+    let h : allHeard (start .args .s .counters .own) 0 (subAt (start .args .s) (start .args .place) .course .mask) ≡ true = sym (rw t at (c .before .before .before .before .before .all-heard .ensures)) ∙ c .before .before .before .before .if1 .taken in
+    let e = request-lone (start .args .s) (start .args .place) (start .args .own .now) (start .args .n) k h in
     (rw (e, c .before .before .lone-step .ensures .0, c .before .before .before .before .before .before .with-course .ensures, c .before .before .before .before .before .before .before .with-request .ensures, t), rw (e, c .before .before .lone-step .ensures .1, c .before .before .before .before .before .before .with-course .ensures, c .before .before .before .before .before .before .before .with-request .ensures, t))
 
 prepare-step-requires : tie.Need-prepare-step-requires
@@ -54,10 +59,14 @@ same-length-2 c = search needs
 
 returns-2 : tie.Need-returns-2
 unfolding turnAt
-returns-2 c = let k : entryCount (c .before .before .before .before .before .before .before .before .before .before .before .args .own .now) ≡ c .before .before .before .before .before .before .before .before .before .before .before .args .n = whole-count (c .before .before .before .before .before .before .before .before .before .before .before .args .own .now) (c .before .before .before .before .before .before .before .before .before .before .before .args .n) (c .before .before .before .before .before .before .before .before .before .before .before .pre .0 .1 .1 .0) in
+returns-2 c =
+    let ready = c .before .before .before in
+    let turned = ready .before .before .before in
+    let start = (turned .before .before .before) .before .before in
+    let k : entryCount (start .args .own .now) ≡ start .args .n = whole-count (start .args .own .now) (start .args .n) (start .pre .0 .1 .1 .0) in
     let t = c .before .before .before .before .before .before .before .before .turn-at .ensures in
-    let h : allHeard 0 (subAt (c .before .before .before .before .before .before .before .before .before .before .before .args .s) (c .before .before .before .before .before .before .before .before .before .before .before .args .place) .course .mask) ≡ false = sym (rw t at (c .before .before .before .before .before .all-heard .ensures)) ∙ c .before .before .before .before .if1 .left in
-    let e = request-prepare (c .before .before .before .before .before .before .before .before .before .before .before .args .s) (c .before .before .before .before .before .before .before .before .before .before .before .args .place) (c .before .before .before .before .before .before .before .before .before .before .before .args .own .now) (c .before .before .before .before .before .before .before .before .before .before .before .args .n) k h in
+    let h : allHeard (start .args .s .counters .own) 0 (subAt (start .args .s) (start .args .place) .course .mask) ≡ false = sym (rw t at (c .before .before .before .before .before .all-heard .ensures)) ∙ c .before .before .before .before .if1 .left in
+    let e = request-prepare (start .args .s) (start .args .place) (start .args .own .now) (start .args .n) k h in
     (rw (e, c .before .before .prepare-step .ensures .0, c .before .before .before .before .before .before .with-course .ensures, c .before .before .before .before .before .before .before .with-request .ensures, t), rw (e, c .before .before .prepare-step .ensures .1, c .before .before .before .before .before .before .with-course .ensures, c .before .before .before .before .before .before .before .with-request .ensures, t))
 
 pub request-step-spec : {M : Type 1} → statement M

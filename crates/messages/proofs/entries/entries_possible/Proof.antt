@@ -1,0 +1,51 @@
+-- The entries passed are possible, and one that is not ends the loop.
+use Prim.Native.Nat.{_-_, _≤_}
+use mathlib.Core.Path.{sym, _∙_}
+use borrow.Author.Count.{below-more}
+use borrow.Author.Needs.{needs}
+use borrow.Author.Tests.{not-true, not-false}
+use Rattle.laws.specs.Scan.{EachBelow, each-none, not-all-below, all-end}
+use Rattle.rules.specs.Message.{entryPossible}
+use Rattle.messages.proofs.entries.entries_possible.Statement.{statement}
+use Rattle.messages.proofs.entries.entries_possible.Tie as tie
+
+abbrev Inv-loop : tie.InvT-loop
+Inv-loop o es n i₀ i = (i ≤ n) × EachBelow (entryPossible o es) i
+
+abbrev μ-loop : tie.MeasureT-loop
+μ-loop o es n i₀ i = n - i
+
+loop-holds : tie.Need-loop-holds Inv-loop μ-loop
+loop-holds c = (search needs, each-none _)
+
+entry-possible-requires : tie.Need-entry-possible-requires Inv-loop μ-loop
+entry-possible-requires c κs = search needs
+
+returns : tie.Need-returns Inv-loop μ-loop
+returns c = not-all-below _ _ _ (c .before .before .loop-test .taken) (sym (c .before .entry-possible .ensures) ∙ not-true _ (c .if1 .taken))
+
+add-i : tie.Need-add-i Inv-loop μ-loop
+add-i c = search needs
+
+loop-less : tie.Need-loop-less Inv-loop μ-loop
+loop-less c = search needs
+
+loop-again : tie.Need-loop-again Inv-loop μ-loop
+loop-again c = (search needs, below-more _ _ (c .before .before .before .loop .inv .1) (sym (c .before .entry-possible .ensures) ∙ not-false _ (c .if1 .left)))
+
+returns-2 : tie.Need-returns-2 Inv-loop μ-loop
+returns-2 c = all-end _ _ _ (c .loop-test .left) (c .before .loop .inv .1)
+
+pub entries-possible-spec : {M : Type 1} → statement M
+entries-possible-spec =
+    tie.close
+    (tie.spec
+    Inv-loop
+    μ-loop
+    loop-holds
+    entry-possible-requires
+    returns
+    add-i
+    loop-less
+    loop-again
+    returns-2)
