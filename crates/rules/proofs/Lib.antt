@@ -116,5 +116,6 @@ pub mod LiveOnce
 pub mod CallsKept
 pub mod ReadAnswers
 pub mod ReadsRight
--- and refusals leave all as it was.
+-- refusals leave all as it was, and the first cause is returned.
 pub mod Unaltered
+pub mod FirstCause

@@ -70,6 +70,9 @@ valueOf copy k =
     pick (eqb code 0) (Standing (copyValue copy k) (copyNumber copy) (copyCoordinator copy)) (Refused code)
 
 -- Start: 0 everywhere.
+abbrev pub copyStartCauses : List ℕ → List Cause
+copyStartCauses copy = cause (not (eqb (length copy) sizes.copy)) reason.malformed ∷ []
+
 unfoldable pub copyStartOf : List ℕ → Copying
 copyStartOf copy =
     pick (eqb (length copy) sizes.copy)

@@ -1,84 +1,180 @@
--- 01, "When the store says no": where several causes apply the lowest number is returned, and a refused call leaves all as it was.
-use Prim.Native.Nat.{ℕ}
-use mathlib.Core.Path.{_≡_, refl}
-use mathlib.Core.Bool.{Bool, true}
-use mathlib.Core.List.{List, [], _++_}
-use Rattle.laws.specs.Cause.{Cause, ascending}
+-- 01, "When the store says no": which number a call is refused with, and that a refused call leaves all as it was. Both are said of
+-- any state, and not only of those that a list leaves.
+use Prim.Native.Nat.{ℕ, _-_}
+use mathlib.Core.Path.{_≡_}
+use mathlib.Core.Bool.{Bool, true, false, not}
+use mathlib.Core.List.{List, [], _∷_, _++_}
+use lib.Dec.{eqb, leb, ltb}
+use lib.ListN.{length, getD}
+use Rattle.laws.specs.Choice.{pick, every}
+use Rattle.laws.specs.Cause.{Cause, cause, firstIn}
+use Rattle.kinds.specs.Sizes as sizes
+use Rattle.kinds.specs.Stage as stage
+use Rattle.kinds.specs.Reason as reason
+use Rattle.kinds.specs.Kind as kind
+use Rattle.kinds.specs.declared.Answer.{Answer}
 use Rattle.kinds.specs.declared.Answer.the-variants.{Refused}
-use Rattle.kinds.specs.declared.House.{House}
-use Rattle.kinds.specs.declared.Counters.{Counters}
+use Rattle.kinds.specs.declared.MessageHead.{MessageHead}
 use Rattle.kinds.specs.declared.Merger.{Merger}
-use Rattle.kinds.specs.declared.Source.{Source}
-use Rattle.kinds.specs.declared.RecordHead.{RecordHead}
+use Rattle.kinds.specs.declared.Site.{Site}
+use Rattle.kinds.specs.State.{Value, subAt}
+use Rattle.rules.specs.House.{isSite, inMask}
+use Rattle.rules.specs.Message.{messageOk, messageHead}
+use Rattle.rules.specs.Record.{recordHead}
+use Rattle.rules.specs.Send.{countsLow}
+use Rattle.rules.specs.Keys.{wroteKey, readKey}
+use Rattle.rules.specs.Live.{placeOf, freePlace, keyHeld, stageAt, allHeard}
+use Rattle.rules.specs.History.{isForgotten, isNewer}
+use Rattle.rules.specs.Queue.{leastQueued, isDue}
+use Rattle.rules.specs.Valid.{siteOk, handedOk}
+use Rattle.rules.specs.Course.{channelSpent, withReply, voteDecides}
 use Rattle.rules.specs.Begin.{beginCauses}
 use Rattle.rules.specs.Access.{accessCauses, readCauses, writeCauses}
-use Rattle.rules.specs.Enlist.{enlistCauses, joinerCauses}
+use Rattle.rules.specs.Enlist.{isMine, enlistCauses, joinerCauses}
 use Rattle.rules.specs.Commit.{requestCauses, commitCauses, abandonCauses}
-use Rattle.rules.specs.Deliver.{arrivalCauses, nextCauses, replyCauses}
-use Rattle.rules.specs.Install.{installCauses, reportCauses, startCauses}
-use Rattle.rules.specs.Merger.{mergerStartCauses, mergeCauses, mergePartCauses, mergeStateCauses, emitCauses, dueCauses}
-use Rattle.rules.specs.Copy.{replayCauses, valueCauses}
+use Rattle.rules.specs.Deliver.{arrivalCauses, nextCauses, replyCauses, spentTo, spentToAll, joinedInTurn, concInTurn, voteInTurn}
+use Rattle.rules.specs.Install.{installCauses, reportCauses, startCauses, startOf}
+use Rattle.rules.specs.Merger as merger
+use Rattle.rules.specs.Merger.{sourceAt, headsOf, leastSite, mergerStartCauses, mergeCauses, mergePartCauses, mergeStateCauses, emitCauses, dueCauses, mergerStartOf}
+use Rattle.rules.specs.Copy.{replayCauses, valueCauses, copyStartCauses, copyStartOf}
+use Rattle.rules.specs.Answers.{isRefused}
+use Rattle.rules.specs.World as world
 use Rattle.rules.specs.World.{World, Call, step}
 
--- It leaves, in any state and not only after a list, every site, table, merger and copy, what was sent and logged, and no words written
+-- It leaves every site, table, merger and copy, what was sent and logged, and no words written.
 unfoldable pub RefusedLeaves : Type 0
 RefusedLeaves = (w : World) (c : Call) (n : ℕ) → step w c .answer ≡ Refused n → (step w c .words ≡ []) × (step w c .world ≡ w)
 
--- The causes of each call, in the order in which they are looked at (law `code-append`), ascend; so by the law `lowest` the first that
--- holds has the lowest number.
-abbrev pub InOrder : List Cause → Type 0
-InOrder l = ascending 1 l ≡ true
+-- The order of the table's causes, by number.
+unfoldable pub order : List ℕ
+order =
+    reason.short
+    ∷ reason.malformed
+    ∷ reason.elsewhere
+    ∷ reason.notNext
+    ∷ reason.unknown
+    ∷ reason.stage
+    ∷ reason.outstanding
+    ∷ reason.forgotten
+    ∷ reason.held
+    ∷ reason.newer
+    ∷ reason.tooMany
+    ∷ reason.full
+    ∷ reason.spent
+    ∷ reason.behind
+    ∷ reason.queueFull
+    ∷ reason.notWhole
+    ∷ reason.nothing
+    ∷ []
 
-pub start-order : (sites own base lists : ℕ) → InOrder (startCauses sites own base lists)
-start-order sites own base lists = refl
+-- Every cause of each call. Causes 8 to 11 are none for a key that the transaction already wrote.
+unfoldable pub beginHas : Site → List Cause
+beginHas s = beginCauses (siteOk s) (s .counters) (freePlace (s .live))
 
-pub begin-order : (ok : Bool) (c : Counters) (place : ℕ) → InOrder (beginCauses ok c place)
-begin-order ok c place = refl
+unfoldable pub accessHas : Site → ℕ → ℕ → ℕ → List Cause
+accessHas s room tx k =
+    let place = placeOf (s .live) tx in
+    accessCauses (siteOk s) room (s .house) (s .counters .own) k place (stageAt (s .live) place)
 
-pub read-order : (ok : Bool) (room : ℕ) (o : House) (own k place st : ℕ) (lost has : Bool) (read : ℕ)
-    → InOrder (accessCauses ok room o own k place st ++ readCauses lost has read)
-read-order ok room o own k place st lost has read = refl
+unfoldable pub readHas : Site → List Value → ℕ → ℕ → List Cause
+readHas s base tx k =
+    let b = subAt s (placeOf (s .live) tx) in
+    accessHas s (length base) tx k
+    ++ pick (wroteKey (b .keys) k) [] (readCauses (isForgotten (s .counters .installs) (b .snapshot)) (readKey (b .keys) k) (b .keys .read))
 
-pub write-order : (ok : Bool) (room : ℕ) (o : House) (own k place st : ℕ) (lost held newer : Bool) (wrote : ℕ)
-    → InOrder (accessCauses ok room o own k place st ++ writeCauses lost held newer wrote)
-write-order ok room o own k place st lost held newer wrote = refl
+unfoldable pub writeHas : Site → ℕ → ℕ → List Cause
+writeHas s tx k =
+    let place = placeOf (s .live) tx in
+    let b = subAt s place in
+    let n = s .counters .installs in
+    accessHas s sizes.keys tx k
+    ++ pick (wroteKey (b .keys) k) []
+    (writeCauses (isForgotten n (b .snapshot)) (keyHeld (s .live) place k) (isNewer (s .history) n (b .snapshot) k) (b .keys .wrote))
 
-pub enlist-order : (ok : Bool) (room : ℕ) (known : Bool) (place : ℕ) (mine : Bool) (st : ℕ) (own there spent : Bool)
-    → InOrder (enlistCauses ok room known place mine ++ joinerCauses st own there spent)
-enlist-order ok room known place mine st own there spent = refl
+unfoldable pub enlistHas : Site → ℕ → ℕ → ℕ → List Cause
+enlistHas s room tx site =
+    let place = placeOf (s .live) tx in
+    let c = subAt s place .course in
+    enlistCauses (siteOk s) room (isSite (s .house) site) place (isMine s tx)
+    ++ joinerCauses (c .stage) (eqb site (s .counters .own)) (inMask (c .mask) site) (channelSpent (s .channels) site)
 
-pub commit-order : (ok : Bool) (room : ℕ) (place : ℕ) (mine : Bool) (st : ℕ) (heard low : Bool)
-    → InOrder (requestCauses ok room place mine ++ commitCauses st heard low)
-commit-order ok room place mine st heard low = refl
+unfoldable pub commitHas : Site → ℕ → List ℕ → ℕ → List Cause
+commitHas s room lists tx =
+    let place = placeOf (s .live) tx in
+    let c = subAt s place .course in
+    let own = s .counters .own in
+    requestCauses (handedOk s lists) room place (isMine s tx)
+    ++ commitCauses (c .stage) (allHeard own (c .heard) (c .mask)) (countsLow (s .channels .sent) (c .mask) own)
 
-pub abandon-order : (ok : Bool) (room : ℕ) (place : ℕ) (mine : Bool) (st : ℕ) (low : Bool)
-    → InOrder (requestCauses ok room place mine ++ abandonCauses st low)
-abandon-order ok room place mine st low = refl
+unfoldable pub abandonHas : Site → ℕ → ℕ → List Cause
+abandonHas s room tx =
+    let place = placeOf (s .live) tx in
+    let c = subAt s place .course in
+    requestCauses (siteOk s) room place (isMine s tx) ++ abandonCauses (c .stage) (countsLow (s .channels .sent) (c .mask) (s .counters .own))
 
-pub message-order : (ok : Bool) (room : ℕ) (fine : Bool) (to own channel taken : ℕ) (inTurn spent : Bool)
-    → InOrder (arrivalCauses ok room fine ++ (nextCauses to own channel taken ++ replyCauses inTurn spent))
-message-order ok room fine to own channel taken inTurn spent = refl
+-- a message of kind k for a part held at `place`: its turn, and the channels that its answer needs
+unfoldable pub heldHas : ℕ → Site → MessageHead → ℕ → List Cause
+heldHas k s h place =
+    let c = subAt s place .course in
+    let own = s .counters .own in
+    let all = allHeard own (withReply c (h .from) 0 (h .count) .heard) (c .mask) in
+    pick (eqb k kind.joined) (replyCauses (joinedInTurn c (h .from)) false)
+    (pick (eqb k kind.prepare) (replyCauses (eqb (c .stage) stage.active) (spentTo s (h .from)))
+    (pick (eqb k kind.conc) (replyCauses (concInTurn c (h .from)) (every (all ∷ spentToAll s (c .mask) ∷ [])))
+    (pick (eqb k kind.cert) (replyCauses (eqb (c .stage) stage.prepared) (spentTo s (h .from)))
+    (pick (eqb k kind.vote)
+    (replyCauses (voteInTurn c (h .from) (h .argument)) (every (voteDecides own c (h .from) (h .argument) ∷ spentToAll s (c .mask) ∷ [])))
+    (pick (eqb k kind.commit) (replyCauses (eqb (c .stage) stage.queued) false) (replyCauses (not (eqb (c .stage) stage.decided)) false))))))
 
-pub install-order : (ok : Bool) (room given : ℕ) (due : Bool) (installs : ℕ) → InOrder (installCauses ok room given due installs)
-install-order ok room given due installs = refl
+-- for one not held only PREPARE is answered, and JOIN begins it
+unfoldable pub kindHas : ℕ → Site → MessageHead → ℕ → List Cause
+kindHas k s h place =
+    pick (eqb k kind.join) (replyCauses (leb sizes.live place) (spentTo s (h .from)))
+    (pick (ltb place sizes.live) (heldHas k s h place) (pick (eqb k kind.prepare) (replyCauses true (spentTo s (h .from))) []))
 
-pub report-order : (ok : Bool) (room : ℕ) → InOrder (reportCauses ok room)
-report-order ok room = refl
+unfoldable pub messageHas : Site → ℕ → List ℕ → List ℕ → List Cause
+messageHas s room lists m =
+    let h = messageHead m in
+    arrivalCauses (handedOk s lists) room (messageOk (s .house) m)
+    ++ (nextCauses (h .to) (s .counters .own) (h .channel) (getD (s .channels .taken) (h .from - 1) 0)
+    ++ kindHas (h .kind) s h (placeOf (s .live) (h .tx)))
 
-pub merger-start-order : (sites given : ℕ) → InOrder (mergerStartCauses sites given)
-merger-start-order sites given = refl
+unfoldable pub installHas : Site → ℕ → List Value → List Cause
+installHas s room base =
+    installCauses (siteOk s) room (length base) (isDue (s .live) (leastQueued (s .live) sizes.live)) (s .counters .installs)
 
-pub merge-part-order : (g : Merger) (queues m : List ℕ) (c : Source) (r : RecordHead) → InOrder (mergeCauses g queues m ++ mergePartCauses c r)
-merge-part-order g queues m c r = refl
+unfoldable pub mergeHas : Merger → List ℕ → List ℕ → List Cause
+mergeHas g queues m =
+    let r = recordHead m in
+    let c = sourceAt g (r .site - 1) in
+    mergeCauses g queues m ++ pick (eqb (r .kind) kind.part) (mergePartCauses c r) (mergeStateCauses c r)
 
-pub merge-state-order : (g : Merger) (queues m : List ℕ) (c : Source) (r : RecordHead) → InOrder (mergeCauses g queues m ++ mergeStateCauses c r)
-merge-state-order g queues m c r = refl
+unfoldable pub emitHas : Merger → ℕ → List ℕ → List Cause
+emitHas g room queues = emitCauses g queues room ++ dueCauses g (headsOf queues (g .house .sites)) (leastSite g queues)
 
-pub emit-order : (g : Merger) (queues : List ℕ) (room : ℕ) (heads : List RecordHead) (least : ℕ) → InOrder (emitCauses g queues room ++ dueCauses g heads least)
-emit-order g queues room heads least = refl
+abbrev pub causesOf : World → Call → List Cause
+causesOf w (world.begin s) = beginHas (w .site s)
+causesOf w (world.enlist s out tx site) = enlistHas (w .site s) (length out) tx site
+causesOf w (world.read s tx key) = readHas (w .site s) (w .base s) tx key
+causesOf w (world.write s tx key v) = writeHas (w .site s) tx key
+causesOf w (world.commit s out tx) = commitHas (w .site s) (length out) (w .lists s) tx
+causesOf w (world.abandon s out tx) = abandonHas (w .site s) (length out) tx
+causesOf w (world.message s out m) = messageHas (w .site s) (length out) (w .lists s) m
+causesOf w (world.install s out) = installHas (w .site s) (length out) (w .base s)
+causesOf w (world.report s out) = reportCauses (siteOk (w .site s)) (length out)
+causesOf w (world.merge m) = mergeHas (w .merger) (w .queues) m
+causesOf w (world.emit out) = emitHas (w .merger) (length out) (w .queues)
+causesOf w (world.replay c m) = replayCauses (w .copy c) m
+causesOf w (world.value c key) = valueCauses (w .copy c) key
 
-pub replay-order : (copy m : List ℕ) → InOrder (replayCauses copy m)
-replay-order copy m = refl
+-- The first cause that holds, in the order of the table, is the number returned; a call of which none holds is not refused.
+pub record ByFirst (a : Answer) (l : List Cause) : Type 0 where
+  pub refused : (firstIn order l ≡ 0 → ⊥) → a ≡ Refused (firstIn order l)
+  pub taken : firstIn order l ≡ 0 → isRefused a ≡ false
 
-pub value-order : (copy : List ℕ) (k : ℕ) → InOrder (valueCauses copy k)
-value-order copy k = refl
+-- the claim: in any state, of the thirteen calls and the three starts
+pub record FirstCause : Type 0 where
+  pub call : (w : World) (c : Call) → ByFirst (step w c .answer) (causesOf w c)
+  pub start : (sites own base lists : ℕ) → ByFirst (startOf sites own base lists .answer) (startCauses sites own base lists)
+  pub merger-start : (sites : ℕ) (queues : List ℕ) → ByFirst (mergerStartOf sites queues .answer) (mergerStartCauses sites (length queues))
+  pub copy-start : (copy : List ℕ) → ByFirst (copyStartOf copy .answer) (copyStartCauses copy)

@@ -2,7 +2,7 @@
 ghost use Rattle.rules.specs.Claim.{Demand3};
 ghost use Rattle.rules.specs.Progress.{MessagesProgress, RecordsProgress};
 ghost use Rattle.rules.specs.Reads.{ReadsRight};
-ghost use Rattle.rules.specs.Refusals.{RefusedLeaves};
+ghost use Rattle.rules.specs.Refusals.{RefusedLeaves, FirstCause};
 
 // Demand 3: any list of the thirteen calls, from a fresh house.
 pub fn demand3_holds()
@@ -27,4 +27,9 @@ pub fn records_progress()
 // In any state a refused call leaves all as it was.
 pub fn refused_leaves()
     ensures { λ _. ⌜ RefusedLeaves ⌝ }
+{}
+
+// In any state a call is refused with the first of its causes that holds, in the order of the table, and taken where none does.
+pub fn first_cause()
+    ensures { λ _. ⌜ FirstCause ⌝ }
 {}
