@@ -118,3 +118,7 @@ pub mod ReadAnswers
 pub mod ReadsRight
 -- and refusals leave all as it was.
 pub mod Unaltered
+-- What the store leaves, the store takes: facts that make a state possible,
+pub mod ValidMade
+pub mod EntriesMade
+pub mod Passing
