@@ -122,3 +122,5 @@ pub mod Unaltered
 pub mod ValidMade
 pub mod EntriesMade
 pub mod Passing
+pub mod CourseFits
+pub mod StepsFit
