@@ -124,3 +124,4 @@ pub mod EntriesMade
 pub mod Passing
 pub mod CourseFits
 pub mod StepsFit
+pub mod SitesFit

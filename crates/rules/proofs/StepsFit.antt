@@ -129,9 +129,13 @@ module _ (s : Site) (ok : siteOk s ≡ true) (es : List ℕ) where
     mask-house : isMask o (t .sub .course .mask) ≡ true
     mask-house = valid-course o here (t .sub .course) house (x .course) .mask-house
 
-    -- another course
+    -- another course, also with another list
+    pub list-turn : (fs : List ℕ) (c : Course) → isTx o (t .sub .tx) ≡ true → courseOk o here c ≡ true → AllPossible o fs (c .listed)
+        → TurnFits s fs (withCourseOf t c)
+    list-turn fs c tx e all = record { own = x .own; installs = x .installs; counters = x .counters; course = e; keys = x .keys; tx = λ n. tx; entries = all }
+
     pub course-turn : (c : Course) → isTx o (t .sub .tx) ≡ true → courseOk o here c ≡ true → AllPossible o es (c .listed) → TurnFits s es (withCourseOf t c)
-    course-turn c tx e all = record { own = x .own; installs = x .installs; counters = x .counters; course = e; keys = x .keys; tx = λ n. tx; entries = all }
+    course-turn c tx e all = list-turn es c tx e all
 
     -- no part
     pub gone-turn : TurnFits s es (withSubOf t noSub)

@@ -27,7 +27,7 @@ use Rattle.rules.specs.Message.{entryPossible}
 use Rattle.rules.specs.Keys.{keysAt, keysOk}
 use Rattle.rules.specs.History.{remembered}
 use Rattle.rules.specs.Valid.{courseOk, heldOk, subOk, entryOk, countersOk, liveOk, historyOk, siteOk, listAt, gatheredOk, listsOk, handedOk}
-use Rattle.rules.specs.ValidLaws.{digit-none}
+use Rattle.rules.specs.ValidLaws.{ValidKeys, ValidCourse, ValidSub, digit-none}
 use Rattle.rules.specs.MaskLaws.{digit-one}
 use Rattle.rules.specs.MessageLaws.{site-clear}
 use Rattle.rules.proofs.Masks.{or-small}
@@ -92,6 +92,9 @@ unfolding keysOk
 keys-made o own b r w f g =
     rw (le-leb (b .read) sizes.reads r, le-leb (b .wrote) sizes.writes w, keys-at o own (b .reads) (b .read) f, keys-at o own (b .writes) (b .wrote) g)
 
+pub keys-back : (o : House) (own : ℕ) (b : Keys) → ValidKeys o own b → keysOk o own b ≡ true
+keys-back o own b v = keys-made o own b (v .few-read) (v .few-wrote) (v .read-here) (v .wrote-here)
+
 -- none read or written
 pub no-keys : (o : House) (own : ℕ) → keysOk o own noKeys ≡ true
 unfolding noKeys
@@ -104,11 +107,17 @@ unfolding courseOk
 course-made o own c st m h n l =
     rw (le-leb (c .stage) stage.rejected st, m, h, n, le-leb (c .listed) (sizes.concEntries * (participants (c .heard) + 1)) l)
 
+pub course-back : (o : House) (own : ℕ) (c : Course) → ValidCourse o own c → courseOk o own c ≡ true
+course-back o own c v = course-made o own c (v .stage) (v .mask-house) (v .heard-house) (v .others) (v .listed)
+
 pub sub-made : (o : House) (own : ℕ) (b : Sub) → courseOk o own (b .course) ≡ true → keysOk o own (b .keys) ≡ true
     → ((b .course .stage ≡ stage.free → ⊥) → isTx o (b .tx) ≡ true) → subOk o own b ≡ true
 unfolding subOk heldOk
 sub-made o own b c k t =
     by-test (eqb (b .course .stage) stage.free) (λ e. rw (c, k, e)) (λ e. rw (c, k, e, t (eqb-false _ stage.free e)))
+
+pub sub-back : (o : House) (own : ℕ) (b : Sub) → ValidSub o own b → subOk o own b ≡ true
+sub-back o own b v = sub-made o own b (course-back o own (b .course) (v .course)) (keys-back o own (b .keys) (v .keys)) (v .tx)
 
 -- An install.
 pub entry-made : (o : House) (own : ℕ) (used : Bool) (e : Entry) → isMask o (e .mask) ≡ true → keysOk o own (e .keys) ≡ true
@@ -127,22 +136,37 @@ pub history-made : (o : House) (own installs : ℕ) (history : List Entry)
 unfolding historyOk
 history-made o own installs history f = sym (all-below (λ i. entryOk o own (ltb i (remembered installs)) (getD history i pastEntry)) sizes.history f)
 
-pub site-made : (s : Site) → houseOk (s .house) ≡ true → countersOk (s .house) (s .counters) ≡ true
-    → liveOk (s .house) (s .counters .own) (s .live) ≡ true
-    → historyOk (s .house) (s .counters .own) (s .counters .installs) (s .history) ≡ true → siteOk s ≡ true
+pub record SiteTests (s : Site) : Type 0 where
+  pub house : houseOk (s .house) ≡ true
+  pub counters : countersOk (s .house) (s .counters) ≡ true
+  pub live : liveOk (s .house) (s .counters .own) (s .live) ≡ true
+  pub history : historyOk (s .house) (s .counters .own) (s .counters .installs) (s .history) ≡ true
+
+pub site-tests : (s : Site) → siteOk s ≡ true → SiteTests s
 unfolding siteOk
-site-made s h c l e = rw (h, c, l, e)
+site-tests s t =
+    let o = s .house in
+    let own = s .counters .own in
+    let l = houseOk o ∷ countersOk o (s .counters) ∷ liveOk o own (s .live) ∷ historyOk o own (s .counters .installs) (s .history) ∷ [] in
+    record { house = every-at l 0 t; counters = every-at l 1 t; live = every-at l 2 t; history = every-at l 3 t }
+
+pub site-made : (s : Site) → SiteTests s → siteOk s ≡ true
+unfolding siteOk
+site-made s x = rw (x .house, x .counters, x .live, x .history)
 
 pub lists-made : (o : House) (live : List Sub) (lists : List ℕ)
     → ((i : ℕ) → i < sizes.live → gatheredOk o (getD live i pastSub) (listAt lists i) ≡ true) → listsOk o live lists ≡ true
 unfolding listsOk
 lists-made o live lists f = sym (all-below (λ i. gatheredOk o (getD live i pastSub) (listAt lists i)) sizes.live f)
 
--- the entries that a part has gathered
-pub gathered-made : (o : House) (b : Sub) (es : List ℕ) → ((i : ℕ) → i < b .course .listed → entryPossible o es i ≡ true) → gatheredOk o b es ≡ true
+-- the entries that a held part has gathered
+pub gathered-made : (o : House) (b : Sub) (es : List ℕ)
+    → ((b .course .stage ≡ stage.free → ⊥) → (i : ℕ) → i < b .course .listed → entryPossible o es i ≡ true) → gatheredOk o b es ≡ true
 unfolding gatheredOk
 gathered-made o b es f =
-    by-test (eqb (b .course .stage) stage.free) (λ e. rw e) (λ e. rw e (sym (all-below (entryPossible o es) (b .course .listed) f)))
+    by-test (eqb (b .course .stage) stage.free)
+    (λ e. rw e)
+    (λ e. rw e (sym (all-below (entryPossible o es) (b .course .listed) (f (eqb-false _ stage.free e)))))
 
 pub handed-made : (s : Site) (lists : List ℕ) → length lists ≡ sizes.lists → siteOk s ≡ true → listsOk (s .house) (s .live) lists ≡ true → handedOk s lists ≡ true
 unfolding handedOk
