@@ -125,3 +125,4 @@ pub mod Passing
 pub mod CourseFits
 pub mod StepsFit
 pub mod SitesFit
+pub mod CallsFit
