@@ -126,3 +126,4 @@ pub mod CourseFits
 pub mod StepsFit
 pub mod SitesFit
 pub mod CallsFit
+pub mod RequestsFit

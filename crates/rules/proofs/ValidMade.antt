@@ -171,3 +171,7 @@ gathered-made o b es f =
 pub handed-made : (s : Site) (lists : List ℕ) → length lists ≡ sizes.lists → siteOk s ≡ true → listsOk (s .house) (s .live) lists ≡ true → handedOk s lists ≡ true
 unfolding handedOk
 handed-made s lists n v l = rw (eq-eqb (length lists) sizes.lists n, v, l)
+
+pub handed-lists : (s : Site) (lists : List ℕ) → handedOk s lists ≡ true → listsOk (s .house) (s .live) lists ≡ true
+unfolding handedOk
+handed-lists s lists t = every-at (eqb (length lists) sizes.lists ∷ siteOk s ∷ listsOk (s .house) (s .live) lists ∷ []) 2 t
