@@ -127,3 +127,4 @@ pub mod StepsFit
 pub mod SitesFit
 pub mod CallsFit
 pub mod RequestsFit
+pub mod DeliveryFits

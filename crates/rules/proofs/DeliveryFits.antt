@@ -1,0 +1,273 @@
+-- A message taken leaves its site possible, and what it is answered by passes the check.
+use Prim.Native.Nat.{ℕ, _+_, _-_, _*_, _≤_, _<_}
+use mathlib.Core.Path.{_≡_, refl, sym, ap, _∙_}
+use mathlib.Core.Bool.{Bool, true, false}
+use mathlib.Core.Logic.{inl, inr}
+use mathlib.Core.List.{List, [], _∷_}
+use native.Mathlib.Omega.{arith}
+use borrow.Author.Tests.{eqb-true, ltb-true}
+use lib.Dec.{leb, ltb, eqb}
+use lib.ListN.{length, getD, drop}
+use Rattle.laws.specs.Choice.{by-test, every, every-at}
+use Rattle.laws.specs.Scan.{all-below-at}
+use Rattle.kinds.specs.Sizes as sizes
+use Rattle.kinds.specs.Stage as stage
+use Rattle.kinds.specs.Kind as kind
+use Rattle.kinds.specs.Reason as reason
+use Rattle.kinds.specs.State.{subAt, noSub}
+use Rattle.kinds.specs.declared.House.{House}
+use Rattle.kinds.specs.declared.Channels.{Channels}
+use Rattle.kinds.specs.declared.Counters.{Counters}
+use Rattle.kinds.specs.declared.Course.{Course}
+use Rattle.kinds.specs.declared.Sub.{Sub}
+use Rattle.kinds.specs.declared.Site.{Site}
+use Rattle.kinds.specs.declared.Turn.{Turn}
+use Rattle.kinds.specs.declared.MessageHead.{MessageHead}
+use Rattle.rules.specs.House.{isSite, isTx, isMask, inMask, coordinatorOf}
+use Rattle.rules.specs.Message.{entryCount, toCoordinator, coordinatorEnd, argumentOk, mostEntries, entryOk, messageHead, messageEntries, messageOk, GoodMessage}
+use Rattle.rules.specs.MessageLaws.{HeadClear, head-clear, passed-good, site-clear}
+use Rattle.rules.specs.Live.{placeOf, freePlace, allHeard}
+use Rattle.rules.specs.History.{isForgotten}
+use Rattle.rules.specs.Join.{joined}
+use Rattle.rules.specs.Certify.{concurrent, voteOf}
+use Rattle.rules.specs.Valid.{siteOk, listAt, countersOk, handedOk}
+use Rattle.rules.specs.ValidLaws.{valid-site, handed-length}
+use Rattle.rules.specs.Effect.{Change, Effect, changed, unless}
+use Rattle.rules.specs.Course.{newSub, raise, withSubOf, withCourseOf, isOutstanding, withReply, withDecision, sendTo, quietly}
+use Rattle.rules.specs.CallLaws.{arrival-clear, next-clear, reply-clear}
+use Rattle.rules.specs.Deliver.{arrivalCode, nextCode, arrived, passed, replyCode, spentTo, spentToAll, stepUnless, joinTurn, spoken, joinAt, takeJoin, takeJoined, takePrepare, passPrepare, concInTurn, gatherChange, gatherLists, takeConc, takeCert, takeVote, takeCommit, takeAbort, keeping, takeHeld, takeOther, takeKind, messageAt, messageOf}
+use Rattle.rules.specs.DeliverLaws.{conc-room}
+use Rattle.rules.specs.MergerWords.{length-put}
+use Rattle.rules.proofs.Masks.{outstanding-unheard}
+use Rattle.rules.proofs.Refines.{IsFree, LiveIs}
+use Rattle.rules.proofs.RefineStep.{by-code}
+use Rattle.rules.proofs.RefineMail.{none}
+use Rattle.rules.proofs.ValidMade.{none-mask, site-tests, site-made, handed-made, handed-lists}
+use Rattle.rules.proofs.EntriesMade.{AllPossible, carried-possible, list-carried, join-carried, others-possible, more-possible}
+use Rattle.rules.proofs.CourseFits.{decision-fits, reply-fits}
+use Rattle.rules.proofs.StepsFit.{Fits, TurnFits, ChangeFits, Leads, Replies, votes-so, may-unknown, raise-fits, quietly-fits, list-turn, course-turn, gone-turn, joined-fits, vote-fits, cast-fits, reply-turn, ballot-fits, prepared-fits, certified-fits}
+use Rattle.rules.proofs.SitesFit.{EffectFits, site-ok, part-at, held-tx, old-fits, old-possible, settled-lists, changed-fits, refused-fits, unless-fits}
+use Rattle.rules.proofs.CallsFit.{new-part}
+use Rattle.rules.proofs.RequestsFit.{few-listed}
+
+-- with the lists as they were
+keeping-fits : (s : Site) (lists : List ℕ) (e : Effect) → EffectFits s e lists → EffectFits s (keeping lists e) lists
+keeping-fits s lists e x = record { handed = x .handed; words = x .words }
+
+module _ (s : Site) (lists : List ℕ) (ok : handedOk s lists ≡ true) {row : ℕ → Sub} (l : LiveIs (s .live) row) where
+  abbrev o : House
+  o = s .house
+
+  abbrev here : ℕ
+  here = s .counters .own
+
+  abbrev valid : siteOk s ≡ true
+  valid = site-ok s lists ok l
+
+  -- Without a part: other counters and channels.
+  counted : (c : Counters) (d : Channels) → c .own ≡ here → c .installs ≡ s .counters .installs → countersOk o c ≡ true
+      → handedOk (record { house = o; counters = c; channels = d; live = s .live; history = s .history }) lists ≡ true
+  counted c d own installs e =
+      let old = site-tests s valid in
+      handed-made _ lists (handed-length s lists ok)
+      (site-made _ (record { house = old .house; counters = e; live = rw own (old .live); history = rw (own, installs) (old .history) }))
+      (handed-lists s lists ok)
+
+  spoken-fits : (es : List ℕ) (c : Change) → ChangeFits s es c → EffectFits s (spoken s c) lists
+  unfolding spoken
+  spoken-fits es c x = let t = x .turn in record { handed = counted _ _ (t .own) (t .installs) (t .counters); words = x .words }
+
+  passed-fits : (a : ℕ) → EffectFits s (passed s a) lists
+  unfolding passed
+  passed-fits a = record { handed = counted _ _ refl refl (site-tests s valid .counters); words = none }
+
+  -- A message that passed the check, to this site.
+  module _ (h : MessageHead) (es : List ℕ) (good : GoodMessage o h es) (to : h .to ≡ here) where
+    clear : HeadClear o h
+    clear = head-clear o h (good .head)
+
+    apart : h .from ≡ here → ⊥
+    apart z = clear .ends .apart (z ∙ sym to)
+
+    from-coordinator : {k : ℕ} → h .kind ≡ k → toCoordinator k ≡ false → coordinatorOf (h .tx) ≡ h .from
+    unfolding coordinatorEnd
+    from-coordinator k e = rw (k, e) at (clear .ends .coordinator)
+
+    to-coordinator : {k : ℕ} → h .kind ≡ k → toCoordinator k ≡ true → coordinatorOf (h .tx) ≡ here
+    unfolding coordinatorEnd
+    to-coordinator k e = rw (k, e) at (clear .ends .coordinator) ∙ to
+
+    -- JOIN
+    join-turn : (es : List ℕ) → TurnFits s es (joinTurn s h)
+    unfolding joinTurn
+    join-turn es = new-part s es (s .counters) (h .tx) 0 valid refl refl (site-tests s valid .counters) (none-mask o) (clear .ends .tx)
+
+    join-replies : coordinatorOf (h .tx) ≡ h .from → Replies s (joinTurn s h) (h .from)
+    unfolding joinTurn newSub
+    join-replies e = record { tx = clear .ends .tx; theirs = e; site = clear .ends .from; apart = λ z. apart (sym z) }
+
+    take-join : (place : ℕ) → h .kind ≡ kind.join → EffectFits s (takeJoin s h place) lists
+    unfolding takeJoin joinAt toCoordinator
+    take-join place k =
+        let free = freePlace (s .live) in
+        let r = join-replies (from-coordinator k refl) in
+        unless-fits s lists ok l (replyCode (leb sizes.live place) (spentTo s (h .from))) [] _
+        (λ z. by-test (ltb free sizes.live)
+        (λ e. rw e (changed-fits s lists ok l free (ltb-true _ _ e) _ [] (joined-fits s valid (listAt lists free) (joinTurn s h) (join-turn _) (h .from) r 0 (inl refl))))
+        (λ e. rw e (spoken-fits [] _ (joined-fits s valid [] (joinTurn s h) (join-turn []) (h .from) r reason.full (inr refl)))))
+
+    -- for a transaction not held
+    take-other : EffectFits s (takeOther (h .kind) s h lists) lists
+    unfolding takeOther passPrepare raise toCoordinator
+    take-other =
+        by-test (eqb (h .kind) kind.prepare)
+        (λ e. rw e
+        (let t = raise (joinTurn s h) (h .clock) in
+        let r = join-replies (from-coordinator (eqb-true _ _ e) refl) in
+        keeping-fits s lists _
+        (unless-fits s lists ok l (replyCode true (spentTo s (h .from))) [] _
+        (λ z. spoken-fits [] _
+        (vote-fits s valid [] t (raise-fits s [] (joinTurn s h) (h .clock) (join-turn [])) (h .from)
+        (record { tx = r .tx; theirs = r .theirs; site = r .site; apart = r .apart }) (t .counters .clock) reason.unknown (may-unknown o))))))
+        (λ e. rw e (keeping-fits s lists _ (passed-fits (h .from))))
+
+    -- For one that is held.
+    module _ (low : placeOf (s .live) (h .tx) < sizes.live) where
+      abbrev place : ℕ
+      place = placeOf (s .live) (h .tx)
+
+      abbrev gathered : List ℕ
+      gathered = listAt lists place
+
+      abbrev turn : Turn
+      turn = arrived s place (h .from)
+
+      held : IsFree (subAt s place) → ⊥
+      held = held-tx s lists ok l (h .tx) low .0
+
+      possible : isTx o (subAt s place .tx) ≡ true
+      possible = part-at s lists ok l place low .tx held
+
+      fits : TurnFits s gathered turn
+      unfolding arrived
+      fits = old-fits s lists ok l place low held
+
+      leads : coordinatorOf (h .tx) ≡ here → Leads s turn
+      unfolding arrived
+      leads e = record { tx = possible; mine = ap coordinatorOf (held-tx s lists ok l (h .tx) low .1) ∙ e }
+
+      replies : coordinatorOf (h .tx) ≡ h .from → Replies s turn (h .from)
+      unfolding arrived
+      replies e =
+          record { tx = possible; theirs = ap coordinatorOf (held-tx s lists ok l (h .tx) low .1) ∙ e; site = clear .ends .from; apart = λ z. apart (sym z) }
+
+      -- the same after its clock is raised
+      abbrev raised : Turn
+      raised = raise turn (h .clock)
+
+      raised-fits : TurnFits s gathered raised
+      raised-fits = raise-fits s gathered turn (h .clock) fits
+
+      raised-leads : Leads s turn → Leads s raised
+      unfolding raise
+      raised-leads x = record { tx = x .tx; mine = x .mine }
+
+      raised-replies : Replies s turn (h .from) → Replies s raised (h .from)
+      unfolding raise
+      raised-replies x = record { tx = x .tx; theirs = x .theirs; site = x .site; apart = x .apart }
+
+      -- a step at its place, or its refusal
+      step-fits : (inTurn spent : Bool) (c : Change) → ChangeFits s gathered c → EffectFits s (keeping lists (stepUnless (replyCode inTurn spent) s place c)) lists
+      step-fits inTurn spent c x = keeping-fits s lists _ (unless-fits s lists ok l (replyCode inTurn spent) [] _ (λ z. changed-fits s lists ok l place low c [] x))
+
+      take-joined : h .kind ≡ kind.joined → EffectFits s (keeping lists (takeJoined s h place)) lists
+      unfolding takeJoined toCoordinator
+      take-joined k =
+          step-fits _ _ _
+          (quietly-fits s gathered (withCourseOf turn (withReply (turn .sub .course) (h .from) (h .argument) 0)) (reply-turn s valid gathered turn fits (leads (to-coordinator k refl)) (h .from) (h .argument) (clear .ends .from) apart))
+
+      take-prepare : h .kind ≡ kind.prepare → EffectFits s (keeping lists (takePrepare s h place)) lists
+      unfolding takePrepare toCoordinator argumentOk
+      take-prepare k =
+          let a = every-at (isMask o (h .argument) ∷ inMask (h .argument) (h .from) ∷ inMask (h .argument) (h .to) ∷ []) 0 (rw k at (clear .argument)) in
+          step-fits _ _ _
+          (prepared-fits s valid gathered raised raised-fits (h .from) (raised-replies (replies (from-coordinator k refl))) (h .argument) _ (concurrent s place) a (list-carried s valid place low))
+
+      take-cert : h .kind ≡ kind.cert → EffectFits s (keeping lists (takeCert s h es place)) lists
+      unfolding takeCert toCoordinator
+      take-cert k =
+          step-fits _ _ _
+          (certified-fits s valid gathered turn fits (h .from) (replies (from-coordinator k refl)) _ (votes-so o s place es (h .count)))
+
+      take-vote : h .kind ≡ kind.vote → EffectFits s (keeping lists (takeVote s h place)) lists
+      unfolding takeVote toCoordinator
+      take-vote k =
+          step-fits _ _ _
+          (ballot-fits s valid gathered raised raised-fits (raised-leads (leads (to-coordinator k refl))) (h .from) (h .argument) (clear .ends .from) apart)
+
+      take-commit : EffectFits s (keeping lists (takeCommit s h place)) lists
+      unfolding takeCommit raise arrived withDecision
+      take-commit =
+          step-fits _ _ _
+          (quietly-fits s gathered (withCourseOf raised (withDecision (subAt s place .course) (h .clock)))
+          (course-turn s valid gathered raised raised-fits _ possible (decision-fits o here (valid-site s valid .house) (subAt s place .course) (fits .course) (h .clock)) (fits .entries)))
+
+      take-abort : EffectFits s (keeping lists (takeAbort s h place)) lists
+      unfolding takeAbort
+      take-abort = step-fits _ _ _ (quietly-fits s gathered (withSubOf turn noSub) (gone-turn s valid gathered turn fits))
+
+      -- CONC: behind what is gathered, and the last brings the vote on their join
+      module _ (k : h .kind ≡ kind.conc) (inTurn : concInTurn (subAt s place .course) (h .from) ≡ true) where
+        abbrev course : Course
+        course = withReply (subAt s place .course) (h .from) 0 (h .count)
+
+        abbrev after : List ℕ
+        after = gatherLists s place es lists
+
+        few : h .count ≤ sizes.concEntries
+        unfolding mostEntries
+        few = rw k at (clear .few)
+
+        room : subAt s place .course .listed + h .count ≤ sizes.certEntries
+        room =
+            let b = site-clear o (h .from) (clear .ends .from) in
+            let v = valid-site s valid .house in
+            conc-room o here (h .from) (h .count) (subAt s place .course) v (part-at s lists ok l place low .course) (b .low) (omega (arith, b .high, v .few-sites)) apart inTurn few
+
+        entries : AllPossible o es (h .count)
+        entries i m = carried-possible o es i (all-below-at (entryOk o es) (h .count) i (good .entries) m)
+
+        stands : AllPossible o (listAt after place) (subAt s place .course .listed + h .count)
+        unfolding gatherLists
+        stands =
+            more-possible o lists es (sizes.gathered * place + sizes.entry * subAt s place .course .listed) place (handed-length s lists ok) low (omega arith)
+            (omega (arith, good .size, room)) (subAt s place .course .listed) (h .count) refl (good .size) (old-possible s lists ok l place low held) entries
+
+        conc-turn : TurnFits s (listAt after place) (withCourseOf turn course)
+        unfolding arrived withReply concInTurn
+        conc-turn =
+            let b = subAt s place .course in
+            let unheard = outstanding-unheard b (h .from) (every-at (eqb (b .stage) stage.prepared ∷ isOutstanding b (h .from) ∷ []) 1 inTurn) in
+            list-turn s valid gathered turn fits (listAt after place) course possible
+            (reply-fits o here (valid-site s valid .house) b (fits .course) (h .from) 0 (h .count) (clear .ends .from) apart (inr (unheard, few))) stands
+
+        conc-change : ChangeFits s (listAt after place) (gatherChange s h place after)
+        unfolding gatherChange toCoordinator withReply
+        conc-change =
+            let x = leads (to-coordinator k refl) in
+            let joint = join-carried o (listAt after place) (course .listed) (conc-turn .entries) sizes.certEntries room in
+            by-test (allHeard here (course .heard) (course .mask))
+            (λ e. rw e (cast-fits s valid (listAt after place) (withCourseOf turn course) conc-turn (record { tx = x .tx; mine = x .mine }) _ _ joint))
+            (λ e. rw e (quietly-fits s (listAt after place) _ conc-turn))
+
+        conc-fits : EffectFits s (changed s place (gatherChange s h place after) after) after
+        unfolding gatherLists
+        conc-fits =
+            let n = handed-length s lists ok in
+            let at = sizes.gathered * place + sizes.entry * subAt s place .course .listed in
+            let fit : at + length es ≤ sizes.gathered * place + sizes.gathered = omega (arith, good .size, room) in
+            record {
+              handed = settled-lists s lists ok l place low _ (listAt after place) (conc-change .turn) after refl (length-put at lists es (omega arith) ∙ n)
+                  (λ j m a f. others-possible o lists es at place n low (omega arith) fit j _ a (few-listed s lists ok l j m) (old-possible s lists ok l j m f));
+              words = conc-change .words;
+            }
