@@ -64,6 +64,10 @@ module _ (s : Site) (lists : List ℕ) (ok : handedOk s lists ≡ true) {row : �
   abbrev valid : siteOk s ≡ true
   valid = site-ok s lists ok l
 
+  -- with the lists that it lends back
+  abbrev Left : Effect → Type 0
+  Left e = EffectFits s e (e .lent)
+
   -- Without a part: other counters and channels.
   counted : (c : Counters) (d : Channels) → c .own ≡ here → c .installs ≡ s .counters .installs → countersOk o c ≡ true
       → handedOk (record { house = o; counters = c; channels = d; live = s .live; history = s .history }) lists ≡ true
@@ -117,7 +121,7 @@ module _ (s : Site) (lists : List ℕ) (ok : handedOk s lists ≡ true) {row : �
         (λ e. rw e (spoken-fits [] _ (joined-fits s valid [] (joinTurn s h) (join-turn []) (h .from) r reason.full (inr refl)))))
 
     -- for a transaction not held
-    take-other : EffectFits s (takeOther (h .kind) s h lists) lists
+    take-other : Left (takeOther (h .kind) s h lists)
     unfolding takeOther passPrepare raise toCoordinator
     take-other =
         by-test (eqb (h .kind) kind.prepare)
@@ -271,3 +275,49 @@ module _ (s : Site) (lists : List ℕ) (ok : handedOk s lists ≡ true) {row : �
                   (λ j m a f. others-possible o lists es at place n low (omega arith) fit j _ a (few-listed s lists ok l j m) (old-possible s lists ok l j m f));
               words = conc-change .words;
             }
+
+      take-conc : h .kind ≡ kind.conc → Left (takeConc s h es lists place)
+      unfolding takeConc
+      take-conc k =
+          let b = subAt s place .course in
+          let c = withReply b (h .from) 0 (h .count) in
+          by-code Left (replyCode (concInTurn b (h .from)) (every (allHeard here (c .heard) (c .mask) ∷ spentToAll s (b .mask) ∷ []))) s lists _
+          (λ z. conc-fits k (reply-clear _ _ z .turn)) (refused-fits s lists ok l _ lists)
+
+      take-held : Left (takeHeld (h .kind) s h es lists place)
+      unfolding takeHeld
+      take-held =
+          by-test (eqb (h .kind) kind.joined)
+          (λ a. rw a (take-joined (eqb-true _ _ a)))
+          (λ a. by-test (eqb (h .kind) kind.prepare)
+          (λ b. rw (a, b) (take-prepare (eqb-true _ _ b)))
+          (λ b. by-test (eqb (h .kind) kind.conc)
+          (λ c. rw (a, b, c) (take-conc (eqb-true _ _ c)))
+          (λ c. by-test (eqb (h .kind) kind.cert)
+          (λ d. rw (a, b, c, d) (take-cert (eqb-true _ _ d)))
+          (λ d. by-test (eqb (h .kind) kind.vote)
+          (λ e. rw (a, b, c, d, e) (take-vote (eqb-true _ _ e)))
+          (λ e. by-test (eqb (h .kind) kind.commit)
+          (λ f. rw (a, b, c, d, e, f) take-commit)
+          (λ f. rw (a, b, c, d, e, f) take-abort))))))
+
+    take-kind : Left (takeKind (h .kind) s h es lists (placeOf (s .live) (h .tx)))
+    unfolding takeKind
+    take-kind =
+        let place = placeOf (s .live) (h .tx) in
+        by-test (eqb (h .kind) kind.join)
+        (λ a. rw a (keeping-fits s lists _ (take-join place (eqb-true _ _ a))))
+        (λ a. by-test (ltb place sizes.live)
+        (λ b. rw (a, b) (take-held (ltb-true _ _ b)))
+        (λ b. rw (a, b) take-other))
+
+  pub message-call : (room : ℕ) (m : List ℕ) → Left (messageOf s room lists m)
+  unfolding messageOf messageAt
+  message-call room m =
+      let h = messageHead m in
+      by-code Left (arrivalCode (handedOk s lists) room (messageOk o m)) s lists _
+      (λ z.
+      by-code Left (nextCode (h .to) here (h .channel) (getD (s .channels .taken) (h .from - 1) 0)) s lists _
+      (λ y. take-kind h (messageEntries m) (passed-good o m (arrival-clear _ _ _ z .formed)) (next-clear _ _ _ _ y .here))
+      (refused-fits s lists ok l _ lists))
+      (refused-fits s lists ok l _ lists)
