@@ -115,7 +115,7 @@ request-speaks s place own =
     (λ e. rw e (cast-speaks _ _ (joined own (entryCount own)) (join-whole own (entryCount own))))
     (λ e. rw e (prepare-speaks _))
 
-commit-speaks : (s : Site) (place : ℕ) → Speaks (commitChange s place)
+pub commit-speaks : (s : Site) (place : ℕ) → Speaks (commitChange s place)
 unfolding commitChange
 commit-speaks s place =
     by-test (isFull s place)

@@ -128,3 +128,4 @@ pub mod SitesFit
 pub mod CallsFit
 pub mod RequestsFit
 pub mod DeliveryFits
+pub mod Kept

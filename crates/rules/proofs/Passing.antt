@@ -88,7 +88,7 @@ recipient-apart : (mask a i : ℕ) → isRecipient mask a i ≡ true → a ≡ i
 unfolding isRecipient
 recipient-apart mask a i e z = eqb-false (i + 1) a (not-true _ (every-at (eqb (digit mask i) 1 ∷ not (eqb (i + 1) a) ∷ []) 1 e)) (sym z)
 
-recipient-site : (o : House) (mask a i : ℕ) → isMask o mask ≡ true → isRecipient mask a i ≡ true → isSite o (i + 1) ≡ true
+pub recipient-site : (o : House) (mask a i : ℕ) → isMask o mask ≡ true → isRecipient mask a i ≡ true → isSite o (i + 1) ≡ true
 unfolding isSite
 recipient-site o mask a i h e = rw (le-leb 1 (i + 1) (omega arith), le-leb (i + 1) (o .sites) (mask-site o mask (i + 1) h (recipient-in mask a i e)))
 
