@@ -37,7 +37,7 @@ use Rattle.rules.proofs.RefineStep.{by-code}
 use Rattle.rules.proofs.RefineTurn.{at-place, course-is}
 use Rattle.rules.proofs.RefineMail.{Made, none, made-in}
 use Rattle.rules.proofs.RefineFresh.{started, fresh-table}
-use Rattle.rules.proofs.ValidMade.{no-keys, sub-made, entry-made, live-made, history-made, site-made, lists-made, gathered-made, handed-made}
+use Rattle.rules.proofs.ValidMade.{none-mask, no-keys, sub-made, entry-made, live-made, history-made, site-made, lists-made, gathered-made, handed-made}
 use Rattle.rules.proofs.Passing.{Passes}
 use Rattle.rules.proofs.CourseFits.{none-fits}
 use Rattle.rules.proofs.SitesFit.{EffectFits}
@@ -177,3 +177,46 @@ module _ {sites : ℕ} {w : World} {p : Protocol} (r : Refines sites w p) (i : I
   call-keeps (world.emit out) = record { site = k .site; pass = k .pass }
   call-keeps (world.replay c m) = record { site = k .site; pass = k .pass }
   call-keeps (world.value c key) = k
+
+-- A fresh house.
+module _ (sites s : ℕ) (some : 1 ≤ sites) (few : sites ≤ sizes.sites) (low : 1 ≤ s) (high : s ≤ sites) where
+  abbrev fresh : Site
+  fresh = freshSite sites s
+
+  house-ok : houseOk (houseOf sites) ≡ true
+  unfolding houseOk
+  house-ok = rw (le-leb 1 sites some, le-leb sites sizes.sites few)
+
+  here-ok : isSite (houseOf sites) s ≡ true
+  unfolding isSite
+  here-ok = rw (le-leb 1 s low, le-leb s sites high)
+
+  fresh-ok : siteOk fresh ≡ true
+  unfolding freshSite countersOk noSub noEntry remembered
+  fresh-ok =
+      let o = houseOf sites in
+      let v = valid-house o s house-ok here-ok in
+      let b = sub-made o s noSub (none-fits o s v) (no-keys o s) (λ n. absurd (n refl)) in
+      site-made fresh (record {
+        house = house-ok;
+        counters = rw here-ok;
+        live = live-made o s (replicate sizes.live noSub) (λ i h. rw (getD-replicate sizes.live i noSub pastSub h) b);
+        history = history-made o s 0 (replicate sizes.history noEntry)
+            (λ i h. rw (getD-replicate sizes.history i noEntry pastEntry h)
+            (entry-made o s _ noEntry (none-mask o) (no-keys o s) (λ u. absurd (omega (arith, ltb-true i 0 u)))));
+      })
+
+  fresh-handed : handedOk fresh (replicate sizes.lists 0) ≡ true
+  unfolding freshSite noSub
+  fresh-handed =
+      handed-made fresh (replicate sizes.lists 0) (length-replicate {A = ℕ} sizes.lists 0) fresh-ok
+      (lists-made (houseOf sites) (replicate sizes.live noSub) (replicate sizes.lists 0)
+      (λ i h. rw (getD-replicate sizes.live i noSub pastSub h) (gathered-made (houseOf sites) noSub _ (λ f. absurd (f refl)))))
+
+pub fresh-kept : (sites : ℕ) → 1 ≤ sites → sites ≤ sizes.sites → Kept sites (freshWorld sites)
+unfolding freshWorld
+fresh-kept sites some few =
+    record {
+      site = λ s a b. rw (started sites s some few a b, fresh-table (startCode sites s sizes.keys sizes.lists) sizes.lists) (fresh-handed sites s some few a b);
+      pass = a-nil;
+    }

@@ -129,3 +129,4 @@ pub mod CallsFit
 pub mod RequestsFit
 pub mod DeliveryFits
 pub mod Kept
+pub mod WhyRefused
