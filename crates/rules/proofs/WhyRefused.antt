@@ -7,7 +7,7 @@ use native.Mathlib.Omega.{arith}
 use borrow.Author.Tests.{eqb-true, eqb-false, eq-eqb, leb-true, not-true}
 use lib.Dec.{eqb, leb, ltb}
 use lib.ListN.{length, getD}
-use Rattle.laws.specs.Choice.{pick, some, by-test, set-not}
+use Rattle.laws.specs.Choice.{pick, pick-self, some, by-test, set-not}
 use Rattle.laws.specs.Cause.{Cause, cause, codeOf, other-code}
 use Rattle.kinds.specs.Sizes as sizes
 use Rattle.kinds.specs.Reason as reason
@@ -102,3 +102,133 @@ module _ (s : Site) (ok : siteOk s ≡ true) where
       (λ z. unless-refuses (Only X) (joinerCode (c .stage) (eqb a (s .counters .own)) (inMask (c .mask) a) (channelSpent (s .channels) a)) s [] _
       (λ y. other (joinerCauses (c .stage) (eqb a (s .counters .own)) (inMask (c .mask) a) (channelSpent (s .channels) a)) refl)
       (λ y. accepted-refuses (Only X) _ (enlist-speaks (turnAt s place) a .accepts)))
+
+  -- read and write: the key
+  access-why : (room k place st : ℕ) → room ≡ sizes.keys
+      → Only (isKey (s .house) k ≡ false) (accessCode (siteOk s) room (s .house) (s .counters .own) k place st)
+  unfolding accessCode
+  access-why room k place st e q =
+      fails _ (rw (ok, eq-eqb room sizes.keys e) at (held (accessCauses (siteOk s) room (s .house) (s .counters .own) k place st) q))
+
+  pub read-why : (base : List Value) (t k : ℕ) → length base ≡ sizes.keys → Refuses (Only (isKey (s .house) k ≡ false)) (readOf s base t k .answer)
+  unfolding readOf readAt readCode readVersion
+  read-why base t k size =
+      let place = placeOf (s .live) t in
+      let b = subAt s place in
+      let lost = isForgotten (s .counters .installs) (b .snapshot) in
+      let X = isKey (s .house) k ≡ false in
+      unless-refuses (Only X) (accessCode (siteOk s) (length base) (s .house) (s .counters .own) k place (stageAt (s .live) place)) s [] _
+      (λ z. access-why (length base) k place (stageAt (s .live) place) size)
+      (λ z. by-test (wroteKey (b .keys) k)
+      (λ e. rw e (accepted-refuses (Only X) _ refl))
+      (λ e. rw e
+      (unless-refuses (Only X) (readCode lost (readKey (b .keys) k) (b .keys .read)) s [] _
+      (λ y. other (readCauses lost (readKey (b .keys) k) (b .keys .read)) refl) (λ y. accepted-refuses (Only X) _ refl))))
+
+  pub write-why : (t k : ℕ) (v : Value) → Refuses (Only (isKey (s .house) k ≡ false)) (writeOf s t k v .answer)
+  unfolding writeOf writeAt writeCodeAt writeCode written quietly
+  write-why t k v =
+      let place = placeOf (s .live) t in
+      let b = subAt s place in
+      let n = s .counters .installs in
+      let X = isKey (s .house) k ≡ false in
+      unless-refuses (Only X) (accessCode (siteOk s) sizes.keys (s .house) (s .counters .own) k place (stageAt (s .live) place)) s [] _
+      (λ z. access-why sizes.keys k place (stageAt (s .live) place) refl)
+      (λ z. by-test (wroteKey (b .keys) k)
+      (λ e. rw e (accepted-refuses (Only X) _ refl))
+      (λ e. rw e
+      (unless-refuses (Only X) (writeCodeAt s place k) s [] _
+      (λ y. other (writeCauses (isForgotten n (b .snapshot)) (keyHeld (s .live) place k) (isNewer (s .history) n (b .snapshot) k) (b .keys .wrote)) refl)
+      (λ y. accepted-refuses (Only X) _ refl))))
+
+  request-why : (given : Bool) (room place : ℕ) (mine : Bool) → given ≡ true → Only ⊥ (requestCode given room place mine)
+  unfolding requestCode
+  request-why given room place mine e q = never (rw e at (held (requestCauses given room place mine) q))
+
+  pub commit-why : (room : ℕ) (lists : List ℕ) (t : ℕ) → handedOk s lists ≡ true → Refuses (Only ⊥) (commitOf s room lists t .answer)
+  unfolding commitOf commitCode
+  commit-why room lists t given =
+      let place = placeOf (s .live) t in
+      let c = subAt s place .course in
+      let own = s .counters .own in
+      let heard = allHeard own (c .heard) (c .mask) in
+      let low = countsLow (s .channels .sent) (c .mask) own in
+      unless-refuses (Only ⊥) (requestCode (handedOk s lists) room place (isMine s t)) s lists _ (λ z. request-why _ room place (isMine s t) given)
+      (λ z. unless-refuses (Only ⊥) (commitCode (c .stage) heard low) s lists _ (λ y. other (commitCauses (c .stage) heard low) refl)
+      (λ y. accepted-refuses (Only ⊥) _ (commit-speaks s place .accepts)))
+
+  pub abandon-why : (room t : ℕ) → Refuses (Only ⊥) (abandonOf s room t .answer)
+  unfolding abandonOf abandonCode
+  abandon-why room t =
+      let place = placeOf (s .live) t in
+      let c = subAt s place .course in
+      let low = countsLow (s .channels .sent) (c .mask) (s .counters .own) in
+      unless-refuses (Only ⊥) (requestCode (siteOk s) room place (isMine s t)) s [] _ (λ z. request-why _ room place (isMine s t) ok)
+      (λ z. unless-refuses (Only ⊥) (abandonCode (c .stage) low) s [] _ (λ y. other (abandonCauses (c .stage) low) refl)
+      (λ y. accepted-refuses (Only ⊥) _ (abort-speaks (turnAt s place) reason.abandoned .accepts)))
+
+  pub install-why : (room : ℕ) (base : List Value) → length base ≡ sizes.keys → Refuses (Only ⊥) (installOf s room base .answer)
+  unfolding installOf installCode installedAt
+  install-why room base size =
+      let place = leastQueued (s .live) sizes.live in
+      let due = isDue (s .live) place in
+      let n = s .counters .installs in
+      unless-refuses (Only ⊥) (installCode (siteOk s) room (length base) due n) s base _
+      (λ z e. never (rw (ok, eq-eqb (length base) sizes.keys size) at (held (installCauses (siteOk s) room (length base) due n) e)))
+      (λ z. accepted-refuses (Only ⊥) _ refl)
+
+  pub report-why : (room : ℕ) → Refuses (Only ⊥) (reportOf s room .answer)
+  unfolding reportOf reportCode
+  report-why room =
+      unless-refuses (Only ⊥) (reportCode (siteOk s) room) s [] _ (λ z e. never (rw ok at (held (reportCauses (siteOk s) room) e)))
+      (λ z. accepted-refuses (Only ⊥) _ refl)
+
+-- The merger, likewise.
+merger-refuses : (P : ℕ → Type 0) (code : ℕ) (g : Merger) (queues : List ℕ) (e : Merging) → P code → Refuses P (e .answer)
+    → Refuses P (unlessMerger code g queues e .answer)
+merger-refuses P code g queues e f x = by-test (eqb code 0) (λ h. rw h x) (λ h. rw h (refused-refuses P code f))
+
+neither : (a b : Bool) → pick (not (some (a ∷ b ∷ []))) true false ≡ true → (a ≡ false) × (b ≡ false)
+neither true b e = absurd (set-not false e refl)
+neither false true e = absurd (set-not false e refl)
+neither false false e = (refl, refl)
+
+module _ (g : Merger) (queues : List ℕ) (ok : mergerOk g queues ≡ true) where
+  pub merge-why : (m : List ℕ) → Refuses (Only ((partOk (g .house) m ≡ false) × (stateOk (g .house) m ≡ false))) (mergeOf g queues m .answer)
+  unfolding mergeOf mergeCode mergePart mergePartCode mergeState mergeStateCode
+  merge-why m =
+      let P = Only ((partOk (g .house) m ≡ false) × (stateOk (g .house) m ≡ false)) in
+      let r = recordHead m in
+      let c = sourceAt g (r .site - 1) in
+      merger-refuses P (mergeCode g queues m) g queues _ (λ e. neither _ _ (rw ok at (held (mergeCauses g queues m) e)))
+      (by-test (eqb (r .kind) kind.part)
+      (λ k. rw k (merger-refuses P (mergePartCode c r) g queues _ (other (mergePartCauses c r) refl) (accepted-refuses P _ refl)))
+      (λ k. rw k (merger-refuses P (mergeStateCode c r) g queues _ (other (mergeStateCauses c r) refl) (accepted-refuses P _ refl))))
+
+  pub emit-why : (room : ℕ) → Refuses (Only ⊥) (emitOf g room queues .answer)
+  unfolding emitOf emitCode emitDue dueCode
+  emit-why room =
+      let heads = headsOf queues (g .house .sites) in
+      let least = leastSite g queues in
+      merger-refuses (Only ⊥) (emitCode g queues room) g queues _ (λ e. never (rw ok at (held (emitCauses g queues room) e)))
+      (merger-refuses (Only ⊥) (dueCode g heads least) g queues _ (other (dueCauses g heads least) refl) (accepted-refuses (Only ⊥) _ refl))
+
+-- The copies.
+module _ (copy : List ℕ) (size : length copy ≡ sizes.copy) where
+  pub replay-why : (m : List ℕ) → Refuses (Only (mergedOk m ≡ false)) (replayOf copy m .answer)
+  unfolding replayOf replayCode
+  replay-why m =
+      let P = Only (mergedOk m ≡ false) in
+      by-test (eqb (replayCode copy m) 0)
+      (λ h. rw h (accepted-refuses P _ refl))
+      (λ h. rw h (refused-refuses P (replayCode copy m) (λ e. fails _ (rw (eq-eqb (length copy) sizes.copy size) at (held (replayCauses copy m) e)))))
+
+  pub value-why : (k : ℕ) → Refuses (Only (sizes.keys ≤ k)) (valueOf copy k)
+  unfolding valueOf valueCode
+  value-why k =
+      let P = Only (sizes.keys ≤ k) in
+      by-test (eqb (valueCode copy k) 0)
+      (λ h. rw h (accepted-refuses P _ refl))
+      (λ h. rw h
+      (refused-refuses P (valueCode copy k)
+      (λ e. leb-true sizes.keys k (sym (pick-self _) ∙ rw (eq-eqb (length copy) sizes.copy size) at (held (valueCauses copy k) e)))))
