@@ -130,3 +130,4 @@ pub mod RequestsFit
 pub mod DeliveryFits
 pub mod Kept
 pub mod WhyRefused
+pub mod NextGoes

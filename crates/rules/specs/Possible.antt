@@ -16,7 +16,6 @@ use Rattle.rules.specs.Message.{messageHead, messageOk}
 use Rattle.rules.specs.Record.{partOk, stateOk, mergedOk}
 use Rattle.rules.specs.Valid.{handedOk}
 use Rattle.rules.specs.Merger.{mergerOk}
-use Rattle.rules.specs.Answers.{isRefused}
 use Rattle.rules.specs.World as world
 use Rattle.rules.specs.World.{Call, World, Is, Lawful, freshWorld, step, run}
 
@@ -54,14 +53,15 @@ MessagesPass o w =
 abbrev pub CountEnds : House → Site → Type 0
 CountEnds o s = (r : ℕ) × (isSite o r ≡ true) × (sizes.last ≤ getD (s .channels .sent) (r - 1) 0)
 
--- so the next message of its channel, handed to its site with a buffer that is long enough, is taken, or refused 13 at the end of a count
+-- so the next message of its channel, handed to its site with a buffer that is long enough, is taken: it is refused for nothing but 13,
+-- where a count is at its end
 abbrev pub NextGoes : House → World → Type 0
 NextGoes o w =
     (m out : List ℕ) → Is m (w .sent) → sizes.outgoing ≤ length out
     → (let h = messageHead m in
     let s = w .site (h .to) in
-    let answer = step w (world.message (h .to) out m) .answer in
-    h .channel ≡ getD (s .channels .taken) (h .from - 1) 0 + 1 → (isRefused answer ≡ false) ⊎ ((answer ≡ Refused reason.spent) × CountEnds o s))
+    h .channel ≡ getD (s .channels .taken) (h .from - 1) 0 + 1
+    → (n : ℕ) → step w (world.message (h .to) out m) .answer ≡ Refused n → (n ≡ reason.spent) × CountEnds o s)
 
 -- the claim: any list of the thirteen calls, from a fresh house of 1 to 8 sites
 unfoldable pub Possible : Type 0
