@@ -131,3 +131,4 @@ pub mod DeliveryFits
 pub mod Kept
 pub mod WhyRefused
 pub mod NextGoes
+pub mod Possible

@@ -24,7 +24,9 @@ use Rattle.rules.specs.Live.{placeOf, freePlace, allHeard}
 use Rattle.rules.specs.Certify.{concurrent}
 use Rattle.rules.specs.CertifyLaws.{concurrent-whole}
 use Rattle.rules.specs.Valid.{siteOk, handedOk}
-use Rattle.rules.specs.ValidLaws.{valid-site}
+use Rattle.rules.specs.ValidLaws.{valid-site, handed-site}
+use Rattle.rules.specs.MessageLaws.{head-clear, passed-good}
+use Rattle.rules.specs.CallLaws.{arrival-clear}
 use Rattle.rules.specs.Effect.{Change, Effect}
 use Rattle.rules.specs.Course.{sendTo, channelSpent, withReply, raise, voteDecides, voteStep}
 use Rattle.rules.specs.Deliver.{arrivalCauses, arrivalCode, nextCauses, nextCode, arrived, replyCode, spentTo, spentToAll, stepUnless, spoken, joinAt, takeJoin, passed, takeJoined, takePrepare, passPrepare, concInTurn, gatherChange, gatherLists, takeConc, takeCert, voteInTurn, takeVote, takeCommit, takeAbort, keeping, takeHeld, takeOther, takeKind, messageAt, messageOf}
@@ -32,7 +34,7 @@ use Rattle.rules.specs.Possible.{CountEnds}
 use Rattle.rules.proofs.Spoken.{Speaks, quietly-speaks, prepared-speaks, certified-speaks, vote-speaks, vote-known}
 use Rattle.rules.proofs.GoesOn.{gather-speaks}
 use Rattle.rules.proofs.Passing.{recipient-site}
-use Rattle.rules.proofs.WhyRefused.{Refuses, Only, accepted-refuses, unless-refuses}
+use Rattle.rules.proofs.WhyRefused.{Refuses, Only, accepted-refuses, unless-refuses, fails, other, held}
 
 -- a test that fails at some index
 all-below-not : (t : ℕ → Bool) (n : ℕ) → allBelow t n ≡ false → (i : ℕ) × (i < n) × (t i ≡ false)
@@ -147,3 +149,33 @@ module _ (s : Site) (ok : siteOk s ≡ true) (h : MessageHead) (from : isSite (s
         (λ a. by-test (ltb place sizes.live)
         (λ b. rw (a, b) (held-goes es place (ltb-true _ _ b)))
         (λ b. rw (a, b) other-goes))
+
+-- The message call.
+module _ (s : Site) (lists : List ℕ) (ok : handedOk s lists ≡ true) (m : List ℕ) where
+  from-site : messageOk (s .house) m ≡ true → isSite (s .house) (messageHead m .from) ≡ true
+  from-site e = head-clear (s .house) (messageHead m) (passed-good (s .house) m e .head) .ends .from
+
+  -- refused 2 only where the message does not pass
+  pub message-why : (room : ℕ) → Refuses (Only (messageOk (s .house) m ≡ false)) (messageOf s room lists m .answer)
+  unfolding messageOf messageAt arrivalCode nextCode
+  message-why room =
+      let h = messageHead m in
+      let X = messageOk (s .house) m ≡ false in
+      let taken = getD (s .channels .taken) (h .from - 1) 0 in
+      unless-refuses (Only X) (arrivalCode (handedOk s lists) room (messageOk (s .house) m)) s lists _
+      (λ z e. fails _ (rw ok at (held (arrivalCauses (handedOk s lists) room (messageOk (s .house) m)) e)))
+      (λ z. unless-refuses (Only X) (nextCode (h .to) (s .counters .own) (h .channel) taken) s lists _
+      (λ y. other (nextCauses (h .to) (s .counters .own) (h .channel) taken) refl)
+      (λ y n q e.
+      let from = from-site (arrival-clear (handedOk s lists) room (messageOk (s .house) m) z .formed) in
+      ⊎-elim (λ (g : n ≡ reason.stage). absurd (omega arith)) (λ (g : (n ≡ reason.spent) × CountEnds (s .house) s). absurd (omega (arith, g .0)))
+      (kind-goes s (handed-site s lists ok) h from lists (messageEntries m) (placeOf (s .live) (h .tx)) n q)))
+
+  -- the next of its channel
+  pub next-held : (room : ℕ) → sizes.outgoing ≤ room → messageOk (s .house) m ≡ true → messageHead m .to ≡ s .counters .own
+      → messageHead m .channel ≡ getD (s .channels .taken) (messageHead m .from - 1) 0 + 1
+      → Refuses (λ n. (n ≡ reason.stage) ⊎ ((n ≡ reason.spent) × CountEnds (s .house) s)) (messageOf s room lists m .answer)
+  unfolding messageOf messageAt arrivalCode nextCode
+  next-held room long formed here next =
+      rw (ok, formed, le-ltb room sizes.outgoing long, eq-eqb _ _ here, eq-eqb _ _ next)
+      (kind-goes s (handed-site s lists ok) (messageHead m) (from-site formed) lists (messageEntries m) (placeOf (s .live) (messageHead m .tx)))

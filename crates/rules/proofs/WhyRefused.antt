@@ -72,15 +72,15 @@ Only X n = n ≡ reason.malformed → X
 never : {X : Type 0} → false ≡ true → X
 never e = absurd (set-not false e refl)
 
-fails : (b : Bool) → pick (not b) true false ≡ true → b ≡ false
+pub fails : (b : Bool) → pick (not b) true false ≡ true → b ≡ false
 fails true e = absurd (set-not false e refl)
 fails false e = refl
 
 -- a number of its own
-other : {X : Type 0} (l : List Cause) → heldAs reason.malformed l ≡ false → Only X (codeOf l)
+pub other : {X : Type 0} (l : List Cause) → heldAs reason.malformed l ≡ false → Only X (codeOf l)
 other l n e = absurd (set-not _ (code-held reason.malformed l (λ z. omega arith) e) n)
 
-held : (l : List Cause) → codeOf l ≡ reason.malformed → heldAs reason.malformed l ≡ true
+pub held : (l : List Cause) → codeOf l ≡ reason.malformed → heldAs reason.malformed l ≡ true
 held l e = code-held reason.malformed l (λ z. omega arith) e
 
 module _ (s : Site) (ok : siteOk s ≡ true) where
