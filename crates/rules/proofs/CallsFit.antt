@@ -25,7 +25,7 @@ use Rattle.rules.specs.Keys.{keysOk, wroteKey, readKey, withRead, withWr
 use Rattle.rules.specs.Live.{placeOf, freePlace, stageAt, keyHeld}
 use Rattle.rules.specs.History.{isForgotten, isNewer}
 use Rattle.rules.specs.Valid.{siteOk, listAt, countersOk, handedOk}
-use Rattle.rules.specs.ValidLaws.{ValidKeys, valid-site, valid-keys, counters-own, counters-serial}
+use Rattle.rules.specs.ValidLaws.{ValidKeys, ValidSite, counters-own, counters-serial}
 use Rattle.rules.specs.Effect.{Effect, turnAt}
 use Rattle.rules.specs.Course.{newSub, quietly, withSubOf}
 use Rattle.rules.specs.Begin.{nextTx, beginCode, begun, beginOf, begin-clear}
@@ -39,12 +39,14 @@ use Rattle.rules.proofs.RefineMail.{none}
 use Rattle.rules.proofs.ValidMade.{site-mask, keys-made, keys-back, no-keys, site-tests}
 use Rattle.rules.proofs.CourseFits.{new-fits}
 use Rattle.rules.proofs.StepsFit.{Fits, TurnFits, ChangeFits, quietly-fits}
-use Rattle.rules.proofs.SitesFit.{EffectFits, site-ok, part-at, held-tx, old-fits, changed-fits, unless-fits}
+use Rattle.rules.proofs.SitesFit.{Sound, EffectFits, site-ok, site-valid, part-at, old-fits, changed-fits, unless-fits}
 
 -- Begin: one serial more, and a transaction of this site.
 serial-fits : (o : House) (c : Counters) (n : ℕ) → countersOk o c ≡ true → n ≤ sizes.lastSerial → countersOk o (withSerial c n) ≡ true
 unfolding countersOk
-serial-fits o c n e h = rw (le-leb n sizes.lastSerial h) (rw (le-leb (c .serial) sizes.lastSerial (omega (arith, counters-serial o c e))) at e)
+serial-fits o c n e h =
+    let old = le-leb (c .serial) sizes.lastSerial (omega (arith, counters-serial o c e)) in
+    rw (le-leb n sizes.lastSerial h) (rw old at e)
 
 next-possible : (o : House) (c : Counters) → isSite o (c .own) ≡ true → c .serial < sizes.lastSerial → isTx o (nextTx c) ≡ true
 unfolding isTx nextTx
@@ -53,128 +55,124 @@ next-possible o c e h =
     rw (tx-coordinator (c .own) n (omega arith), tx-serial (c .own) n (omega arith), e, le-leb 1 n (omega arith))
 
 -- a part that begins: no reply yet, and no keys
-pub new-part : (s : Site) (es : List ℕ) (c : Counters) (t mask : ℕ) → siteOk s ≡ true → c .own ≡ s .counters .own → c .installs ≡ s .counters .installs
-    → countersOk (s .house) c ≡ true → isMask (s .house) mask ≡ true → isTx (s .house) t ≡ true → Fits s es c (newSub t mask (s .counters .installs))
+pub new-part : (s : Site) (es : List ℕ) (c : Counters) (t mask : ℕ) → ValidSite s → c .own ≡ s .counters .own
+    → c .installs ≡ s .counters .installs → countersOk (s .house) c ≡ true → isMask (s .house) mask ≡ true → isTx (s .house) t ≡ true
+    → Fits s es c (newSub t mask (s .counters .installs))
 unfolding newSub
-new-part s es c t mask ok own installs counters m tx =
+new-part s es c t mask v own installs counters m tx =
     record {
       own = own;
       installs = installs;
       counters = counters;
-      course = new-fits (s .house) (s .counters .own) (valid-site s ok .house) t mask (s .counters .installs) m;
+      course = new-fits (s .house) (s .counters .own) (v .house) t mask (s .counters .installs) m;
       keys = no-keys (s .house) (s .counters .own);
       tx = λ n. tx;
       entries = λ i h. absurd (omega arith);
     }
 
--- Keys of this site.
-key-more : (o : House) (own k n : ℕ) (keys : List ℕ) → n < length keys → siteOf o k ≡ own → ((j : ℕ) → j < n → siteOf o (getD keys j 0) ≡ own)
-    → (j : ℕ) → j < n + 1 → siteOf o (getD (set keys n k) j 0) ≡ own
+-- Keys of this site: one more among the first n.
+key-more : (o : House) (own k n : ℕ) (keys : List ℕ) → n < length keys → siteOf o k ≡ own
+    → ((j : ℕ) → j < n → siteOf o (getD keys j 0) ≡ own) → (j : ℕ) → j < n + 1 → siteOf o (getD (set keys n k) j 0) ≡ own
 key-more o own k n keys low e old j h =
     by-same j n
     (λ z. rw (z, getD-set-same keys n k 0 low) e)
     (λ z. rw (getD-set-other keys n j k 0 z) (old j (above j n (omega arith) z)))
 
-read-keys : (o : House) (own k : ℕ) (b : Keys) → ValidKeys o own b → Sized b → siteOf o k ≡ own → (readKey b k ≡ false → b .read < sizes.reads)
-    → keysOk o own (withRead b k) ≡ true
-unfolding withRead
-read-keys o own k b v z e room =
-    by-test (readKey b k)
-    (λ t. rw t (keys-back o own b v))
-    (λ t. rw t
-    (keys-made o own _ (omega (arith, room t)) (v .few-wrote) (key-more o own k (b .read) (b .reads) (omega (arith, room t, z .reads-size)) e (v .read-here)) (v .wrote-here)))
+module _ (o : House) (own k : ℕ) (b : Keys) (v : ValidKeys o own b) (z : Sized b) (here : siteOf o k ≡ own) where
+  read-keys : (readKey b k ≡ false → b .read < sizes.reads) → keysOk o own (withRead b k) ≡ true
+  unfolding withRead
+  read-keys room =
+      by-test (readKey b k)
+      (λ t. rw t (keys-back o own b v))
+      (λ t. rw t
+      (let more = key-more o own k (b .read) (b .reads) (omega (arith, room t, z .reads-size)) here (v .read-here) in
+      keys-made o own _ (omega (arith, room t)) (v .few-wrote) more (v .wrote-here)))
 
-write-keys : (o : House) (own k : ℕ) (w : Value) (b : Keys) → ValidKeys o own b → Sized b → siteOf o k ≡ own → (wroteKey b k ≡ false → b .wrote < sizes.writes)
-    → keysOk o own (withWrite b k w) ≡ true
-unfolding withWrite
-write-keys o own k w b v z e room =
-    by-test (wroteKey b k)
-    (λ t. rw t (keys-made o own _ (v .few-read) (v .few-wrote) (v .read-here) (v .wrote-here)))
-    (λ t. rw t
-    (keys-made o own _ (v .few-read) (omega (arith, room t)) (v .read-here) (key-more o own k (b .wrote) (b .writes) (omega (arith, room t, z .writes-size)) e (v .wrote-here))))
+  write-keys : (w : Value) → (wroteKey b k ≡ false → b .wrote < sizes.writes) → keysOk o own (withWrite b k w) ≡ true
+  unfolding withWrite
+  write-keys w room =
+      by-test (wroteKey b k)
+      (λ t. rw t (keys-made o own _ (v .few-read) (v .few-wrote) (v .read-here) (v .wrote-here)))
+      (λ t. rw t
+      (let more = key-more o own k (b .wrote) (b .writes) (omega (arith, room t, z .writes-size)) here (v .wrote-here) in
+      keys-made o own _ (v .few-read) (omega (arith, room t)) (v .read-here) more))
 
-module _ (s : Site) (lists : List ℕ) (ok : handedOk s lists ≡ true) {row : ℕ → Sub} (l : LiveIs (s .live) row) where
-  abbrev valid : siteOk s ≡ true
-  valid = site-ok s lists ok l
+module _ {s : Site} {lists : List ℕ} (y : Sound s lists) where
+  abbrev o : House
+  o = s .house
+
+  abbrev own : ℕ
+  own = s .counters .own
 
   pub begin-fits : EffectFits s (beginOf s) lists
   unfolding beginOf begun
   begin-fits =
       let place = freePlace (s .live) in
-      unless-fits s lists ok l (beginCode (siteOk s) (s .counters) place) [] _
+      let n = s .counters .serial + 1 in
+      let counters = site-tests s (site-ok y) .counters in
+      let here = counters-own o (s .counters) counters in
+      unless-fits y (beginCode (siteOk s) (s .counters) place) [] _
       (λ z.
       let c = begin-clear (siteOk s) (s .counters) place z in
-      let counters = site-tests s valid .counters in
-      let own = counters-own (s .house) (s .counters) counters in
-      changed-fits s lists ok l place (c .free) _ []
+      changed-fits y place (c .free) _ []
       (record {
-        turn = new-part s (listAt lists place) (withSerial (s .counters) (s .counters .serial + 1)) (nextTx (s .counters)) (maskOf (s .counters .own)) valid refl refl
-            (serial-fits (s .house) (s .counters) (s .counters .serial + 1) counters (omega (arith, c .unspent)))
-            (site-mask (s .house) (s .counters .own) own) (next-possible (s .house) (s .counters) own (c .unspent));
+        turn = new-part s (listAt lists place) (withSerial (s .counters) n) (nextTx (s .counters)) (maskOf own) (site-valid y) refl refl
+            (serial-fits o (s .counters) n counters (omega (arith, c .unspent)))
+            (site-mask o own here) (next-possible o (s .counters) here (c .unspent));
         words = none;
       }))
 
-  -- a held part with other keys
-  module _ (t : ℕ) (h : placeOf (s .live) t < sizes.live) where
+  -- The part of t with other keys.
+  module _ (t : ℕ) (low : placeOf (s .live) t < sizes.live) where
     abbrev place : ℕ
     place = placeOf (s .live) t
 
     keys-sized : Sized (subAt s place .keys)
-    keys-sized = let (q, f, e) = place-held l t h in rw q (l .sized t f)
+    keys-sized = let (q, f, e) = place-held (y .live) t low in rw q (y .live .sized t f)
 
-    keys-valid : ValidKeys (s .house) (s .counters .own) (subAt s place .keys)
-    keys-valid = part-at s lists ok l place h .keys
-
-    keys-turn : (b : Keys) → keysOk (s .house) (s .counters .own) b ≡ true → TurnFits s (listAt lists place) (withSubOf (turnAt s place) (withKeys (subAt s place) b))
+    keys-turn : (b : Keys) → keysOk o own b ≡ true → TurnFits s (listAt lists place) (withSubOf (turnAt s place) (withKeys (subAt s place) b))
     unfolding turnAt
     keys-turn b e =
-        let x = old-fits s lists ok l place h (held-tx s lists ok l t h .0) in
+        let x = old-fits y t low in
         record { own = x .own; installs = x .installs; counters = x .counters; course = x .course; keys = e; tx = x .tx; entries = x .entries }
 
-  same-fits : (e : Effect) → e .site ≡ s → e .words ≡ [] → EffectFits s e lists
-  same-fits e a b = record { handed = rw a ok; words = rw b none }
+    version-fits : (base : List Value) (k : ℕ) → siteOf o k ≡ own → (readKey (subAt s place .keys) k ≡ false → subAt s place .keys .read < sizes.reads)
+        → EffectFits s (readVersion s base place k) lists
+    unfolding readVersion
+    version-fits base k here room =
+        let b = subAt s place .keys in
+        let more = read-keys o own k b (part-at y place low .keys) keys-sized here room in
+        changed-fits y place low _ [] (record { turn = keys-turn (withRead b k) more; words = none })
+
+    written-fits : (k : ℕ) (v : Value) → siteOf o k ≡ own → (wroteKey (subAt s place .keys) k ≡ false → subAt s place .keys .wrote < sizes.writes)
+        → EffectFits s (written s place k v) lists
+    unfolding written
+    written-fits k v here room =
+        let b = subAt s place .keys in
+        let more = write-keys o own k b (part-at y place low .keys) keys-sized here v room in
+        changed-fits y place low _ [] (quietly-fits s (listAt lists place) _ (keys-turn (withWrite b k v) more))
 
   pub read-fits : (base : List Value) (t k : ℕ) → EffectFits s (readOf s base t k) lists
-  unfolding readOf readAt readVersion
+  unfolding readOf readAt
   read-fits base t k =
       let place = placeOf (s .live) t in
       let b = subAt s place in
-      unless-fits s lists ok l (accessCode (siteOk s) (length base) (s .house) (s .counters .own) k place (stageAt (s .live) place)) [] _
+      unless-fits y (accessCode (siteOk s) (length base) o own k place (stageAt (s .live) place)) [] _
       (λ z.
       let c = access-clear _ _ _ _ _ _ _ z in
       by-test (wroteKey (b .keys) k)
-      (λ e. rw e (same-fits _ refl refl))
+      (λ e. rw e (record { handed = y .handed; words = none }))
       (λ e. rw e
-      (unless-fits s lists ok l (readCode (isForgotten (s .counters .installs) (b .snapshot)) (readKey (b .keys) k) (b .keys .read)) [] _
-      (λ y.
-      let r = read-clear _ _ _ y in
-      changed-fits s lists ok l place (c .held) _ []
-      (record {
-        turn = keys-turn t (c .held) (withRead (b .keys) k) (read-keys (s .house) (s .counters .own) k (b .keys) (keys-valid t (c .held)) (keys-sized t (c .held)) (c .here) (r .room));
-        words = none;
-      })))))
-
-  written-fits : (t k : ℕ) (v : Value) → placeOf (s .live) t < sizes.live → siteOf (s .house) k ≡ s .counters .own
-      → (wroteKey (subAt s (placeOf (s .live) t) .keys) k ≡ false → subAt s (placeOf (s .live) t) .keys .wrote < sizes.writes)
-      → EffectFits s (written s (placeOf (s .live) t) k v) lists
-  unfolding written
-  written-fits t k v h e room =
-      let place = placeOf (s .live) t in
-      let b = subAt s place .keys in
-      changed-fits s lists ok l place h _ []
-      (quietly-fits s (listAt lists place) _
-      (keys-turn t h (withWrite b k v) (write-keys (s .house) (s .counters .own) k v b (keys-valid t h) (keys-sized t h) e room)))
+      (unless-fits y (readCode (isForgotten (s .counters .installs) (b .snapshot)) (readKey (b .keys) k) (b .keys .read)) [] _
+      (λ r. version-fits t (c .held) base k (c .here) (read-clear _ _ _ r .room)))))
 
   pub write-fits : (t k : ℕ) (v : Value) → EffectFits s (writeOf s t k v) lists
   unfolding writeOf writeAt writeCodeAt
   write-fits t k v =
       let place = placeOf (s .live) t in
-      let b = subAt s place in
-      unless-fits s lists ok l (accessCode (siteOk s) sizes.keys (s .house) (s .counters .own) k place (stageAt (s .live) place)) [] _
+      unless-fits y (accessCode (siteOk s) sizes.keys o own k place (stageAt (s .live) place)) [] _
       (λ z.
       let c = access-clear _ _ _ _ _ _ _ z in
-      by-test (wroteKey (b .keys) k)
-      (λ e. rw e (written-fits t k v (c .held) (c .here) (λ f. absurd (set-not _ e f))))
-      (λ e. rw e
-      (unless-fits s lists ok l (writeCodeAt s place k) [] _
-      (λ y. written-fits t k v (c .held) (c .here) (λ f. write-clear _ _ _ _ y .room)))))
+      by-test (wroteKey (subAt s place .keys) k)
+      (λ e. rw e (written-fits t (c .held) k v (c .here) (λ f. absurd (set-not _ e f))))
+      (λ e. rw e (unless-fits y (writeCodeAt s place k) [] _ (λ r. written-fits t (c .held) k v (c .here) (λ f. write-clear _ _ _ _ r .room)))))

@@ -31,7 +31,7 @@ use Rattle.rules.specs.History.{isForgotten}
 use Rattle.rules.specs.Join.{joined}
 use Rattle.rules.specs.Certify.{concurrent, voteOf}
 use Rattle.rules.specs.Valid.{siteOk, listAt, countersOk, handedOk}
-use Rattle.rules.specs.ValidLaws.{valid-site, handed-length}
+use Rattle.rules.specs.ValidLaws.{ValidSite}
 use Rattle.rules.specs.Effect.{Change, Effect, changed, unless}
 use Rattle.rules.specs.Course.{newSub, raise, withSubOf, withCourseOf, isOutstanding, withReply, withDecision, sendTo, quietly}
 use Rattle.rules.specs.CallLaws.{arrival-clear, next-clear, reply-clear}
@@ -39,30 +39,32 @@ use Rattle.rules.specs.Deliver.{arrivalCode, nextCode, arrived, passed, 
 use Rattle.rules.specs.DeliverLaws.{conc-room}
 use Rattle.rules.specs.MergerWords.{length-put}
 use Rattle.rules.proofs.Masks.{outstanding-unheard}
-use Rattle.rules.proofs.Refines.{IsFree, LiveIs}
+use Rattle.rules.proofs.Refines.{IsFree}
 use Rattle.rules.proofs.RefineStep.{by-code}
 use Rattle.rules.proofs.RefineMail.{none}
 use Rattle.rules.proofs.ValidMade.{none-mask, site-tests, site-made, handed-made, handed-lists}
 use Rattle.rules.proofs.EntriesMade.{AllPossible, carried-possible, list-carried, join-carried, others-possible, more-possible}
 use Rattle.rules.proofs.CourseFits.{decision-fits, reply-fits}
 use Rattle.rules.proofs.StepsFit.{Fits, TurnFits, ChangeFits, Leads, Replies, votes-so, may-unknown, raise-fits, quietly-fits, list-turn, course-turn, gone-turn, joined-fits, vote-fits, cast-fits, reply-turn, ballot-fits, prepared-fits, certified-fits}
-use Rattle.rules.proofs.SitesFit.{EffectFits, site-ok, part-at, held-tx, old-fits, old-possible, settled-lists, changed-fits, refused-fits, unless-fits}
+use Rattle.rules.proofs.SitesFit.{Sound, EffectFits, site-ok, site-valid, lists-long, part-at, few-listed, old-possible, held-there, tx-there, tx-possible, old-fits, settled-handed, changed-fits, refused-fits, unless-fits}
 use Rattle.rules.proofs.CallsFit.{new-part}
-use Rattle.rules.proofs.RequestsFit.{few-listed}
 
 -- with the lists as they were
 keeping-fits : (s : Site) (lists : List ℕ) (e : Effect) → EffectFits s e lists → EffectFits s (keeping lists e) lists
 keeping-fits s lists e x = record { handed = x .handed; words = x .words }
 
-module _ (s : Site) (lists : List ℕ) (ok : handedOk s lists ≡ true) {row : ℕ → Sub} (l : LiveIs (s .live) row) where
+module _ {s : Site} {lists : List ℕ} (y : Sound s lists) where
   abbrev o : House
   o = s .house
 
   abbrev here : ℕ
   here = s .counters .own
 
-  abbrev valid : siteOk s ≡ true
-  valid = site-ok s lists ok l
+  abbrev valid : ValidSite s
+  valid = site-valid y
+
+  abbrev counters-ok : countersOk o (s .counters) ≡ true
+  counters-ok = site-tests s (site-ok y) .counters
 
   -- with the lists that it lends back
   abbrev Left : Effect → Type 0
@@ -72,10 +74,10 @@ module _ (s : Site) (lists : List ℕ) (ok : handedOk s lists ≡ true) {row : �
   counted : (c : Counters) (d : Channels) → c .own ≡ here → c .installs ≡ s .counters .installs → countersOk o c ≡ true
       → handedOk (record { house = o; counters = c; channels = d; live = s .live; history = s .history }) lists ≡ true
   counted c d own installs e =
-      let old = site-tests s valid in
-      handed-made _ lists (handed-length s lists ok)
+      let old = site-tests s (site-ok y) in
+      handed-made _ lists (lists-long y)
       (site-made _ (record { house = old .house; counters = e; live = rw own (old .live); history = rw (own, installs) (old .history) }))
-      (handed-lists s lists ok)
+      (handed-lists s lists (y .handed))
 
   spoken-fits : (es : List ℕ) (c : Change) → ChangeFits s es c → EffectFits s (spoken s c) lists
   unfolding spoken
@@ -83,7 +85,7 @@ module _ (s : Site) (lists : List ℕ) (ok : handedOk s lists ≡ true) {row : �
 
   passed-fits : (a : ℕ) → EffectFits s (passed s a) lists
   unfolding passed
-  passed-fits a = record { handed = counted _ _ refl refl (site-tests s valid .counters); words = none }
+  passed-fits a = record { handed = counted _ _ refl refl counters-ok; words = none }
 
   -- A message that passed the check, to this site.
   module _ (h : MessageHead) (es : List ℕ) (good : GoodMessage o h es) (to : h .to ≡ here) where
@@ -104,7 +106,7 @@ module _ (s : Site) (lists : List ℕ) (ok : handedOk s lists ≡ true) {row : �
     -- JOIN
     join-turn : (es : List ℕ) → TurnFits s es (joinTurn s h)
     unfolding joinTurn
-    join-turn es = new-part s es (s .counters) (h .tx) 0 valid refl refl (site-tests s valid .counters) (none-mask o) (clear .ends .tx)
+    join-turn es = new-part s es (s .counters) (h .tx) 0 valid refl refl counters-ok (none-mask o) (clear .ends .tx)
 
     join-replies : coordinatorOf (h .tx) ≡ h .from → Replies s (joinTurn s h) (h .from)
     unfolding joinTurn newSub
@@ -115,10 +117,10 @@ module _ (s : Site) (lists : List ℕ) (ok : handedOk s lists ≡ true) {row : �
     take-join place k =
         let free = freePlace (s .live) in
         let r = join-replies (from-coordinator k refl) in
-        unless-fits s lists ok l (replyCode (leb sizes.live place) (spentTo s (h .from))) [] _
+        unless-fits y (replyCode (leb sizes.live place) (spentTo s (h .from))) [] _
         (λ z. by-test (ltb free sizes.live)
-        (λ e. rw e (changed-fits s lists ok l free (ltb-true _ _ e) _ [] (joined-fits s valid (listAt lists free) (joinTurn s h) (join-turn _) (h .from) r 0 (inl refl))))
-        (λ e. rw e (spoken-fits [] _ (joined-fits s valid [] (joinTurn s h) (join-turn []) (h .from) r reason.full (inr refl)))))
+        (λ e. rw e (changed-fits y free (ltb-true _ _ e) _ [] (joined-fits valid (join-turn (listAt lists free)) r 0 (inl refl))))
+        (λ e. rw e (spoken-fits [] _ (joined-fits valid (join-turn []) r reason.full (inr refl)))))
 
     -- for a transaction not held
     take-other : Left (takeOther (h .kind) s h lists)
@@ -128,11 +130,11 @@ module _ (s : Site) (lists : List ℕ) (ok : handedOk s lists ≡ true) {row : �
         (λ e. rw e
         (let t = raise (joinTurn s h) (h .clock) in
         let r = join-replies (from-coordinator (eqb-true _ _ e) refl) in
+        let on : Replies s t (h .from) = record { tx = r .tx; theirs = r .theirs; site = r .site; apart = r .apart } in
         keeping-fits s lists _
-        (unless-fits s lists ok l (replyCode true (spentTo s (h .from))) [] _
+        (unless-fits y (replyCode true (spentTo s (h .from))) [] _
         (λ z. spoken-fits [] _
-        (vote-fits s valid [] t (raise-fits s [] (joinTurn s h) (h .clock) (join-turn [])) (h .from)
-        (record { tx = r .tx; theirs = r .theirs; site = r .site; apart = r .apart }) (t .counters .clock) reason.unknown (may-unknown o))))))
+        (vote-fits valid (raise-fits s [] (joinTurn s h) (h .clock) (join-turn [])) on (t .counters .clock) reason.unknown (may-unknown o))))))
         (λ e. rw e (keeping-fits s lists _ (passed-fits (h .from))))
 
     -- For one that is held.
@@ -147,23 +149,23 @@ module _ (s : Site) (lists : List ℕ) (ok : handedOk s lists ≡ true) {row : �
       turn = arrived s place (h .from)
 
       held : IsFree (subAt s place) → ⊥
-      held = held-tx s lists ok l (h .tx) low .0
+      held = held-there y (h .tx) low
 
       possible : isTx o (subAt s place .tx) ≡ true
-      possible = part-at s lists ok l place low .tx held
+      possible = tx-possible y (h .tx) low
 
       fits : TurnFits s gathered turn
       unfolding arrived
-      fits = old-fits s lists ok l place low held
+      fits = old-fits y (h .tx) low
 
       leads : coordinatorOf (h .tx) ≡ here → Leads s turn
       unfolding arrived
-      leads e = record { tx = possible; mine = ap coordinatorOf (held-tx s lists ok l (h .tx) low .1) ∙ e }
+      leads e = record { tx = possible; mine = ap coordinatorOf (tx-there y (h .tx) low) ∙ e }
 
       replies : coordinatorOf (h .tx) ≡ h .from → Replies s turn (h .from)
       unfolding arrived
       replies e =
-          record { tx = possible; theirs = ap coordinatorOf (held-tx s lists ok l (h .tx) low .1) ∙ e; site = clear .ends .from; apart = λ z. apart (sym z) }
+          record { tx = possible; theirs = ap coordinatorOf (tx-there y (h .tx) low) ∙ e; site = clear .ends .from; apart = λ z. apart (sym z) }
 
       -- the same after its clock is raised
       abbrev raised : Turn
@@ -182,43 +184,43 @@ module _ (s : Site) (lists : List ℕ) (ok : handedOk s lists ≡ true) {row : �
 
       -- a step at its place, or its refusal
       step-fits : (inTurn spent : Bool) (c : Change) → ChangeFits s gathered c → EffectFits s (keeping lists (stepUnless (replyCode inTurn spent) s place c)) lists
-      step-fits inTurn spent c x = keeping-fits s lists _ (unless-fits s lists ok l (replyCode inTurn spent) [] _ (λ z. changed-fits s lists ok l place low c [] x))
+      step-fits inTurn spent c x = keeping-fits s lists _ (unless-fits y (replyCode inTurn spent) [] _ (λ z. changed-fits y place low c [] x))
 
       take-joined : h .kind ≡ kind.joined → EffectFits s (keeping lists (takeJoined s h place)) lists
       unfolding takeJoined toCoordinator
       take-joined k =
           step-fits _ _ _
-          (quietly-fits s gathered (withCourseOf turn (withReply (turn .sub .course) (h .from) (h .argument) 0)) (reply-turn s valid gathered turn fits (leads (to-coordinator k refl)) (h .from) (h .argument) (clear .ends .from) apart))
+          (quietly-fits s gathered (withCourseOf turn (withReply (turn .sub .course) (h .from) (h .argument) 0)) (reply-turn valid fits (leads (to-coordinator k refl)) (h .from) (h .argument) (clear .ends .from) apart))
 
       take-prepare : h .kind ≡ kind.prepare → EffectFits s (keeping lists (takePrepare s h place)) lists
       unfolding takePrepare toCoordinator argumentOk
       take-prepare k =
           let a = every-at (isMask o (h .argument) ∷ inMask (h .argument) (h .from) ∷ inMask (h .argument) (h .to) ∷ []) 0 (rw k at (clear .argument)) in
           step-fits _ _ _
-          (prepared-fits s valid gathered raised raised-fits (h .from) (raised-replies (replies (from-coordinator k refl))) (h .argument) _ (concurrent s place) a (list-carried s valid place low))
+          (prepared-fits valid raised-fits (raised-replies (replies (from-coordinator k refl))) (h .argument) _ (concurrent s place) a (list-carried s (site-ok y) place low))
 
       take-cert : h .kind ≡ kind.cert → EffectFits s (keeping lists (takeCert s h es place)) lists
       unfolding takeCert toCoordinator
       take-cert k =
           step-fits _ _ _
-          (certified-fits s valid gathered turn fits (h .from) (replies (from-coordinator k refl)) _ (votes-so o s place es (h .count)))
+          (certified-fits valid fits (replies (from-coordinator k refl)) _ (votes-so o s place es (h .count)))
 
       take-vote : h .kind ≡ kind.vote → EffectFits s (keeping lists (takeVote s h place)) lists
       unfolding takeVote toCoordinator
       take-vote k =
           step-fits _ _ _
-          (ballot-fits s valid gathered raised raised-fits (raised-leads (leads (to-coordinator k refl))) (h .from) (h .argument) (clear .ends .from) apart)
+          (ballot-fits valid raised-fits (raised-leads (leads (to-coordinator k refl))) (h .from) (h .argument) (clear .ends .from) apart)
 
       take-commit : EffectFits s (keeping lists (takeCommit s h place)) lists
       unfolding takeCommit raise arrived withDecision
       take-commit =
           step-fits _ _ _
           (quietly-fits s gathered (withCourseOf raised (withDecision (subAt s place .course) (h .clock)))
-          (course-turn s valid gathered raised raised-fits _ possible (decision-fits o here (valid-site s valid .house) (subAt s place .course) (fits .course) (h .clock)) (fits .entries)))
+          (course-turn valid raised raised-fits _ possible (decision-fits o here (valid .house) (subAt s place .course) (fits .course) (h .clock)) (fits .entries)))
 
       take-abort : EffectFits s (keeping lists (takeAbort s h place)) lists
       unfolding takeAbort
-      take-abort = step-fits _ _ _ (quietly-fits s gathered (withSubOf turn noSub) (gone-turn s valid gathered turn fits))
+      take-abort = step-fits _ _ _ (quietly-fits s gathered (withSubOf turn noSub) (gone-turn valid turn fits))
 
       -- CONC: behind what is gathered, and the last brings the vote on their join
       module _ (k : h .kind ≡ kind.conc) (inTurn : concInTurn (subAt s place .course) (h .from) ≡ true) where
@@ -235,8 +237,8 @@ module _ (s : Site) (lists : List ℕ) (ok : handedOk s lists ≡ true) {row : �
         room : subAt s place .course .listed + h .count ≤ sizes.certEntries
         room =
             let b = site-clear o (h .from) (clear .ends .from) in
-            let v = valid-site s valid .house in
-            conc-room o here (h .from) (h .count) (subAt s place .course) v (part-at s lists ok l place low .course) (b .low) (omega (arith, b .high, v .few-sites)) apart inTurn few
+            let v = valid .house in
+            conc-room o here (h .from) (h .count) (subAt s place .course) v (part-at y place low .course) (b .low) (omega (arith, b .high, v .few-sites)) apart inTurn few
 
         entries : AllPossible o es (h .count)
         entries i m = carried-possible o es i (all-below-at (entryOk o es) (h .count) i (good .entries) m)
@@ -244,35 +246,36 @@ module _ (s : Site) (lists : List ℕ) (ok : handedOk s lists ≡ true) {row : �
         stands : AllPossible o (listAt after place) (subAt s place .course .listed + h .count)
         unfolding gatherLists
         stands =
-            more-possible o lists es (sizes.gathered * place + sizes.entry * subAt s place .course .listed) place (handed-length s lists ok) low (omega arith)
-            (omega (arith, good .size, room)) (subAt s place .course .listed) (h .count) refl (good .size) (old-possible s lists ok l place low held) entries
+            more-possible o lists es (sizes.gathered * place + sizes.entry * subAt s place .course .listed) place (lists-long y) low (omega arith)
+            (omega (arith, good .size, room)) (subAt s place .course .listed) (h .count) refl (good .size) (old-possible y place low held) entries
 
         conc-turn : TurnFits s (listAt after place) (withCourseOf turn course)
         unfolding arrived withReply concInTurn
         conc-turn =
             let b = subAt s place .course in
             let unheard = outstanding-unheard b (h .from) (every-at (eqb (b .stage) stage.prepared ∷ isOutstanding b (h .from) ∷ []) 1 inTurn) in
-            list-turn s valid gathered turn fits (listAt after place) course possible
-            (reply-fits o here (valid-site s valid .house) b (fits .course) (h .from) 0 (h .count) (clear .ends .from) apart (inr (unheard, few))) stands
+            list-turn valid turn fits (listAt after place) course possible
+            (reply-fits o here (valid .house) b (fits .course) (h .from) 0 (h .count) (clear .ends .from) apart (inr (unheard, few))) stands
 
         conc-change : ChangeFits s (listAt after place) (gatherChange s h place after)
         unfolding gatherChange toCoordinator withReply
         conc-change =
             let x = leads (to-coordinator k refl) in
+            let on : Leads s (withCourseOf turn course) = record { tx = x .tx; mine = x .mine } in
             let joint = join-carried o (listAt after place) (course .listed) (conc-turn .entries) sizes.certEntries room in
             by-test (allHeard here (course .heard) (course .mask))
-            (λ e. rw e (cast-fits s valid (listAt after place) (withCourseOf turn course) conc-turn (record { tx = x .tx; mine = x .mine }) _ _ joint))
+            (λ e. rw e (cast-fits valid conc-turn on _ _ joint))
             (λ e. rw e (quietly-fits s (listAt after place) _ conc-turn))
 
         conc-fits : EffectFits s (changed s place (gatherChange s h place after) after) after
         unfolding gatherLists
         conc-fits =
-            let n = handed-length s lists ok in
+            let n = lists-long y in
             let at = sizes.gathered * place + sizes.entry * subAt s place .course .listed in
             let fit : at + length es ≤ sizes.gathered * place + sizes.gathered = omega (arith, good .size, room) in
             record {
-              handed = settled-lists s lists ok l place low _ (listAt after place) (conc-change .turn) after refl (length-put at lists es (omega arith) ∙ n)
-                  (λ j m a f. others-possible o lists es at place n low (omega arith) fit j _ a (few-listed s lists ok l j m) (old-possible s lists ok l j m f));
+              handed = settled-handed y place low _ (conc-change .turn) after refl (length-put at lists es (omega arith) ∙ n)
+                  (λ j m a f. others-possible o lists es at place n low (omega arith) fit j _ a (few-listed y j m) (old-possible y j m f));
               words = conc-change .words;
             }
 
@@ -282,7 +285,7 @@ module _ (s : Site) (lists : List ℕ) (ok : handedOk s lists ≡ true) {row : �
           let b = subAt s place .course in
           let c = withReply b (h .from) 0 (h .count) in
           by-code Left (replyCode (concInTurn b (h .from)) (every (allHeard here (c .heard) (c .mask) ∷ spentToAll s (b .mask) ∷ []))) s lists _
-          (λ z. conc-fits k (reply-clear _ _ z .turn)) (refused-fits s lists ok l _ lists)
+          (λ z. conc-fits k (reply-clear _ _ z .turn)) (refused-fits y _ lists)
 
       take-held : Left (takeHeld (h .kind) s h es lists place)
       unfolding takeHeld
@@ -319,5 +322,5 @@ module _ (s : Site) (lists : List ℕ) (ok : handedOk s lists ≡ true) {row : �
       (λ z.
       by-code Left (nextCode (h .to) here (h .channel) (getD (s .channels .taken) (h .from - 1) 0)) s lists _
       (λ y. take-kind h (messageEntries m) (passed-good o m (arrival-clear _ _ _ z .formed)) (next-clear _ _ _ _ y .here))
-      (refused-fits s lists ok l _ lists))
-      (refused-fits s lists ok l _ lists)
+      (refused-fits y _ lists))
+      (refused-fits y _ lists)

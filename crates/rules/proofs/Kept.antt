@@ -40,7 +40,7 @@ use Rattle.rules.proofs.RefineFresh.{started, fresh-table}
 use Rattle.rules.proofs.ValidMade.{none-mask, no-keys, sub-made, entry-made, live-made, history-made, site-made, lists-made, gathered-made, handed-made}
 use Rattle.rules.proofs.Passing.{Passes}
 use Rattle.rules.proofs.CourseFits.{none-fits}
-use Rattle.rules.proofs.SitesFit.{EffectFits}
+use Rattle.rules.proofs.SitesFit.{Sound, EffectFits}
 use Rattle.rules.proofs.CallsFit.{begin-fits, read-fits, write-fits}
 use Rattle.rules.proofs.RequestsFit.{enlist-call, commit-call, abandon-call, install-call, report-call}
 use Rattle.rules.proofs.DeliveryFits.{message-call}
@@ -146,33 +146,29 @@ module _ {sites : ℕ} {w : World} {p : Protocol} (r : Refines sites w p) (i : I
       let c : coordinatorOf t ≡ s = eqb-true _ _ mine ∙ y .counters .own-is in
       rw (course-is A, y .counters .own-is) ((rw c at (i .rounds .own t)) (A .held))
 
+  sound : (s : ℕ) → 1 ≤ s → s ≤ sites → Sound (w .site s) (w .lists s)
+  sound s a b =
+      let y = r .site s a b in
+      record { handed = k .site s a b; row = p .live s; live = y .live; history = y .history .size }
+
   pub call-keeps : (c : Call) → Kept sites (step w c .world)
   unfolding step mergeStep mergerStep replayStep copyStep
-  call-keeps (world.begin s) =
-      site-kept s _ _ _ (λ a b. begin-fits (w .site s) (w .lists s) (k .site s a b) (r .site s a b .live)) (begin-silent (w .site s))
+  call-keeps (world.begin s) = site-kept s _ _ _ (λ a b. begin-fits (sound s a b)) (begin-silent (w .site s))
   call-keeps (world.enlist s out t n) =
-      site-kept s _ _ _ (λ a b. enlist-call (w .site s) (w .lists s) (k .site s a b) (r .site s a b .live) (length out) t n)
-      (λ f. enlist-silent (w .site s) f (length out) t n)
+      site-kept s _ _ _ (λ a b. enlist-call (sound s a b) (length out) t n) (λ f. enlist-silent (w .site s) f (length out) t n)
   call-keeps (world.read s t key) =
-      site-kept s _ _ _ (λ a b. read-fits (w .site s) (w .lists s) (k .site s a b) (r .site s a b .live) (w .base s) t key)
-      (λ f. read-silent (w .site s) f (w .base s) t key)
+      site-kept s _ _ _ (λ a b. read-fits (sound s a b) (w .base s) t key) (λ f. read-silent (w .site s) f (w .base s) t key)
   call-keeps (world.write s t key v) =
-      site-kept s _ _ _ (λ a b. write-fits (w .site s) (w .lists s) (k .site s a b) (r .site s a b .live) t key v)
-      (λ f. write-silent (w .site s) f t key v)
+      site-kept s _ _ _ (λ a b. write-fits (sound s a b) t key v) (λ f. write-silent (w .site s) f t key v)
   call-keeps (world.commit s out t) =
-      site-kept s _ _ _ (λ a b. commit-call (w .site s) (w .lists s) (k .site s a b) (r .site s a b .live) (length out) t (own-masked s t a b))
+      site-kept s _ _ _ (λ a b. commit-call (sound s a b) (length out) t (own-masked s t a b))
       (λ f. commit-silent (w .site s) f (length out) (w .lists s) t)
   call-keeps (world.abandon s out t) =
-      site-kept s _ _ _ (λ a b. abandon-call (w .site s) (w .lists s) (k .site s a b) (r .site s a b .live) (length out) t)
-      (λ f. abandon-silent (w .site s) f (length out) t)
+      site-kept s _ _ _ (λ a b. abandon-call (sound s a b) (length out) t) (λ f. abandon-silent (w .site s) f (length out) t)
   call-keeps (world.message s out m) =
-      site-kept s _ _ _ (λ a b. message-call (w .site s) (w .lists s) (k .site s a b) (r .site s a b .live) (length out) m)
-      (λ f. message-silent (w .site s) f (length out) (w .lists s) m)
-  call-keeps (world.install s out) =
-      log-kept s _ _
-      (λ a b. install-call (w .site s) (w .lists s) (k .site s a b) (r .site s a b .live) (length out) (w .base s) (r .site s a b .history .size))
-  call-keeps (world.report s out) =
-      log-kept s _ _ (λ a b. report-call (w .site s) (w .lists s) (k .site s a b) (r .site s a b .live) (length out))
+      site-kept s _ _ _ (λ a b. message-call (sound s a b) (length out) m) (λ f. message-silent (w .site s) f (length out) (w .lists s) m)
+  call-keeps (world.install s out) = log-kept s _ _ (λ a b. install-call (sound s a b) (length out) (w .base s))
+  call-keeps (world.report s out) = log-kept s _ _ (λ a b. report-call (sound s a b) (length out))
   call-keeps (world.merge m) = record { site = k .site; pass = k .pass }
   call-keeps (world.emit out) = record { site = k .site; pass = k .pass }
   call-keeps (world.replay c m) = record { site = k .site; pass = k .pass }

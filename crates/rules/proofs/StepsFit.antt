@@ -1,13 +1,11 @@
 -- The steps of a part's course keep it possible, and what they write passes the check.
-use Prim.Native.Nat.{ℕ, _+_, _-_, _*_, _≤_, _<_}
-use mathlib.Core.Path.{_≡_, refl, sym, ap, _∙_}
-use mathlib.Core.Bool.{Bool, true, false}
+use Prim.Native.Nat.{ℕ, _+_, _≤_}
+use mathlib.Core.Path.{_≡_, refl, sym, _∙_}
+use mathlib.Core.Bool.{Bool, true}
 use mathlib.Core.Logic.{_⊎_, inl, ⊎-elim}
 use mathlib.Core.List.{List, []}
 use native.Mathlib.Omega.{arith}
-use native.Mathlib.Nat.{add-zero}
 use lib.Dec.{eqb, leb}
-use lib.ListN.{getD}
 use Rattle.laws.specs.Choice.{by-test}
 use Rattle.laws.specs.Scan.{anyBelow}
 use Rattle.kinds.specs.Sizes as sizes
@@ -31,9 +29,9 @@ use Rattle.rules.specs.Live.{allHeard}
 use Rattle.rules.specs.Send.{headTo}
 use Rattle.rules.specs.Certify.{conflictsWith, uncertainOf, voteOf}
 use Rattle.rules.specs.Effect.{Change}
-use Rattle.rules.specs.Course.{newSub, withSubOf, withCourseOf, raise, headOf, sendTo, sendAll, quietly, leaving, withParticipant, enlistStep, withReply, abortStep, withDecision, commitStep, decideStep, withMark, castStep, prepareStep, voteStep, withStage, preparedStep, certifiedStep}
-use Rattle.rules.specs.Valid.{courseOk, countersOk, siteOk}
-use Rattle.rules.specs.ValidLaws.{ValidHouse, valid-course, valid-site, counters-own}
+use Rattle.rules.specs.Course.{withSubOf, withCourseOf, raise, headOf, sendTo, sendAll, quietly, withParticipant, enlistStep, withReply, abortStep, withDecision, commitStep, decideStep, withMark, castStep, prepareStep, voteStep, withStage, preparedStep, certifiedStep}
+use Rattle.rules.specs.Valid.{courseOk, countersOk}
+use Rattle.rules.specs.ValidLaws.{ValidHouse, ValidSite, valid-course, counters-own}
 use Rattle.rules.proofs.RefineMail.{Made, none}
 use Rattle.rules.proofs.ValidMade.{no-keys}
 use Rattle.rules.proofs.EntriesMade.{AllPossible, Carried, carried-none}
@@ -112,7 +110,7 @@ pub quietly-fits : (s : Site) (es : List ℕ) (t : Turn) → TurnFits s es t →
 unfolding quietly
 quietly-fits s es t x = record { turn = x; words = none }
 
-module _ (s : Site) (ok : siteOk s ≡ true) (es : List ℕ) where
+module _ {s : Site} (v : ValidSite s) where
   abbrev o : House
   o = s .house
 
@@ -120,9 +118,9 @@ module _ (s : Site) (ok : siteOk s ≡ true) (es : List ℕ) where
   here = s .counters .own
 
   house : ValidHouse o here
-  house = valid-site s ok .house
+  house = v .house
 
-  module _ (t : Turn) (x : TurnFits s es t) where
+  module _ {es : List ℕ} (t : Turn) (x : TurnFits s es t) where
     own-site : isSite o (t .counters .own) ≡ true
     own-site = counters-own o (t .counters) (x .counters)
 
@@ -132,9 +130,11 @@ module _ (s : Site) (ok : siteOk s ≡ true) (es : List ℕ) where
     -- another course, also with another list
     pub list-turn : (fs : List ℕ) (c : Course) → isTx o (t .sub .tx) ≡ true → courseOk o here c ≡ true → AllPossible o fs (c .listed)
         → TurnFits s fs (withCourseOf t c)
-    list-turn fs c tx e all = record { own = x .own; installs = x .installs; counters = x .counters; course = e; keys = x .keys; tx = λ n. tx; entries = all }
+    list-turn fs c tx e all =
+        record { own = x .own; installs = x .installs; counters = x .counters; course = e; keys = x .keys; tx = λ n. tx; entries = all }
 
-    pub course-turn : (c : Course) → isTx o (t .sub .tx) ≡ true → courseOk o here c ≡ true → AllPossible o es (c .listed) → TurnFits s es (withCourseOf t c)
+    pub course-turn : (c : Course) → isTx o (t .sub .tx) ≡ true → courseOk o here c ≡ true → AllPossible o es (c .listed)
+        → TurnFits s es (withCourseOf t c)
     course-turn c tx e all = list-turn es c tx e all
 
     -- no part
@@ -151,118 +151,141 @@ module _ (s : Site) (ok : siteOk s ≡ true) (es : List ℕ) where
           entries = λ i h. absurd (omega arith);
         }
 
-    -- The coordinator's messages.
-    module _ (l : Leads s t) where
-      leads-own : coordinatorOf (t .sub .tx) ≡ t .counters .own
-      leads-own = l .mine ∙ sym (x .own)
+  -- The coordinator's messages.
+  module _ {es : List ℕ} {t : Turn} (x : TurnFits s es t) (l : Leads s t) where
+    leads-own : coordinatorOf (t .sub .tx) ≡ t .counters .own
+    leads-own = l .mine ∙ sym (x .own)
 
-      pub abort-fits : (r : ℕ) → ChangeFits s es (abortStep t r)
-      unfolding abortStep sendAll headTo headOf coordinatorEnd toCoordinator carriesClock argumentOk
-      abort-fits r =
-          record {
-            turn = gone-turn;
-            words = all-pass o t (Aborted r) kind.abort 0 0 [] own-site mask-house (l .tx) (carried-none o _)
-                (λ i h. record { low = omega arith; high = omega arith; coordinator = leads-own; clock = refl; argument = refl });
-          }
-
-      pub prepare-fits : inMask (t .sub .course .mask) here ≡ true → ChangeFits s es (prepareStep t)
-      unfolding prepareStep sendAll headTo headOf coordinatorEnd toCoordinator carriesClock argumentOk
-      prepare-fits own =
-          record {
-            turn = x;
-            words = all-pass o t Done kind.prepare (t .counters .clock) (t .sub .course .mask) [] own-site mask-house (l .tx) (carried-none o _)
-                (λ i h. record { low = omega arith; high = omega arith; coordinator = leads-own; clock = refl; argument = rw (x .own, mask-house, own, h) });
-          }
-
-      cert-fits : (fs : List ℕ) → Carried o sizes.certEntries fs → ChangeFits s es (sendAll t Done kind.cert 0 0 fs)
-      unfolding sendAll headTo headOf coordinatorEnd toCoordinator carriesClock argumentOk mostEntries
-      cert-fits fs c =
-          record {
-            turn = x;
-            words = all-pass o t Done kind.cert 0 0 fs own-site mask-house (l .tx) c
-                (λ i h. record { low = omega arith; high = omega arith; coordinator = leads-own; clock = refl; argument = refl });
-          }
-
-      commit-fits : (n : ℕ) → ChangeFits s es (sendAll t (Committed n) kind.commit n 0 [])
-      unfolding sendAll headTo headOf coordinatorEnd toCoordinator carriesClock argumentOk
-      commit-fits n =
-          record {
-            turn = x;
-            words = all-pass o t (Committed n) kind.commit n 0 [] own-site mask-house (l .tx) (carried-none o _)
-                (λ i h. record { low = omega arith; high = omega arith; coordinator = leads-own; clock = refl; argument = refl });
-          }
-
-    -- A message to one site: JOIN from the coordinator, and the replies to it.
-    pub join-fits : (a : ℕ) → Leads s t → isSite o a ≡ true → (here ≡ a → ⊥) → ChangeFits s es (sendTo t kind.join a 0 0 [])
-    unfolding sendTo headOf coordinatorEnd toCoordinator carriesClock argumentOk
-    join-fits a l h n =
-        record {
-          turn = x;
-          words = to-passes o t kind.join a 0 0 [] (record { sender = own-site; receiver = h; apart = λ z. n (sym (x .own) ∙ z); tx = l .tx })
-              (record { low = omega arith; high = omega arith; coordinator = l .mine ∙ sym (x .own); clock = refl; argument = refl }) (carried-none o _);
-        }
-
-    module _ (to : ℕ) (r : Replies s t to) where
-      between : Between o (t .counters .own) to (t .sub .tx)
-      between = record { sender = own-site; receiver = r .site; apart = λ z. r .apart (sym (x .own) ∙ z); tx = r .tx }
-
-      pub joined-fits : (v : ℕ) → (v ≡ 0) ⊎ (v ≡ reason.full) → ChangeFits s es (sendTo t kind.joined to 0 v [])
-      unfolding sendTo headOf coordinatorEnd toCoordinator carriesClock argumentOk
-      joined-fits v e =
-          record {
-            turn = x;
-            words = to-passes o t kind.joined to 0 v [] between
-                (record {
-                  low = omega arith;
-                  high = omega arith;
-                  coordinator = r .theirs;
-                  clock = refl;
-                  argument = ⊎-elim (λ (z : v ≡ 0). rw z) (λ (z : v ≡ reason.full). rw z) e;
-                }) (carried-none o _);
-          }
-
-      conc-fits : (fs : List ℕ) → Carried o sizes.concEntries fs → ChangeFits s es (sendTo t kind.conc to 0 0 fs)
-      unfolding sendTo headOf coordinatorEnd toCoordinator carriesClock argumentOk mostEntries
-      conc-fits fs c =
-          record {
-            turn = x;
-            words = to-passes o t kind.conc to 0 0 fs between
-                (record { low = omega arith; high = omega arith; coordinator = r .theirs; clock = refl; argument = refl }) c;
-          }
-
-      pub vote-fits : (clock v : ℕ) → MayVote o v → ChangeFits s es (sendTo t kind.vote to clock v [])
-      unfolding sendTo headOf coordinatorEnd toCoordinator carriesClock
-      vote-fits clock v e =
-          record {
-            turn = x;
-            words = to-passes o t kind.vote to clock v [] between
-                (record { low = omega arith; high = omega arith; coordinator = r .theirs; clock = refl; argument = e _ refl refl }) (carried-none o _);
-          }
-
-  -- The coordinator's steps.
-  module _ (t : Turn) (x : TurnFits s es t) (l : Leads s t) where
     -- with another course it leads still
     leads-on : (c : Course) → Leads s (withCourseOf t c)
     leads-on c = record { tx = l .tx; mine = l .mine }
 
+    -- one to each other participant
+    to-all : (a : Answer) (k clock v : ℕ) (fs : List ℕ) → Carried o (mostEntries k) fs
+        → ((i : ℕ) → inMask (t .sub .course .mask) (i + 1) ≡ true
+        → Says o (headTo (headOf k (t .counters .own) 0 0 (t .sub .tx) clock v (entryCount fs)) (t .channels .sent) i))
+        → Made (Passes o) (sendAll t a k clock v fs .words)
+    to-all a k clock v fs c says = all-pass o t a k clock v fs (own-site t x) (mask-house t x) (l .tx) c says
+
+    pub abort-fits : (r : ℕ) → ChangeFits s es (abortStep t r)
+    unfolding abortStep sendAll headTo headOf coordinatorEnd toCoordinator carriesClock argumentOk
+    abort-fits r =
+        record {
+          turn = gone-turn t x;
+          words = to-all (Aborted r) kind.abort 0 0 [] (carried-none o _)
+              (λ i h. record { low = omega arith; high = omega arith; coordinator = leads-own; clock = refl; argument = refl });
+        }
+
+    pub prepare-fits : inMask (t .sub .course .mask) here ≡ true → ChangeFits s es (prepareStep t)
+    unfolding prepareStep sendAll headTo headOf coordinatorEnd toCoordinator carriesClock argumentOk
+    prepare-fits own =
+        record {
+          turn = x;
+          words = to-all Done kind.prepare (t .counters .clock) (t .sub .course .mask) [] (carried-none o _)
+              (λ i h. record {
+                low = omega arith;
+                high = omega arith;
+                coordinator = leads-own;
+                clock = refl;
+                argument = rw (x .own, mask-house t x, own, h);
+              });
+        }
+
+    cert-fits : (fs : List ℕ) → Carried o sizes.certEntries fs → ChangeFits s es (sendAll t Done kind.cert 0 0 fs)
+    unfolding sendAll headTo headOf coordinatorEnd toCoordinator carriesClock argumentOk mostEntries
+    cert-fits fs c =
+        record {
+          turn = x;
+          words = to-all Done kind.cert 0 0 fs c
+              (λ i h. record { low = omega arith; high = omega arith; coordinator = leads-own; clock = refl; argument = refl });
+        }
+
+    commit-fits : (n : ℕ) → ChangeFits s es (sendAll t (Committed n) kind.commit n 0 [])
+    unfolding sendAll headTo headOf coordinatorEnd toCoordinator carriesClock argumentOk
+    commit-fits n =
+        record {
+          turn = x;
+          words = to-all (Committed n) kind.commit n 0 [] (carried-none o _)
+              (λ i h. record { low = omega arith; high = omega arith; coordinator = leads-own; clock = refl; argument = refl });
+        }
+
+    join-fits : (a : ℕ) → isSite o a ≡ true → (here ≡ a → ⊥) → ChangeFits s es (sendTo t kind.join a 0 0 [])
+    unfolding sendTo headOf coordinatorEnd toCoordinator carriesClock argumentOk
+    join-fits a h n =
+        record {
+          turn = x;
+          words = to-passes o t kind.join a 0 0 []
+              (record { sender = own-site t x; receiver = h; apart = λ z. n (sym (x .own) ∙ z); tx = l .tx })
+              (record { low = omega arith; high = omega arith; coordinator = leads-own; clock = refl; argument = refl }) (carried-none o _);
+        }
+
+  -- Replies to it.
+  module _ {es : List ℕ} {t : Turn} {to : ℕ} (x : TurnFits s es t) (r : Replies s t to) where
+    between : Between o (t .counters .own) to (t .sub .tx)
+    between = record { sender = own-site t x; receiver = r .site; apart = λ z. r .apart (sym (x .own) ∙ z); tx = r .tx }
+
+    replies-on : (c : Course) → Replies s (withCourseOf t c) to
+    replies-on c = record { tx = r .tx; theirs = r .theirs; site = r .site; apart = r .apart }
+
+    pub joined-fits : (v : ℕ) → (v ≡ 0) ⊎ (v ≡ reason.full) → ChangeFits s es (sendTo t kind.joined to 0 v [])
+    unfolding sendTo headOf coordinatorEnd toCoordinator carriesClock argumentOk
+    joined-fits v e =
+        record {
+          turn = x;
+          words = to-passes o t kind.joined to 0 v [] between
+              (record {
+                low = omega arith;
+                high = omega arith;
+                coordinator = r .theirs;
+                clock = refl;
+                argument = ⊎-elim (λ (z : v ≡ 0). rw z) (λ (z : v ≡ reason.full). rw z) e;
+              })
+              (carried-none o _);
+        }
+
+    conc-fits : (fs : List ℕ) → Carried o sizes.concEntries fs → ChangeFits s es (sendTo t kind.conc to 0 0 fs)
+    unfolding sendTo headOf coordinatorEnd toCoordinator carriesClock argumentOk mostEntries
+    conc-fits fs c =
+        record {
+          turn = x;
+          words = to-passes o t kind.conc to 0 0 fs between
+              (record { low = omega arith; high = omega arith; coordinator = r .theirs; clock = refl; argument = refl }) c;
+        }
+
+    pub vote-fits : (clock v : ℕ) → MayVote o v → ChangeFits s es (sendTo t kind.vote to clock v [])
+    unfolding sendTo headOf coordinatorEnd toCoordinator carriesClock
+    vote-fits clock v e =
+        record {
+          turn = x;
+          words = to-passes o t kind.vote to clock v [] between
+              (record { low = omega arith; high = omega arith; coordinator = r .theirs; clock = refl; argument = e _ refl refl })
+              (carried-none o _);
+        }
+
+  -- The coordinator's steps.
+  module _ {es : List ℕ} {t : Turn} (x : TurnFits s es t) (l : Leads s t) where
+    abbrev course : Course
+    course = t .sub .course
+
     pub enlist-fits : (a : ℕ) → isSite o a ≡ true → (here ≡ a → ⊥) → ChangeFits s es (enlistStep t a)
     unfolding enlistStep withParticipant
     enlist-fits a h n =
-        let c = withParticipant (t .sub .course) a in
-        join-fits (withCourseOf t c) (course-turn t x c (l .tx) (participant-fits o here house (t .sub .course) (x .course) a h) (x .entries)) a (leads-on c) h n
+        let c = withParticipant course a in
+        join-fits (course-turn t x c (l .tx) (participant-fits o here house course (x .course) a h) (x .entries)) (leads-on x l c) a h n
 
     pub decide-fits : ChangeFits s es (decideStep t)
     unfolding decideStep commitStep withDecision
     decide-fits =
         let n = t .counters .clock + 1 in
-        let c = withDecision (t .sub .course) n in
+        let c = withDecision course n in
         let u : Turn = record { counters = withClock (t .counters) n; channels = t .channels; sub = withCourse (t .sub) c } in
-        let y : TurnFits s es u = clock-fits s es (t .counters) (u .sub) n (course-turn t x c (l .tx) (decision-fits o here house (t .sub .course) (x .course) n) (x .entries)) in
+        let decided = course-turn t x c (l .tx) (decision-fits o here house course (x .course) n) (x .entries) in
+        let leads : Leads s u = record { tx = l .tx; mine = l .mine } in
         by-test (leb sizes.last (t .counters .clock))
-        (λ e. rw e (abort-fits t x l reason.spent))
-        (λ e. rw e (commit-fits u y (record { tx = l .tx; mine = l .mine }) n))
+        (λ e. rw e (abort-fits x l reason.spent))
+        (λ e. rw e (commit-fits (clock-fits s es (t .counters) (u .sub) n decided) leads n))
 
-  module _ (t : Turn) (x : TurnFits s es t) (l : Leads s t) where
+  module _ {es : List ℕ} {t : Turn} (x : TurnFits s es t) (l : Leads s t) where
     pub cast-fits : (v : ℕ) (fs : List ℕ) → Carried o sizes.certEntries fs → ChangeFits s es (castStep t v fs)
     unfolding castStep withMark
     cast-fits v fs carried =
@@ -271,9 +294,9 @@ module _ (s : Site) (ok : siteOk s ≡ true) (es : List ℕ) where
         let y = course-turn t x c (l .tx) marked (λ i h. absurd (omega arith)) in
         by-test (eqb v 0)
         (λ e. by-test (allHeard (t .counters .own) 0 (t .sub .course .mask))
-        (λ f. rw (e, f) (decide-fits (withCourseOf t c) y (leads-on t x l c)))
-        (λ f. rw (e, f) (cert-fits (withCourseOf t c) y (leads-on t x l c) fs carried)))
-        (λ e. rw e (abort-fits t x l v))
+        (λ f. rw (e, f) (decide-fits y (leads-on x l c)))
+        (λ f. rw (e, f) (cert-fits y (leads-on x l c) fs carried)))
+        (λ e. rw e (abort-fits x l v))
 
     -- a reply that brings no list
     pub reply-turn : (a r : ℕ) → isSite o a ≡ true → (a ≡ here → ⊥) → TurnFits s es (withCourseOf t (withReply (t .sub .course) a r 0))
@@ -289,34 +312,37 @@ module _ (s : Site) (ok : siteOk s ≡ true) (es : List ℕ) where
         let y = reply-turn a 0 h n in
         by-test (eqb v 0)
         (λ e. by-test (allHeard (t .counters .own) (c .heard) (c .mask))
-        (λ f. rw (e, f) (decide-fits (withCourseOf t c) y (leads-on t x l c)))
+        (λ f. rw (e, f) (decide-fits y (leads-on x l c)))
         (λ f. rw (e, f) (quietly-fits s es (withCourseOf t c) y)))
-        (λ e. rw e (abort-fits t x l v))
+        (λ e. rw e (abort-fits x l v))
 
   -- A participant's steps.
-  module _ (t : Turn) (x : TurnFits s es t) (to : ℕ) (r : Replies s t to) where
+  module _ {es : List ℕ} {t : Turn} {to : ℕ} (x : TurnFits s es t) (r : Replies s t to) where
     stage-turn : (mask st : ℕ) → isMask o mask ≡ true → st ≤ stage.rejected → TurnFits s es (withCourseOf t (withStage (t .sub .course) mask st))
     unfolding withStage
     stage-turn mask st m h =
-        course-turn t x (withStage (t .sub .course) mask st) (r .tx) (stage-fits o here house (t .sub .course) (x .course) mask st m h) (x .entries)
+        let c = withStage (t .sub .course) mask st in
+        course-turn t x c (r .tx) (stage-fits o here house (t .sub .course) (x .course) mask st m h) (x .entries)
 
-    replies-on : (c : Course) → Replies s (withCourseOf t c) to
-    replies-on c = record { tx = r .tx; theirs = r .theirs; site = r .site; apart = r .apart }
-
-    pub prepared-fits : (mask : ℕ) (lost : Bool) (fs : List ℕ) → isMask o mask ≡ true → Carried o sizes.concEntries fs → ChangeFits s es (preparedStep t to mask lost fs)
+    pub prepared-fits : (mask : ℕ) (lost : Bool) (fs : List ℕ) → isMask o mask ≡ true → Carried o sizes.concEntries fs
+        → ChangeFits s es (preparedStep t to mask lost fs)
     unfolding preparedStep
     prepared-fits mask lost fs m carried =
+        let on = replies-on x r in
         by-test lost
-        (λ e. rw e (vote-fits _ (stage-turn mask stage.rejected m (omega arith)) to (replies-on _) (t .counters .clock) reason.uncertain (may-uncertain o)))
-        (λ e. rw e (conc-fits _ (stage-turn mask stage.prepared m (omega arith)) to (replies-on _) fs carried))
+        (λ e. rw e
+        (vote-fits (stage-turn mask stage.rejected m (omega arith)) (on (withStage (t .sub .course) mask stage.rejected)) _ reason.uncertain (may-uncertain o)))
+        (λ e. rw e (conc-fits (stage-turn mask stage.prepared m (omega arith)) (on (withStage (t .sub .course) mask stage.prepared)) fs carried))
 
     pub certified-fits : (v : ℕ) → MayVote o v → ChangeFits s es (certifiedStep t to v)
     unfolding certifiedStep withMark
     certified-fits v may =
-        let c = withMark (t .sub .course) (t .counters .clock) in
-        let marked = mark-fits o here house (t .sub .course) (x .course) (t .counters .clock) in
+        let clock = t .counters .clock in
+        let mask = t .sub .course .mask in
+        let c = withMark (t .sub .course) clock in
+        let marked = mark-fits o here house (t .sub .course) (x .course) clock in
+        let on = replies-on x r in
         by-test (eqb v 0)
+        (λ e. rw e (vote-fits (course-turn t x c (r .tx) marked (λ i h. absurd (omega arith))) (on c) clock 0 (may-yes o)))
         (λ e. rw e
-        (vote-fits (withCourseOf t c) (course-turn t x c (r .tx) marked (λ i h. absurd (omega arith))) to (replies-on c) (t .counters .clock) 0 (may-yes o)))
-        (λ e. rw e
-        (vote-fits _ (stage-turn (t .sub .course .mask) stage.rejected (mask-house t x) (omega arith)) to (replies-on _) (t .counters .clock) v may))
+        (vote-fits (stage-turn mask stage.rejected (mask-house t x) (omega arith)) (on (withStage (t .sub .course) mask stage.rejected)) clock v may))
