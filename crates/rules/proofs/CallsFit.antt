@@ -39,7 +39,7 @@ use Rattle.rules.proofs.RefineMail.{none}
 use Rattle.rules.proofs.ValidMade.{site-mask, keys-made, keys-back, no-keys, site-tests}
 use Rattle.rules.proofs.CourseFits.{new-fits}
 use Rattle.rules.proofs.StepsFit.{Fits, TurnFits, ChangeFits, quietly-fits}
-use Rattle.rules.proofs.SitesFit.{Sound, EffectFits, site-ok, site-valid, part-at, old-fits, changed-fits, unless-fits}
+use Rattle.rules.proofs.SitesFit.{Sound, EffectFits, site-ok, site-valid, part-at, old-fits, held-there, changed-fits, unless-fits}
 
 -- Begin: one serial more, and a transaction of this site.
 serial-fits : (o : House) (c : Counters) (n : ℕ) → countersOk o c ≡ true → n ≤ sizes.lastSerial → countersOk o (withSerial c n) ≡ true
@@ -133,7 +133,7 @@ module _ {s : Site} {lists : List ℕ} (y : Sound s lists) where
     keys-turn : (b : Keys) → keysOk o own b ≡ true → TurnFits s (listAt lists place) (withSubOf (turnAt s place) (withKeys (subAt s place) b))
     unfolding turnAt
     keys-turn b e =
-        let x = old-fits y t low in
+        let x = old-fits y place low (held-there y t low) in
         record { own = x .own; installs = x .installs; counters = x .counters; course = x .course; keys = e; tx = x .tx; entries = x .entries }
 
     version-fits : (base : List Value) (k : ℕ) → siteOf o k ≡ own → (readKey (subAt s place .keys) k ≡ false → subAt s place .keys .read < sizes.reads)

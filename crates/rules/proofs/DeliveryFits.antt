@@ -156,7 +156,7 @@ module _ {s : Site} {lists : List ℕ} (y : Sound s lists) where
 
       fits : TurnFits s gathered turn
       unfolding arrived
-      fits = old-fits y (h .tx) low
+      fits = old-fits y place low held
 
       leads : coordinatorOf (h .tx) ≡ here → Leads s turn
       unfolding arrived

@@ -43,11 +43,11 @@ use Rattle.rules.specs.KeysLaws.{by-order}
 use Rattle.rules.proofs.Refines.{IsFree}
 use Rattle.rules.proofs.RefineStep.{by-code}
 use Rattle.rules.proofs.RefineMail.{none}
-use Rattle.rules.proofs.ValidMade.{no-keys, keys-back, entry-made, history-made, site-tests, site-made, handed-made}
+use Rattle.rules.proofs.ValidMade.{keys-back, entry-made, history-made, site-tests, site-made, handed-made}
 use Rattle.rules.proofs.EntriesMade.{AllPossible, Carried, carried-possible, list-carried, join-carried, others-possible, more-possible}
-use Rattle.rules.proofs.CourseFits.{none-fits, request-fits}
-use Rattle.rules.proofs.StepsFit.{Fits, TurnFits, ChangeFits, Leads, list-turn, abort-fits, prepare-fits, enlist-fits, cast-fits}
-use Rattle.rules.proofs.SitesFit.{Sound, EffectFits, site-ok, site-valid, lists-long, part-at, few-listed, old-possible, tx-there, tx-possible, old-fits, settled-live, settled-lists, settled-handed, changed-fits, refused-fits, unless-fits}
+use Rattle.rules.proofs.CourseFits.{request-fits}
+use Rattle.rules.proofs.StepsFit.{Fits, TurnFits, ChangeFits, Leads, list-turn, gone-turn, abort-fits, prepare-fits, enlist-fits, cast-fits}
+use Rattle.rules.proofs.SitesFit.{Sound, EffectFits, site-ok, site-valid, lists-long, part-at, few-listed, old-possible, held-there, tx-there, tx-possible, old-fits, settled-live, settled-lists, settled-handed, changed-fits, refused-fits, unless-fits}
 
 module _ {s : Site} {lists : List ℕ} (y : Sound s lists) where
   abbrev o : House
@@ -62,7 +62,7 @@ module _ {s : Site} {lists : List ℕ} (y : Sound s lists) where
 
     fits : TurnFits s (listAt lists place) (turnAt s place)
     unfolding turnAt
-    fits = old-fits y t low
+    fits = old-fits y place low (held-there y t low)
 
     leads : Leads s (turnAt s place)
     unfolding turnAt
@@ -215,20 +215,9 @@ module _ {s : Site} {lists : List ℕ} (y : Sound s lists) where
         (let was : ltb i (remembered (n + 1)) ≡ true → ltb i (remembered n) ≡ true = λ u. lt-ltb i (remembered n) (used-before n i z (ltb-true _ _ u)) in
         entry-made o here _ (entryAt s i) (e .mask-house) (keys-back o here _ (e .keys)) (λ u. e .tx (was u))))
 
-    -- the place is free
     gone-fits : TurnFits s (listAt lists place) gone
-    unfolding turnAt noSub
-    gone-fits =
-        let v = site-valid y in
-        record {
-          own = refl;
-          installs = refl;
-          counters = site-tests s (site-ok y) .counters;
-          course = none-fits o here (v .house);
-          keys = no-keys o here;
-          tx = λ f. absurd (f refl);
-          entries = λ i h. absurd (omega arith);
-        }
+    unfolding turnAt
+    gone-fits = gone-turn (site-valid y) (turnAt s place) (old-fits y place low held)
 
     installed-fits : (base : List Value) → handedOk (installedAt s base place .site) lists ≡ true
     unfolding installedAt turnAt

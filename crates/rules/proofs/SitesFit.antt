@@ -66,6 +66,19 @@ module _ {s : Site} {lists : List ℕ} (y : Sound s lists) where
   pub old-possible : (j : ℕ) → j < sizes.live → (IsFree (subAt s j) → ⊥) → AllPossible o (listAt lists j) (subAt s j .course .listed)
   old-possible j h f i k = handed-entry s lists (y .handed) j i h f k
 
+  pub old-fits : (place : ℕ) → place < sizes.live → (IsFree (subAt s place) → ⊥) → Fits s (listAt lists place) (s .counters) (subAt s place)
+  old-fits place low held =
+      let v = part-at place low in
+      record {
+        own = refl;
+        installs = refl;
+        counters = site-tests s site-ok .counters;
+        course = course-back o here _ (v .course);
+        keys = keys-back o here _ (v .keys);
+        tx = v .tx;
+        entries = old-possible place low held;
+      }
+
   -- The part of t, where it is held.
   module _ (t : ℕ) (low : placeOf (s .live) t < sizes.live) where
     pub held-there : IsFree (subAt s (placeOf (s .live) t)) → ⊥
@@ -76,19 +89,6 @@ module _ {s : Site} {lists : List ℕ} (y : Sound s lists) where
 
     pub tx-possible : isTx o (subAt s (placeOf (s .live) t) .tx) ≡ true
     tx-possible = part-at (placeOf (s .live) t) low .tx held-there
-
-    pub old-fits : Fits s (listAt lists (placeOf (s .live) t)) (s .counters) (subAt s (placeOf (s .live) t))
-    old-fits =
-        let v = part-at (placeOf (s .live) t) low in
-        record {
-          own = refl;
-          installs = refl;
-          counters = site-tests s site-ok .counters;
-          course = course-back o here _ (v .course);
-          keys = keys-back o here _ (v .keys);
-          tx = v .tx;
-          entries = old-possible (placeOf (s .live) t) low held-there;
-        }
 
   module _ (place : ℕ) (low : place < sizes.live) (t : Turn) {es : List ℕ} (x : TurnFits s es t) where
     -- what holds of the new part and of the others holds of each
