@@ -27,7 +27,8 @@ use Rattle.rules.specs.MaskLaws.{high-digit}
 use Rattle.rules.specs.Send.{isRecipient, headTo, wordsTo, messagesTo}
 use Rattle.rules.specs.SendLaws.{words-to-some, words-to-none, messages-none, messages-more}
 use Rattle.rules.specs.Course.{headOf, sendTo, sendAll}
-use Rattle.rules.proofs.RefineMail.{Made, none, one, made-append, recipient-in}
+use Rattle.rules.proofs.RefineMail.{Made, recipient-in}
+use Rattle.rules.proofs.Spoken.{made-message, made-to-all}
 use Rattle.rules.proofs.EntriesMade.{Carried}
 
 -- the check of any site of the house
@@ -55,24 +56,21 @@ head-made o h b x few =
     rw (le-leb kind.join (h .kind) (x .low), le-leb (h .kind) kind.abort (x .high), b .sender, b .receiver, ne-eqb (h .from) (h .to) (b .apart), b .tx,
     eq-eqb (coordinatorOf (h .tx)) (coordinatorEnd h) (x .coordinator), x .clock, x .argument, le-leb (h .count) (mostEntries (h .kind)) few)
 
-message-made : (o : House) (h : MessageHead) (es : List ℕ) → Between o (h .from) (h .to) (h .tx) → Says o h → h .count ≡ entryCount es
-    → Carried o (mostEntries (h .kind)) es → Made (Passes o) (messageWords h es)
-unfolding messageWords
-message-made o h es b x n c =
-    let size : length es ≡ sizes.entry * h .count = rw n (c .whole) in
-    let good : GoodMessage o h es = record {
-      size = size;
+message-passes : (o : House) (h : MessageHead) (es : List ℕ) → Between o (h .from) (h .to) (h .tx) → Says o h → h .count ≡ entryCount es
+    → Carried o (mostEntries (h .kind)) es → Passes o (messageWords h es)
+message-passes o h es b x n c =
+    written-passes o h es (record {
+      size = rw n (c .whole);
       head = head-made o h b x (omega (arith, c .few));
       entries = sym (all-below (entryOk o es) (h .count) (λ i l. c .each i (omega arith)));
-    } in
-    one {m = messageWords h es} (sym (append-nil (messageWords h es))) (sym (length-message h es size)) (omega arith) (written-passes o h es good) none
+    })
 
 -- One message.
 pub to-passes : (o : House) (t : Turn) (k to clock v : ℕ) (es : List ℕ) → Between o (t .counters .own) to (t .sub .tx)
     → Says o (headOf k (t .counters .own) to (getD (t .channels .sent) (to - 1) 0 + 1) (t .sub .tx) clock v (entryCount es))
     → Carried o (mostEntries k) es → Made (Passes o) (sendTo t k to clock v es .words)
 unfolding sendTo headOf
-to-passes o t k to clock v es b x c = message-made o _ es b x refl c
+to-passes o t k to clock v es b x c = made-message (Passes o) _ es (c .whole) (message-passes o _ es b x refl c)
 
 -- One to each other participant.
 mask-site : (o : House) (m r : ℕ) → isMask o m ≡ true → inMask m r ≡ true → r ≤ o .sites
@@ -92,27 +90,17 @@ pub recipient-site : (o : House) (mask a i : ℕ) → isMask o mask ≡ true →
 unfolding isSite
 recipient-site o mask a i h e = rw (le-leb 1 (i + 1) (omega arith), le-leb (i + 1) (o .sites) (mask-site o mask (i + 1) h (recipient-in mask a i e)))
 
-module _ (o : House) (h : MessageHead) (sent : List ℕ) (mask : ℕ) (es : List ℕ) (own : isSite o (h .from) ≡ true) (house : isMask o mask ≡ true)
-    (tx : isTx o (h .tx) ≡ true) (size : h .count ≡ entryCount es) (carried : Carried o (mostEntries (h .kind)) es)
-    (says : (i : ℕ) → inMask mask (i + 1) ≡ true → Says o (headTo h sent i)) where
-  each-passes : (i : ℕ) → Made (Passes o) (wordsTo h sent mask es i)
-  unfolding headTo
-  each-passes i =
-      by-test (isRecipient mask (h .from) i)
-      (λ e. rw (words-to-some h sent mask es i e)
-      (message-made o (headTo h sent i) es
-      (record { sender = own; receiver = recipient-site o mask (h .from) i house e; apart = recipient-apart mask (h .from) i e; tx = tx })
-      (says i (recipient-in mask (h .from) i e)) size carried))
-      (λ e. rw (words-to-none h sent mask es i e) none)
-
-  those-pass : (k : ℕ) → Made (Passes o) (messagesTo h sent mask es k)
-  those-pass zero = rw (messages-none h sent mask es) none
-  those-pass (suc k) = rw (← add-one k, messages-more h sent mask es k) (made-append (those-pass k) (each-passes k))
-
 pub all-pass : (o : House) (t : Turn) (a : Answer) (k clock v : ℕ) (es : List ℕ) → isSite o (t .counters .own) ≡ true → isMask o (t .sub .course .mask) ≡ true
     → isTx o (t .sub .tx) ≡ true → Carried o (mostEntries k) es
     → ((i : ℕ) → inMask (t .sub .course .mask) (i + 1) ≡ true
     → Says o (headTo (headOf k (t .counters .own) 0 0 (t .sub .tx) clock v (entryCount es)) (t .channels .sent) i))
     → Made (Passes o) (sendAll t a k clock v es .words)
-unfolding sendAll headOf
-all-pass o t a k clock v es own house tx c says = those-pass o _ (t .channels .sent) (t .sub .course .mask) es own house tx refl c says sizes.sites
+unfolding sendAll headOf headTo
+all-pass o t a k clock v es own house tx c says =
+    let mask = t .sub .course .mask in
+    made-to-all (Passes o) _ (t .channels .sent) mask es (c .whole)
+    (λ i e.
+    let b : Between o (t .counters .own) (i + 1) (t .sub .tx) =
+    record { sender = own; receiver = recipient-site o mask _ i house e; apart = recipient-apart mask _ i e; tx = tx } in
+    message-passes o _ es b (says i (recipient-in mask _ i e)) refl c)
+    sizes.sites
