@@ -1,44 +1,38 @@
 -- The calls of a site that are no messages leave it possible, and write messages that pass the check.
-use Prim.Native.Nat.{ℕ, _+_, _*_, _≤_, _<_}
-use mathlib.Core.Path.{_≡_, refl, sym, ap, _∙_}
+use Prim.Native.Nat.{ℕ, _+_, _≤_, _<_}
+use mathlib.Core.Path.{_≡_, refl}
 use mathlib.Core.Bool.{true, false}
 use mathlib.Core.List.{List, []}
 use native.Mathlib.Omega.{arith}
-use borrow.Author.Tests.{le-leb, leb-true, eqb-true, eqb-false, ltb-true, lt-ltb}
-use lib.Dec.{leb, ltb, eqb}
+use borrow.Author.Tests.{le-leb}
 use lib.ListN.{length, getD, set}
 use lib.Seq.{getD-set-same, getD-set-other}
 use Rattle.laws.specs.Choice.{by-test, by-same, set-not}
-use Rattle.laws.specs.Overlay.{putAt}
 use Rattle.kinds.specs.Sizes as sizes
-use Rattle.kinds.specs.Stage as stage
-use Rattle.kinds.specs.Reason as reason
-use Rattle.kinds.specs.State.{Value, subAt, noSub, withKeys, withSerial, withInstalls}
+use Rattle.kinds.specs.State.{Value, subAt, withKeys, withSerial}
 use Rattle.kinds.specs.declared.House.{House}
 use Rattle.kinds.specs.declared.Keys.{Keys}
 use Rattle.kinds.specs.declared.Counters.{Counters}
-use Rattle.kinds.specs.declared.Sub.{Sub}
 use Rattle.kinds.specs.declared.Site.{Site}
-use Rattle.kinds.specs.declared.Turn.{Turn}
 use Rattle.rules.specs.House.{isSite, isTx, isMask, maskOf, siteOf}
 use Rattle.rules.specs.Keys.{keysOk, wroteKey, readKey, withRead, withWrite}
-use Rattle.rules.specs.Live.{placeOf, freePlace, stageAt, keyHeld}
-use Rattle.rules.specs.History.{isForgotten, isNewer}
-use Rattle.rules.specs.Valid.{siteOk, listAt, countersOk, handedOk}
+use Rattle.rules.specs.Live.{placeOf, freePlace, stageAt}
+use Rattle.rules.specs.History.{isForgotten}
+use Rattle.rules.specs.Valid.{siteOk, listAt, countersOk}
 use Rattle.rules.specs.ValidLaws.{ValidKeys, ValidSite, counters-own, counters-serial}
-use Rattle.rules.specs.Effect.{Effect, turnAt}
-use Rattle.rules.specs.Course.{newSub, quietly, withSubOf}
+use Rattle.rules.specs.Effect.{turnAt}
+use Rattle.rules.specs.Course.{newSub, withSubOf}
 use Rattle.rules.specs.Begin.{nextTx, beginCode, begun, beginOf, begin-clear}
-use Rattle.rules.specs.Access.{accessCode, readCode, readVersion, readAt, readOf, writeCodeAt, writeCode, written, writeAt, writeOf}
+use Rattle.rules.specs.Access.{accessCode, readCode, readVersion, readAt, readOf, writeCodeAt, written, writeAt, writeOf}
 use Rattle.rules.specs.CallLaws.{access-clear, read-clear, write-clear}
 use Rattle.rules.specs.MergerWords.{above}
 use Rattle.rules.proofs.Frames.{tx-coordinator, tx-serial}
-use Rattle.rules.proofs.Refines.{IsFree, LiveIs, Sized}
+use Rattle.rules.proofs.Refines.{Sized}
 use Rattle.rules.proofs.RefineLive.{place-held}
 use Rattle.rules.proofs.RefineMail.{none}
 use Rattle.rules.proofs.ValidMade.{site-mask, keys-made, keys-back, no-keys, site-tests}
 use Rattle.rules.proofs.CourseFits.{new-fits}
-use Rattle.rules.proofs.StepsFit.{Fits, TurnFits, ChangeFits, quietly-fits}
+use Rattle.rules.proofs.StepsFit.{Fits, TurnFits, quietly-fits}
 use Rattle.rules.proofs.SitesFit.{Sound, EffectFits, site-ok, site-valid, part-at, old-fits, held-there, changed-fits, unless-fits}
 
 -- Begin: one serial more, and a transaction of this site.

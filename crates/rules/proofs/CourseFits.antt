@@ -1,24 +1,21 @@
 -- A part's course stays possible: masks gain sites of the house, each reply but the own brings at most 47 entries, and a fresh round has none.
-use Prim.Native.Nat.{ℕ, _+_, _*_, _^_, _≤_, _<_, max}
-use mathlib.Core.Path.{_≡_, refl, sym, _∙_}
+use Prim.Native.Nat.{ℕ, _≤_}
+use mathlib.Core.Path.{_≡_, refl, sym}
 use mathlib.Core.Bool.{true, false}
-use mathlib.Core.Logic.{_⊎_, inl, inr, ⊎-elim}
-use mathlib.Core.List.{List, [], _∷_}
+use mathlib.Core.Logic.{_⊎_, ⊎-elim}
 use native.Mathlib.Omega.{arith}
-use borrow.Author.Tests.{le-leb}
 use lib.Bits.{bitOr}
-use Rattle.laws.specs.Choice.{by-test, set-not, every-at}
+use Rattle.laws.specs.Choice.{by-test, set-not}
 use Rattle.kinds.specs.Sizes as sizes
 use Rattle.kinds.specs.Stage as stage
-use Rattle.kinds.specs.State.{noCourse, noSub, pastSub, noKeys}
+use Rattle.kinds.specs.State.{noCourse}
 use Rattle.kinds.specs.declared.House.{House}
 use Rattle.kinds.specs.declared.Course.{Course}
-use Rattle.kinds.specs.declared.Site.{Site}
-use Rattle.rules.specs.House.{houseOk, isSite, isTx, isMask, inMask, maskOf, participants, participants-sites}
+use Rattle.rules.specs.House.{isSite, isMask, inMask, maskOf}
 use Rattle.rules.specs.MessageLaws.{site-clear}
 use Rattle.rules.specs.Course.{newSub, withParticipant, withReply, withDecision, withMark, withRequest, withStage}
-use Rattle.rules.specs.Valid.{courseOk, countersOk, liveOk, historyOk, siteOk}
-use Rattle.rules.specs.ValidLaws.{ValidHouse, ValidCourse, valid-course, valid-site}
+use Rattle.rules.specs.Valid.{courseOk}
+use Rattle.rules.specs.ValidLaws.{ValidHouse, ValidCourse, valid-course}
 use Rattle.rules.proofs.Masks.{none-in, in-more}
 use Rattle.rules.proofs.ValidMade.{none-mask, site-mask, both-mask, heard-kept, heard-more, course-made}
 

@@ -7,7 +7,7 @@ use mathlib.Core.List.{List, [], _∷_}
 use native.Mathlib.Omega.{arith}
 use borrow.Author.Tests.{eqb-true, ltb-true}
 use lib.Dec.{leb, ltb, eqb}
-use lib.ListN.{length, getD, drop}
+use lib.ListN.{length, getD}
 use Rattle.laws.specs.Choice.{by-test, every, every-at}
 use Rattle.laws.specs.Scan.{all-below-at}
 use Rattle.kinds.specs.Sizes as sizes
@@ -19,23 +19,25 @@ use Rattle.kinds.specs.declared.House.{House}
 use Rattle.kinds.specs.declared.Channels.{Channels}
 use Rattle.kinds.specs.declared.Counters.{Counters}
 use Rattle.kinds.specs.declared.Course.{Course}
-use Rattle.kinds.specs.declared.Sub.{Sub}
 use Rattle.kinds.specs.declared.Site.{Site}
 use Rattle.kinds.specs.declared.Turn.{Turn}
 use Rattle.kinds.specs.declared.MessageHead.{MessageHead}
-use Rattle.rules.specs.House.{isSite, isTx, isMask, inMask, coordinatorOf}
-use Rattle.rules.specs.Message.{entryCount, toCoordinator, coordinatorEnd, argumentOk, mostEntries, entryOk, messageHead, messageEntries, messageOk, GoodMessage}
+use Rattle.rules.specs.House.{isTx, isMask, inMask, coordinatorOf}
+use Rattle.rules.specs.Message.{toCoordinator, coordinatorEnd, argumentOk, mostEntries, entryOk, messageHead, messageEntries}
+use Rattle.rules.specs.Message.{messageOk, GoodMessage}
 use Rattle.rules.specs.MessageLaws.{HeadClear, head-clear, passed-good, site-clear}
 use Rattle.rules.specs.Live.{placeOf, freePlace, allHeard}
-use Rattle.rules.specs.History.{isForgotten}
 use Rattle.rules.specs.Join.{joined}
-use Rattle.rules.specs.Certify.{concurrent, voteOf}
-use Rattle.rules.specs.Valid.{siteOk, listAt, countersOk, handedOk}
+use Rattle.rules.specs.Certify.{concurrent}
+use Rattle.rules.specs.Valid.{listAt, countersOk, handedOk}
 use Rattle.rules.specs.ValidLaws.{ValidSite}
-use Rattle.rules.specs.Effect.{Change, Effect, changed, unless}
-use Rattle.rules.specs.Course.{newSub, raise, withSubOf, withCourseOf, isOutstanding, withReply, withDecision, sendTo, quietly}
+use Rattle.rules.specs.Effect.{Change, Effect, changed}
+use Rattle.rules.specs.Course.{newSub, raise, withSubOf, withCourseOf, isOutstanding, withReply, withDecision}
 use Rattle.rules.specs.CallLaws.{arrival-clear, next-clear, reply-clear}
-use Rattle.rules.specs.Deliver.{arrivalCode, nextCode, arrived, passed, replyCode, spentTo, spentToAll, stepUnless, joinTurn, spoken, joinAt, takeJoin, takeJoined, takePrepare, passPrepare, concInTurn, gatherChange, gatherLists, takeConc, takeCert, takeVote, takeCommit, takeAbort, keeping, takeHeld, takeOther, takeKind, messageAt, messageOf}
+use Rattle.rules.specs.Deliver.{arrivalCode, nextCode, arrived, passed, replyCode, spentTo, spentToAll, stepUnless, joinTurn, spoken}
+use Rattle.rules.specs.Deliver.{joinAt, takeJoin, takeJoined, takePrepare, passPrepare, concInTurn, gatherChange, gatherLists}
+use Rattle.rules.specs.Deliver.{takeConc, takeCert, takeVote, takeCommit, takeAbort, keeping, takeHeld, takeOther, takeKind}
+use Rattle.rules.specs.Deliver.{messageAt, messageOf}
 use Rattle.rules.specs.DeliverLaws.{conc-room}
 use Rattle.rules.specs.MergerWords.{length-put}
 use Rattle.rules.proofs.Masks.{outstanding-unheard}
@@ -45,8 +47,11 @@ use Rattle.rules.proofs.RefineMail.{none}
 use Rattle.rules.proofs.ValidMade.{none-mask, site-tests, site-made, handed-made, handed-lists}
 use Rattle.rules.proofs.EntriesMade.{AllPossible, carried-possible, list-carried, join-carried, others-possible, more-possible}
 use Rattle.rules.proofs.CourseFits.{decision-fits, reply-fits}
-use Rattle.rules.proofs.StepsFit.{Fits, TurnFits, ChangeFits, Leads, Replies, votes-so, may-unknown, raise-fits, quietly-fits, list-turn, course-turn, gone-turn, joined-fits, vote-fits, cast-fits, reply-turn, ballot-fits, prepared-fits, certified-fits}
-use Rattle.rules.proofs.SitesFit.{Sound, EffectFits, site-ok, site-valid, lists-long, part-at, few-listed, old-possible, held-there, tx-there, tx-possible, old-fits, settled-handed, changed-fits, refused-fits, unless-fits}
+use Rattle.rules.proofs.StepsFit.{TurnFits, ChangeFits, Leads, Replies, votes-so, may-unknown, raise-fits, quietly-fits, list-turn}
+use Rattle.rules.proofs.StepsFit.{course-turn, gone-turn, joined-fits, vote-fits, cast-fits, reply-turn, ballot-fits, prepared-fits}
+use Rattle.rules.proofs.StepsFit.{certified-fits}
+use Rattle.rules.proofs.SitesFit.{Sound, EffectFits, site-ok, site-valid, lists-long, part-at, few-listed, old-possible, held-there}
+use Rattle.rules.proofs.SitesFit.{tx-there, tx-possible, old-fits, settled-handed, changed-fits, refused-fits, unless-fits}
 use Rattle.rules.proofs.CallsFit.{new-part}
 
 -- with the lists as they were

@@ -1,12 +1,11 @@
 -- Entries that a site writes pass the check: those of its own list, those of a join, and those that stand in the gathered lists.
-use Prim.Native.Nat.{ℕ, zero, suc, _+_, _-_, _*_, _^_, _≤_, _<_}
+use Prim.Native.Nat.{ℕ, zero, suc, _+_, _-_, _*_, _≤_, _<_}
 use mathlib.Core.Path.{_≡_, refl, sym, ap, _∙_}
 use mathlib.Core.List.{List, [], _∷_}
 use mathlib.Core.Bool.{true}
-use mathlib.Core.Logic.{_⊎_, inl, inr, ⊎-elim}
+use mathlib.Core.Logic.{inl, inr}
 use native.Mathlib.Omega.{arith}
 use borrow.Author.Tests.{leb-true, leb-false, le-leb, lt-ltb}
-use lib.Bits.{bitOr}
 use lib.Dec.{leb, ltb, eqb}
 use lib.ListN.{length, getD, take, drop}
 use lib.Seq.{getD-take, getD-drop}
@@ -27,7 +26,7 @@ use Rattle.rules.specs.JoinLaws.{count-le, count-joined, join-whole, joi
 use Rattle.rules.specs.EntryLaws.{joined-tx, joined-mask, joined-mark, joined-ascends}
 use Rattle.rules.specs.Certify.{candidates, concurrent}
 use Rattle.rules.specs.CertifyLaws.{candidates-marks, concurrent-whole, concurrent-few}
-use Rattle.rules.specs.ListLaws.{OtherPrepared, LaterInstall, Candidate, candidate-from}
+use Rattle.rules.specs.ListLaws.{Candidate, candidate-from}
 use Rattle.rules.specs.Valid.{siteOk, listAt}
 use Rattle.rules.specs.ValidLaws.{valid-site, valid-recall, recall-tx}
 use Rattle.rules.specs.MergerWords.{above, put-before, put-behind, put-within}

@@ -1,17 +1,16 @@
 -- Every call of a list leaves the sites possible and sends messages that pass the check.
 use Prim.Native.Nat.{ℕ, _≤_, _<_}
-use mathlib.Core.Path.{_≡_, refl, sym, ap, _∙_}
+use mathlib.Core.Path.{_≡_, refl, _∙_}
 use mathlib.Core.Bool.{true, false}
 use mathlib.Core.List.{List, []}
 use native.Mathlib.Omega.{arith}
 use borrow.Author.Tests.{eqb-true, ltb-true, le-leb, leb-true, leb-false}
-use lib.Dec.{leb, eqb}
+use lib.Dec.{leb}
 use lib.ListN.{length, replicate, length-replicate, getD-replicate}
 use Rattle.laws.specs.Choice.{by-test, set-not}
 use Rattle.kinds.specs.Sizes as sizes
-use Rattle.kinds.specs.State.{Value, subAt, noKeys, noSub, pastSub, noEntry, pastEntry}
+use Rattle.kinds.specs.State.{Value, subAt, noSub, pastSub, noEntry, pastEntry}
 use Rattle.kinds.specs.declared.House.{House}
-use Rattle.kinds.specs.declared.Course.{Course}
 use Rattle.kinds.specs.declared.Site.{Site}
 use Rattle.rules.specs.House.{houseOk, isSite, inMask, coordinatorOf}
 use Rattle.rules.specs.Message.{messageOk}
@@ -30,14 +29,15 @@ use Rattle.rules.specs.CallLaws.{access-clear, enlist-clear, request-cle
 use Rattle.rules.specs.World.{World, Call, step, siteStep, logStep, mergerStep, mergeStep, copyStep, replayStep, freshWorld}
 use Rattle.rules.specs.World as world
 use Rattle.rules.proofs.Tables.{upd-both, upd-cases, All, a-nil, all-append}
-use Rattle.rules.proofs.Protocol.{Protocol, courseAt}
+use Rattle.rules.proofs.Protocol.{Protocol}
 use Rattle.rules.proofs.Invariants.{Invariant}
-use Rattle.rules.proofs.Refines.{sliceOf, SiteIs, Refines}
+use Rattle.rules.proofs.Refines.{Refines}
 use Rattle.rules.proofs.RefineStep.{by-code}
 use Rattle.rules.proofs.RefineTurn.{at-place, course-is}
 use Rattle.rules.proofs.RefineMail.{Made, none, made-in}
 use Rattle.rules.proofs.RefineFresh.{started, fresh-table}
-use Rattle.rules.proofs.ValidMade.{none-mask, no-keys, sub-made, entry-made, live-made, history-made, site-made, lists-made, gathered-made, handed-made}
+use Rattle.rules.proofs.ValidMade.{none-mask, no-keys, sub-made, entry-made, live-made, history-made, site-made, lists-made}
+use Rattle.rules.proofs.ValidMade.{gathered-made, handed-made}
 use Rattle.rules.proofs.Passing.{Passes}
 use Rattle.rules.proofs.CourseFits.{none-fits}
 use Rattle.rules.proofs.SitesFit.{Sound, EffectFits}

@@ -1,13 +1,13 @@
 -- The next message of a channel goes on: past the checks it is refused only out of turn, or with a count of messages at its end.
 use Prim.Native.Nat.{ℕ, zero, suc, _+_, _-_, _≤_, _<_}
-use mathlib.Core.Path.{_≡_, refl, sym, ap, _∙_}
-use mathlib.Core.Bool.{Bool, true, false, not}
+use mathlib.Core.Path.{_≡_, refl}
+use mathlib.Core.Bool.{Bool, true, false}
 use mathlib.Core.Logic.{_⊎_, inl, inr, ⊎-elim}
 use mathlib.Core.List.{List, [], _∷_}
 use native.Mathlib.Omega.{arith}
 use borrow.Author.Tests.{leb-true, ltb-false, ltb-true, le-ltb, eq-eqb, not-true}
 use lib.Dec.{eqb, leb, ltb}
-use lib.ListN.{length, getD}
+use lib.ListN.{getD}
 use Rattle.laws.specs.Choice.{pick, every, every-at, by-test, set-not}
 use Rattle.laws.specs.Scan.{allBelow}
 use Rattle.kinds.specs.Sizes as sizes
@@ -29,7 +29,10 @@ use Rattle.rules.specs.MessageLaws.{head-clear, passed-good}
 use Rattle.rules.specs.CallLaws.{arrival-clear}
 use Rattle.rules.specs.Effect.{Change, Effect}
 use Rattle.rules.specs.Course.{sendTo, channelSpent, withReply, raise, voteDecides, voteStep}
-use Rattle.rules.specs.Deliver.{arrivalCauses, arrivalCode, nextCauses, nextCode, arrived, replyCode, spentTo, spentToAll, stepUnless, spoken, joinAt, takeJoin, passed, takeJoined, takePrepare, passPrepare, concInTurn, gatherChange, gatherLists, takeConc, takeCert, voteInTurn, takeVote, takeCommit, takeAbort, keeping, takeHeld, takeOther, takeKind, messageAt, messageOf}
+use Rattle.rules.specs.Deliver.{arrivalCauses, arrivalCode, nextCauses, nextCode, arrived, replyCode, spentTo, spentToAll, stepUnless}
+use Rattle.rules.specs.Deliver.{spoken, joinAt, takeJoin, passed, takeJoined, takePrepare, passPrepare, concInTurn, gatherLists}
+use Rattle.rules.specs.Deliver.{takeConc, takeCert, voteInTurn, takeVote, takeCommit, takeAbort, keeping, takeHeld, takeOther}
+use Rattle.rules.specs.Deliver.{takeKind, messageAt, messageOf}
 use Rattle.rules.specs.Possible.{CountEnds}
 use Rattle.rules.proofs.Spoken.{Speaks, quietly-speaks, prepared-speaks, certified-speaks, vote-speaks, vote-known}
 use Rattle.rules.proofs.GoesOn.{gather-speaks}

@@ -1,17 +1,16 @@
 -- Messages that a step writes pass the check: sites of the house that differ, a possible transaction, from or to its coordinator, and what
 -- its kind allows it to say.
-use Prim.Native.Nat.{ℕ, zero, suc, _+_, _-_, _*_, _^_, _≤_, _<_}
+use Prim.Native.Nat.{ℕ, _+_, _-_, _^_, _≤_}
 use mathlib.Core.Path.{_≡_, refl, sym}
-use mathlib.Core.List.{List, [], _∷_, append-nil}
-use mathlib.Core.Bool.{true, false, not}
+use mathlib.Core.List.{List, [], _∷_}
+use mathlib.Core.Bool.{true, not}
 use native.Mathlib.Omega.{arith}
-use native.Mathlib.Numerals.{add-one}
 use borrow.Author.Tests.{le-leb, leb-true, leb-false, eq-eqb, ne-eqb, eqb-false, not-true, ltb-true}
 use lib.Dec.{leb, eqb}
-use lib.ListN.{length, getD}
+use lib.ListN.{getD}
 use lib.Pow.{pow-mono}
 use Rattle.laws.specs.Choice.{pick, by-test, every-at}
-use Rattle.laws.specs.Scan.{allBelow, all-below}
+use Rattle.laws.specs.Scan.{all-below}
 use Rattle.laws.specs.Digits.{digit}
 use Rattle.kinds.specs.Sizes as sizes
 use Rattle.kinds.specs.Kind as kind
@@ -20,12 +19,12 @@ use Rattle.kinds.specs.declared.MessageHead.{MessageHead}
 use Rattle.kinds.specs.declared.Turn.{Turn}
 use Rattle.kinds.specs.declared.Answer.{Answer}
 use Rattle.rules.specs.House.{isSite, isTx, coordinatorOf, inMask, isMask}
-use Rattle.rules.specs.Message.{messageWords, entryCount, coordinatorEnd, carriesClock, argumentOk, mostEntries, endsOk, headOk, entryOk, messageOk, GoodMessage}
-use Rattle.rules.specs.MessageLaws.{length-message, written-passes}
+use Rattle.rules.specs.Message.{messageWords, entryCount, coordinatorEnd, carriesClock, argumentOk, mostEntries, endsOk, headOk}
+use Rattle.rules.specs.Message.{entryOk, messageOk}
+use Rattle.rules.specs.MessageLaws.{written-passes}
 use Rattle.rules.specs.EntryLaws.{in-digit}
 use Rattle.rules.specs.MaskLaws.{high-digit}
-use Rattle.rules.specs.Send.{isRecipient, headTo, wordsTo, messagesTo}
-use Rattle.rules.specs.SendLaws.{words-to-some, words-to-none, messages-none, messages-more}
+use Rattle.rules.specs.Send.{isRecipient, headTo}
 use Rattle.rules.specs.Course.{headOf, sendTo, sendAll}
 use Rattle.rules.proofs.RefineMail.{Made, recipient-in}
 use Rattle.rules.proofs.Spoken.{made-message, made-to-all}
@@ -53,8 +52,18 @@ pub record Says (o : House) (h : MessageHead) : Type 0 where
 head-made : (o : House) (h : MessageHead) → Between o (h .from) (h .to) (h .tx) → Says o h → h .count ≤ mostEntries (h .kind) → headOk o h ≡ true
 unfolding headOk endsOk
 head-made o h b x few =
-    rw (le-leb kind.join (h .kind) (x .low), le-leb (h .kind) kind.abort (x .high), b .sender, b .receiver, ne-eqb (h .from) (h .to) (b .apart), b .tx,
-    eq-eqb (coordinatorOf (h .tx)) (coordinatorEnd h) (x .coordinator), x .clock, x .argument, le-leb (h .count) (mostEntries (h .kind)) few)
+    rw (
+      le-leb kind.join (h .kind) (x .low),
+      le-leb (h .kind) kind.abort (x .high),
+      b .sender,
+      b .receiver,
+      ne-eqb (h .from) (h .to) (b .apart),
+      b .tx,
+      eq-eqb (coordinatorOf (h .tx)) (coordinatorEnd h) (x .coordinator),
+      x .clock,
+      x .argument,
+      le-leb (h .count) (mostEntries (h .kind)) few,
+    )
 
 message-passes : (o : House) (h : MessageHead) (es : List ℕ) → Between o (h .from) (h .to) (h .tx) → Says o h → h .count ≡ entryCount es
     → Carried o (mostEntries (h .kind)) es → Passes o (messageWords h es)

@@ -1,17 +1,15 @@
 -- What the store leaves, the store takes, proved: the sites stay possible by every call, the merger and the copies by the machine, and what
 -- was sent passes the check, so that the next message goes on.
-use Prim.Native.Nat.{ℕ, _≤_}
+use Prim.Native.Nat.{ℕ}
 use mathlib.Core.Path.{_≡_, refl, sym, ap, _∙_}
 use mathlib.Core.Bool.{true, false}
 use mathlib.Core.Logic.{_⊎_, inl, inr, ⊎-elim}
 use mathlib.Core.List.{List}
-use native.Mathlib.Omega.{arith}
 use lib.ListN.{length}
 use Rattle.laws.specs.Choice.{by-test}
 use Rattle.kinds.specs.Sizes as sizes
 use Rattle.kinds.specs.Reason as reason
 use Rattle.kinds.specs.declared.House.{House}
-use Rattle.kinds.specs.declared.Site.{Site}
 use Rattle.kinds.specs.declared.Answer.the-variants.{Refused}
 use Rattle.rules.specs.House.{isSite}
 use Rattle.rules.specs.Message.{messageHead, messageOk}
@@ -20,16 +18,17 @@ use Rattle.rules.specs.Valid.{siteOk, handedOk}
 use Rattle.rules.specs.ValidLaws.{handed-site}
 use Rattle.rules.specs.Merger.{mergerOk}
 use Rattle.rules.specs.MergerClear.{clear-merger}
-use Rattle.rules.specs.World.{World, Call, Is, step, siteStep, logStep, mergerStep, mergeStep, copyStep, replayStep, freshWorld}
+use Rattle.rules.specs.World.{World, Call, Is, step, siteStep, logStep, mergerStep, mergeStep, copyStep, replayStep}
 use Rattle.rules.specs.World as world
 use Rattle.rules.specs.Book.{Fact}
 use Rattle.rules.specs.Progress.{NoneOutOfTurn, MessagesProgress}
 use Rattle.rules.specs.Possible.{Impossible, StatesPossible, MessagesPass, CountEnds, NextGoes, Possible}
 use Rattle.rules.proofs.Tables.{all-is}
-use Rattle.rules.proofs.Stream.{Stream, freshStream}
+use Rattle.rules.proofs.Stream.{Stream}
 use Rattle.rules.proofs.Stands.{Stands, Keeps, list-stands}
 use Rattle.rules.proofs.Progress.{messages-progress}
-use Rattle.rules.proofs.WhyRefused.{begin-why, enlist-why, read-why, write-why, commit-why, abandon-why, install-why, report-why, merge-why, emit-why, replay-why, value-why}
+use Rattle.rules.proofs.WhyRefused.{begin-why, enlist-why, read-why, write-why, commit-why, abandon-why, install-why, report-why}
+use Rattle.rules.proofs.WhyRefused.{merge-why, emit-why, replay-why, value-why}
 use Rattle.rules.proofs.NextGoes.{message-why, next-held}
 use Rattle.rules.proofs.Kept.{Kept, houseOf, house-is, call-keeps, fresh-kept}
 

@@ -1,27 +1,25 @@
 -- The coordinator's calls, install and report leave the site possible, and write messages that pass the check.
-use Prim.Native.Nat.{ℕ, _+_, _-_, _*_, _≤_, _<_}
+use Prim.Native.Nat.{ℕ, _+_, _*_, _≤_, _<_}
 use mathlib.Core.Path.{_≡_, refl, sym, ap, _∙_}
-use mathlib.Core.Bool.{Bool, true, false}
+use mathlib.Core.Bool.{true}
 use mathlib.Core.List.{List, []}
 use native.Mathlib.Nat.{mod-eq-of-lt}
 use native.Mathlib.Omega.{arith}
 use borrow.Author.Tests.{eqb-true, eqb-false, ltb-true, lt-ltb}
-use lib.Dec.{leb, ltb, eqb}
+use lib.Dec.{ltb, eqb}
 use lib.ListN.{length, getD, set}
 use lib.Seq.{getD-set-same, getD-set-other}
 use Rattle.laws.specs.Choice.{by-test, by-same}
 use Rattle.laws.specs.Overlay.{putAt}
 use Rattle.kinds.specs.Sizes as sizes
-use Rattle.kinds.specs.Stage as stage
 use Rattle.kinds.specs.Reason as reason
 use Rattle.kinds.specs.State.{Value, subAt, entryAt, pastEntry, noSub, withInstalls}
 use Rattle.kinds.specs.declared.House.{House}
 use Rattle.kinds.specs.declared.Course.{Course}
 use Rattle.kinds.specs.declared.Entry.{Entry}
-use Rattle.kinds.specs.declared.Sub.{Sub}
 use Rattle.kinds.specs.declared.Site.{Site}
 use Rattle.kinds.specs.declared.Turn.{Turn}
-use Rattle.rules.specs.House.{isSite, isTx, inMask, coordinatorOf}
+use Rattle.rules.specs.House.{isSite, inMask, coordinatorOf}
 use Rattle.rules.specs.Message.{entryCount}
 use Rattle.rules.specs.Send.{countsLow}
 use Rattle.rules.specs.Live.{placeOf, allHeard}
@@ -29,25 +27,29 @@ use Rattle.rules.specs.History.{remembered, slotOf}
 use Rattle.rules.specs.HistoryLaws.{slot-low}
 use Rattle.rules.specs.Queue.{leastQueued, isDue}
 use Rattle.rules.specs.Join.{joined}
-use Rattle.rules.specs.Certify.{concurrent, voteOf}
+use Rattle.rules.specs.Certify.{concurrent}
 use Rattle.rules.specs.Valid.{siteOk, entryOk, listAt, countersOk, handedOk}
 use Rattle.rules.specs.Effect.{turnAt, changed}
 use Rattle.rules.specs.Course.{channelSpent, withSubOf, withCourseOf, withRequest, abortStep}
 use Rattle.rules.specs.Enlist.{isMine, enlistCode, joinerCode, enlistAt, enlistOf}
-use Rattle.rules.specs.Commit.{requestCode, commitCode, abandonCode, requestChange, isFull, isLost, commitChange, commitLists, commitOf, abandonOf}
-use Rattle.rules.specs.CallLaws.{enlist-clear, joiner-clear, request-clear, commit-clear, install-clear}
+use Rattle.rules.specs.Commit.{requestCode, commitCode, abandonCode, requestChange, isFull, isLost, commitChange, commitLists}
+use Rattle.rules.specs.Commit.{commitOf, abandonOf}
+use Rattle.rules.specs.CallLaws.{enlist-clear, joiner-clear, request-clear, install-clear}
 use Rattle.rules.specs.Install.{installCode, entryOf, installedAt, installOf, reportCode, reportOf}
 use Rattle.rules.specs.InstallLaws.{due-low, due-decided}
 use Rattle.rules.specs.MergerWords.{above, length-put}
 use Rattle.rules.specs.KeysLaws.{by-order}
 use Rattle.rules.proofs.Refines.{IsFree}
 use Rattle.rules.proofs.RefineStep.{by-code}
-use Rattle.rules.proofs.RefineMail.{none}
 use Rattle.rules.proofs.ValidMade.{keys-back, entry-made, history-made, site-tests, site-made, handed-made}
-use Rattle.rules.proofs.EntriesMade.{AllPossible, Carried, carried-possible, list-carried, join-carried, others-possible, more-possible}
+use Rattle.rules.proofs.EntriesMade.{AllPossible, Carried, carried-possible, list-carried, join-carried, others-possible}
+use Rattle.rules.proofs.EntriesMade.{more-possible}
 use Rattle.rules.proofs.CourseFits.{request-fits}
-use Rattle.rules.proofs.StepsFit.{Fits, TurnFits, ChangeFits, Leads, list-turn, gone-turn, abort-fits, prepare-fits, enlist-fits, cast-fits}
-use Rattle.rules.proofs.SitesFit.{Sound, EffectFits, site-ok, site-valid, lists-long, part-at, few-listed, old-possible, held-there, tx-there, tx-possible, old-fits, settled-live, settled-lists, settled-handed, changed-fits, refused-fits, unless-fits}
+use Rattle.rules.proofs.StepsFit.{TurnFits, ChangeFits, Leads, list-turn, gone-turn, abort-fits, prepare-fits, enlist-fits}
+use Rattle.rules.proofs.StepsFit.{cast-fits}
+use Rattle.rules.proofs.SitesFit.{Sound, EffectFits, site-ok, site-valid, lists-long, part-at, few-listed, old-possible, held-there}
+use Rattle.rules.proofs.SitesFit.{tx-there, tx-possible, old-fits, settled-live, settled-lists, settled-handed, changed-fits}
+use Rattle.rules.proofs.SitesFit.{refused-fits, unless-fits}
 
 module _ {s : Site} {lists : List ℕ} (y : Sound s lists) where
   abbrev o : House

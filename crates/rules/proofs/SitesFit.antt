@@ -22,7 +22,8 @@ use Rattle.rules.proofs.Refines.{IsFree, LiveIs}
 use Rattle.rules.proofs.RefineLive.{part-is, found-place}
 use Rattle.rules.proofs.RefineStep.{by-code}
 use Rattle.rules.proofs.RefineMail.{Made, none}
-use Rattle.rules.proofs.ValidMade.{course-back, keys-back, sub-made, sub-back, live-made, site-tests, site-made, lists-made, gathered-made, handed-made}
+use Rattle.rules.proofs.ValidMade.{course-back, keys-back, sub-made, sub-back, live-made, site-tests, site-made, lists-made}
+use Rattle.rules.proofs.ValidMade.{gathered-made, handed-made}
 use Rattle.rules.proofs.EntriesMade.{AllPossible}
 use Rattle.rules.proofs.Passing.{Passes}
 use Rattle.rules.proofs.StepsFit.{Fits, TurnFits, ChangeFits}

@@ -29,7 +29,9 @@ use Rattle.rules.specs.Live.{allHeard}
 use Rattle.rules.specs.Send.{headTo}
 use Rattle.rules.specs.Certify.{conflictsWith, uncertainOf, voteOf}
 use Rattle.rules.specs.Effect.{Change}
-use Rattle.rules.specs.Course.{withSubOf, withCourseOf, raise, headOf, sendTo, sendAll, quietly, withParticipant, enlistStep, withReply, abortStep, withDecision, commitStep, decideStep, withMark, castStep, prepareStep, voteStep, withStage, preparedStep, certifiedStep}
+use Rattle.rules.specs.Course.{withSubOf, withCourseOf, raise, headOf, sendTo, sendAll, quietly, withParticipant, enlistStep}
+use Rattle.rules.specs.Course.{withReply, abortStep, withDecision, commitStep, decideStep, withMark, castStep, prepareStep, voteStep}
+use Rattle.rules.specs.Course.{withStage, preparedStep, certifiedStep}
 use Rattle.rules.specs.Valid.{courseOk, countersOk}
 use Rattle.rules.specs.ValidLaws.{ValidHouse, ValidSite, valid-course, counters-own}
 use Rattle.rules.proofs.RefineMail.{Made, none}

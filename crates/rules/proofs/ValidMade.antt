@@ -1,32 +1,32 @@
 -- The way back of ValidLaws: what a part, an install and a site must be for the state not to be refused 2.
 use Prim.Native.Nat.{ℕ, zero, suc, _+_, _-_, _*_, _^_, _≤_, _<_}
-use mathlib.Core.Path.{_≡_, refl, sym, _∙_}
+use mathlib.Core.Path.{_≡_, sym}
 use mathlib.Core.List.{List, [], _∷_}
 use mathlib.Core.Bool.{Bool, true, false}
 use native.Mathlib.Omega.{arith}
 use borrow.Author.Tests.{ltb-true, lt-ltb, le-leb, eq-eqb, eqb-false}
 use lib.Bits.{bitOr, or-lt}
 use lib.Dec.{ltb, eqb}
-use lib.ListN.{length, getD, replicate}
+use lib.ListN.{length, getD}
 use lib.Pow.{pow-pos, pow-lt}
-use Rattle.laws.specs.Choice.{pick, by-test, every-at}
-use Rattle.laws.specs.Scan.{allBelow, all-below, split-last}
-use Rattle.laws.specs.Digits.{digit, onesBelow, digit-le, digit-or}
+use Rattle.laws.specs.Choice.{by-test, every-at}
+use Rattle.laws.specs.Scan.{all-below, split-last}
+use Rattle.laws.specs.Digits.{digit, onesBelow, digit-or}
 use Rattle.kinds.specs.Sizes as sizes
 use Rattle.kinds.specs.Stage as stage
-use Rattle.kinds.specs.State.{pastSub, pastEntry, noKeys, noSub}
+use Rattle.kinds.specs.State.{pastSub, pastEntry, noKeys}
 use Rattle.kinds.specs.declared.House.{House}
 use Rattle.kinds.specs.declared.Keys.{Keys}
 use Rattle.kinds.specs.declared.Course.{Course}
 use Rattle.kinds.specs.declared.Sub.{Sub}
 use Rattle.kinds.specs.declared.Entry.{Entry}
-use Rattle.kinds.specs.declared.Counters.{Counters}
 use Rattle.kinds.specs.declared.Site.{Site}
 use Rattle.rules.specs.House.{houseOk, isSite, isTx, siteOf, maskOf, isMask, inMask, participants, participants-sites}
 use Rattle.rules.specs.Message.{entryPossible}
 use Rattle.rules.specs.Keys.{keysAt, keysOk}
 use Rattle.rules.specs.History.{remembered}
-use Rattle.rules.specs.Valid.{courseOk, heldOk, subOk, entryOk, countersOk, liveOk, historyOk, siteOk, listAt, gatheredOk, listsOk, handedOk}
+use Rattle.rules.specs.Valid.{courseOk, heldOk, subOk, entryOk, countersOk, liveOk, historyOk, siteOk, listAt, gatheredOk, listsOk}
+use Rattle.rules.specs.Valid.{handedOk}
 use Rattle.rules.specs.ValidLaws.{ValidKeys, ValidCourse, ValidSub, digit-none}
 use Rattle.rules.specs.MaskLaws.{digit-one}
 use Rattle.rules.specs.MessageLaws.{site-clear}
@@ -77,8 +77,12 @@ module _ (m a : ℕ) (small : m < 2 ^ sizes.sites) (low : 1 ≤ a) (high : a ≤
   pub heard-more : inMask m a ≡ false → participants m + 1 ≤ participants (bitOr m (maskOf a))
   unfolding maskOf
   heard-more n =
-      omega (arith, participants-sites m small, participants-sites (bitOr m (2 ^ (a - 1))) with-small,
-      ones-more m (2 ^ (a - 1)) sizes.sites (a - 1) (omega arith) (digit-none m a n) (digit-one (a - 1)))
+      omega (
+        arith,
+        participants-sites m small,
+        participants-sites (bitOr m (2 ^ (a - 1))) with-small,
+        ones-more m (2 ^ (a - 1)) sizes.sites (a - 1) (omega arith) (digit-none m a n) (digit-one (a - 1)),
+      )
 
 -- Keys.
 keys-at : (o : House) (own : ℕ) (keys : List ℕ) (n : ℕ) → ((j : ℕ) → j < n → siteOf o (getD keys j 0) ≡ own) → keysAt o own keys n ≡ true

@@ -4,11 +4,11 @@ use mathlib.Core.Path.{_≡_, refl, sym, ap, _∙_}
 use mathlib.Core.Bool.{Bool, true, false, not}
 use mathlib.Core.List.{List, [], _∷_}
 use native.Mathlib.Omega.{arith}
-use borrow.Author.Tests.{eqb-true, eqb-false, eq-eqb, leb-true, not-true}
-use lib.Dec.{eqb, leb, ltb}
-use lib.ListN.{length, getD}
+use borrow.Author.Tests.{eqb-true, eqb-false, eq-eqb, leb-true}
+use lib.Dec.{eqb}
+use lib.ListN.{length}
 use Rattle.laws.specs.Choice.{pick, pick-self, some, by-test, set-not}
-use Rattle.laws.specs.Cause.{Cause, cause, codeOf, other-code}
+use Rattle.laws.specs.Cause.{Cause, codeOf}
 use Rattle.kinds.specs.Sizes as sizes
 use Rattle.kinds.specs.Reason as reason
 use Rattle.kinds.specs.Kind as kind
@@ -29,11 +29,14 @@ use Rattle.rules.specs.Answers.{isRefused}
 use Rattle.rules.specs.Effect.{Effect, turnAt, unless}
 use Rattle.rules.specs.Course.{quietly, channelSpent}
 use Rattle.rules.specs.Begin.{beginCauses, beginCode, begun, beginOf}
-use Rattle.rules.specs.Access.{accessCauses, accessCode, readCauses, readCode, readVersion, readAt, readOf, writeCauses, writeCode, writeCodeAt, written, writeAt, writeOf}
+use Rattle.rules.specs.Access.{accessCauses, accessCode, readCauses, readCode, readVersion, readAt, readOf, writeCauses, writeCode}
+use Rattle.rules.specs.Access.{writeCodeAt, written, writeAt, writeOf}
 use Rattle.rules.specs.Enlist.{isMine, enlistCauses, enlistCode, joinerCauses, joinerCode, enlistAt, enlistOf}
 use Rattle.rules.specs.Commit.{requestCauses, requestCode, commitCauses, commitCode, abandonCauses, abandonCode, commitOf, abandonOf}
 use Rattle.rules.specs.Install.{installCauses, installCode, installedAt, installOf, reportCauses, reportCode, reportOf}
-use Rattle.rules.specs.Merger.{Merging, unlessMerger, mergerOk, sourceAt, mergePartCauses, mergePartCode, mergePart, mergeStateCauses, mergeStateCode, mergeState, mergeCauses, mergeCode, mergeOf, headsOf, leastSite, dueCauses, dueCode, emitDue, emitCauses, emitCode, emitOf}
+use Rattle.rules.specs.Merger.{Merging, unlessMerger, mergerOk, sourceAt, mergePartCauses, mergePartCode, mergePart, mergeStateCauses}
+use Rattle.rules.specs.Merger.{mergeStateCode, mergeState, mergeCauses, mergeCode, mergeOf, headsOf, leastSite, dueCauses, dueCode}
+use Rattle.rules.specs.Merger.{emitDue, emitCauses, emitCode, emitOf}
 use Rattle.rules.specs.Copy.{replayCauses, replayCode, replayOf, valueCauses, valueCode, valueOf}
 use Rattle.rules.proofs.Spoken.{enlist-speaks, abort-speaks}
 use Rattle.rules.proofs.KnownWords.{commit-speaks}
