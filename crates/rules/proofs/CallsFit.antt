@@ -124,13 +124,23 @@ module _ {s : Site} {lists : List ℕ} (y : Sound s lists) where
     keys-sized : Sized (subAt s place .keys)
     keys-sized = let (q, f, e) = place-held (y .live) t low in rw q (y .live .sized t f)
 
-    keys-turn : (b : Keys) → keysOk o own b ≡ true → TurnFits s (listAt lists place) (withSubOf (turnAt s place) (withKeys (subAt s place) b))
+    keys-turn : (b : Keys) → keysOk o own b ≡ true
+        → TurnFits s (listAt lists place) (withSubOf (turnAt s place) (withKeys (subAt s place) b))
     unfolding turnAt
     keys-turn b e =
         let x = old-fits y place low (held-there y t low) in
-        record { own = x .own; installs = x .installs; counters = x .counters; course = x .course; keys = e; tx = x .tx; entries = x .entries }
+        record {
+          own = x .own;
+          installs = x .installs;
+          counters = x .counters;
+          course = x .course;
+          keys = e;
+          tx = x .tx;
+          entries = x .entries;
+        }
 
-    version-fits : (base : List Value) (k : ℕ) → siteOf o k ≡ own → (readKey (subAt s place .keys) k ≡ false → subAt s place .keys .read < sizes.reads)
+    version-fits : (base : List Value) (k : ℕ) → siteOf o k ≡ own
+        → (readKey (subAt s place .keys) k ≡ false → subAt s place .keys .read < sizes.reads)
         → EffectFits s (readVersion s base place k) lists
     unfolding readVersion
     version-fits base k here room =
@@ -138,7 +148,8 @@ module _ {s : Site} {lists : List ℕ} (y : Sound s lists) where
         let more = read-keys o own k b (part-at y place low .keys) keys-sized here room in
         changed-fits y place low _ [] (record { turn = keys-turn (withRead b k) more; words = none })
 
-    written-fits : (k : ℕ) (v : Value) → siteOf o k ≡ own → (wroteKey (subAt s place .keys) k ≡ false → subAt s place .keys .wrote < sizes.writes)
+    written-fits : (k : ℕ) (v : Value) → siteOf o k ≡ own
+        → (wroteKey (subAt s place .keys) k ≡ false → subAt s place .keys .wrote < sizes.writes)
         → EffectFits s (written s place k v) lists
     unfolding written
     written-fits k v here room =
@@ -169,4 +180,6 @@ module _ {s : Site} {lists : List ℕ} (y : Sound s lists) where
       let c = access-clear _ _ _ _ _ _ _ z in
       by-test (wroteKey (subAt s place .keys) k)
       (λ e. rw e (written-fits t (c .held) k v (c .here) (λ f. absurd (set-not _ e f))))
-      (λ e. rw e (unless-fits y (writeCodeAt s place k) [] _ (λ r. written-fits t (c .held) k v (c .here) (λ f. write-clear _ _ _ _ r .room)))))
+      (λ e. rw e
+      (unless-fits y (writeCodeAt s place k) [] _
+      (λ r. written-fits t (c .held) k v (c .here) (λ f. write-clear _ _ _ _ r .room)))))

@@ -1,4 +1,5 @@
--- A part's course stays possible: masks gain sites of the house, each reply but the own brings at most 47 entries, and a fresh round has none.
+-- A part's course stays possible: masks gain sites of the house, a site not heard before brings at most 47 entries, and a fresh round
+-- has heard nobody.
 use Prim.Native.Nat.{ℕ, _≤_}
 use mathlib.Core.Path.{_≡_, refl, sym}
 use mathlib.Core.Bool.{true, false}
@@ -28,7 +29,8 @@ module _ (o : House) (own : ℕ) (house : ValidHouse o own) where
   valid c e = valid-course o own c house e
 
   -- a fresh round, of a list of n entries or of none
-  round-fits : (c : Course) → c .stage ≤ stage.rejected → isMask o (c .mask) ≡ true → c .heard ≡ 0 → c .listed ≤ sizes.concEntries → courseOk o own c ≡ true
+  round-fits : (c : Course) → c .stage ≤ stage.rejected → isMask o (c .mask) ≡ true → c .heard ≡ 0 → c .listed ≤ sizes.concEntries
+      → courseOk o own c ≡ true
   round-fits c st m h l = course-made o own c st m (rw h (none-mask o)) (rw h (unheard own)) (omega arith)
 
   pub none-fits : courseOk o own noCourse ≡ true
@@ -43,7 +45,8 @@ module _ (o : House) (own : ℕ) (house : ValidHouse o own) where
     unfolding withParticipant
     participant-fits a h =
         let v = valid c e in
-        course-made o own _ (v .stage) (both-mask o (c .mask) (maskOf a) (v .mask-house) (site-mask o a h)) (v .heard-house) (v .others) (v .listed)
+        let more = both-mask o (c .mask) (maskOf a) (v .mask-house) (site-mask o a h) in
+        course-made o own _ (v .stage) more (v .heard-house) (v .others) (v .listed)
 
     pub decision-fits : (n : ℕ) → courseOk o own (withDecision c n) ≡ true
     unfolding withDecision
@@ -72,9 +75,12 @@ module _ (o : House) (own : ℕ) (house : ValidHouse o own) where
         let high : a ≤ sizes.sites = omega (arith, b .high, house .few-sites) in
         course-made o own _ (v .stage) (v .mask-house) (both-mask o (c .heard) (maskOf a) (v .heard-house) (site-mask o a h))
         (by-test (inMask (bitOr (c .heard) (maskOf a)) own)
-        (λ t. absurd (⊎-elim (λ (y : inMask (c .heard) own ≡ true). set-not _ y (v .others)) (λ (y : own ≡ a). apart (sym y)) (in-more (c .heard) a own low (house .own-low) t)))
+        (λ t. absurd
+        (⊎-elim (λ (y : inMask (c .heard) own ≡ true). set-not _ y (v .others)) (λ (y : own ≡ a). apart (sym y))
+        (in-more (c .heard) a own low (house .own-low) t)))
         (λ f. f))
         (⊎-elim
         (λ (z : n ≡ 0). omega (arith, v .listed, heard-kept (c .heard) a (v .heard-low) low high))
-        (λ (z : (inMask (c .heard) a ≡ false) × (n ≤ sizes.concEntries)). omega (arith, v .listed, z .1, heard-more (c .heard) a (v .heard-low) low high (z .0)))
+        (λ (z : (inMask (c .heard) a ≡ false) × (n ≤ sizes.concEntries)).
+        omega (arith, v .listed, z .1, heard-more (c .heard) a (v .heard-low) low high (z .0)))
         new)

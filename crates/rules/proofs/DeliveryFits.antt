@@ -139,7 +139,8 @@ module _ {s : Site} {lists : List ℕ} (y : Sound s lists) where
         keeping-fits s lists _
         (unless-fits y (replyCode true (spentTo s (h .from))) [] _
         (λ z. spoken-fits [] _
-        (vote-fits valid (raise-fits s [] (joinTurn s h) (h .clock) (join-turn [])) on (t .counters .clock) reason.unknown (may-unknown o))))))
+        (vote-fits valid (raise-fits s [] (joinTurn s h) (h .clock) (join-turn [])) on (t .counters .clock) reason.unknown
+        (may-unknown o))))))
         (λ e. rw e (keeping-fits s lists _ (passed-fits (h .from))))
 
     -- For one that is held.
@@ -170,7 +171,12 @@ module _ {s : Site} {lists : List ℕ} (y : Sound s lists) where
       replies : coordinatorOf (h .tx) ≡ h .from → Replies s turn (h .from)
       unfolding arrived
       replies e =
-          record { tx = possible; theirs = ap coordinatorOf (tx-there y (h .tx) low) ∙ e; site = clear .ends .from; apart = λ z. apart (sym z) }
+          record {
+            tx = possible;
+            theirs = ap coordinatorOf (tx-there y (h .tx) low) ∙ e;
+            site = clear .ends .from;
+            apart = λ z. apart (sym z);
+          }
 
       -- the same after its clock is raised
       abbrev raised : Turn
@@ -188,21 +194,26 @@ module _ {s : Site} {lists : List ℕ} (y : Sound s lists) where
       raised-replies x = record { tx = x .tx; theirs = x .theirs; site = x .site; apart = x .apart }
 
       -- a step at its place, or its refusal
-      step-fits : (inTurn spent : Bool) (c : Change) → ChangeFits s gathered c → EffectFits s (keeping lists (stepUnless (replyCode inTurn spent) s place c)) lists
-      step-fits inTurn spent c x = keeping-fits s lists _ (unless-fits y (replyCode inTurn spent) [] _ (λ z. changed-fits y place low c [] x))
+      step-fits : (inTurn spent : Bool) (c : Change) → ChangeFits s gathered c
+          → EffectFits s (keeping lists (stepUnless (replyCode inTurn spent) s place c)) lists
+      step-fits inTurn spent c x =
+          keeping-fits s lists _ (unless-fits y (replyCode inTurn spent) [] _ (λ z. changed-fits y place low c [] x))
 
       take-joined : h .kind ≡ kind.joined → EffectFits s (keeping lists (takeJoined s h place)) lists
       unfolding takeJoined toCoordinator
       take-joined k =
           step-fits _ _ _
-          (quietly-fits s gathered (withCourseOf turn (withReply (turn .sub .course) (h .from) (h .argument) 0)) (reply-turn valid fits (leads (to-coordinator k refl)) (h .from) (h .argument) (clear .ends .from) apart))
+          (quietly-fits s gathered (withCourseOf turn (withReply (turn .sub .course) (h .from) (h .argument) 0))
+          (reply-turn valid fits (leads (to-coordinator k refl)) (h .from) (h .argument) (clear .ends .from) apart))
 
       take-prepare : h .kind ≡ kind.prepare → EffectFits s (keeping lists (takePrepare s h place)) lists
       unfolding takePrepare toCoordinator argumentOk
       take-prepare k =
-          let a = every-at (isMask o (h .argument) ∷ inMask (h .argument) (h .from) ∷ inMask (h .argument) (h .to) ∷ []) 0 (rw k at (clear .argument)) in
+          let l = isMask o (h .argument) ∷ inMask (h .argument) (h .from) ∷ inMask (h .argument) (h .to) ∷ [] in
+          let mask = every-at l 0 (rw k at (clear .argument)) in
           step-fits _ _ _
-          (prepared-fits valid raised-fits (raised-replies (replies (from-coordinator k refl))) (h .argument) _ (concurrent s place) a (list-carried s (site-ok y) place low))
+          (prepared-fits valid raised-fits (raised-replies (replies (from-coordinator k refl))) (h .argument) _ (concurrent s place) mask
+          (list-carried s (site-ok y) place low))
 
       take-cert : h .kind ≡ kind.cert → EffectFits s (keeping lists (takeCert s h es place)) lists
       unfolding takeCert toCoordinator
@@ -219,9 +230,11 @@ module _ {s : Site} {lists : List ℕ} (y : Sound s lists) where
       take-commit : EffectFits s (keeping lists (takeCommit s h place)) lists
       unfolding takeCommit raise arrived withDecision
       take-commit =
+          let c = subAt s place .course in
+          let decided = decision-fits o here (valid .house) c (fits .course) (h .clock) in
           step-fits _ _ _
-          (quietly-fits s gathered (withCourseOf raised (withDecision (subAt s place .course) (h .clock)))
-          (course-turn valid raised raised-fits _ possible (decision-fits o here (valid .house) (subAt s place .course) (fits .course) (h .clock)) (fits .entries)))
+          (quietly-fits s gathered (withCourseOf raised (withDecision c (h .clock)))
+          (course-turn valid raised raised-fits _ possible decided (fits .entries)))
 
       take-abort : EffectFits s (keeping lists (takeAbort s h place)) lists
       unfolding takeAbort
@@ -243,7 +256,8 @@ module _ {s : Site} {lists : List ℕ} (y : Sound s lists) where
         room =
             let b = site-clear o (h .from) (clear .ends .from) in
             let v = valid .house in
-            conc-room o here (h .from) (h .count) (subAt s place .course) v (part-at y place low .course) (b .low) (omega (arith, b .high, v .few-sites)) apart inTurn few
+            conc-room o here (h .from) (h .count) (subAt s place .course) v (part-at y place low .course) (b .low)
+            (omega (arith, b .high, v .few-sites)) apart inTurn few
 
         entries : AllPossible o es (h .count)
         entries i m = carried-possible o es i (all-below-at (entryOk o es) (h .count) i (good .entries) m)
@@ -251,14 +265,16 @@ module _ {s : Site} {lists : List ℕ} (y : Sound s lists) where
         stands : AllPossible o (listAt after place) (subAt s place .course .listed + h .count)
         unfolding gatherLists
         stands =
-            more-possible o lists es (sizes.gathered * place + sizes.entry * subAt s place .course .listed) place (lists-long y) low (omega arith)
-            (omega (arith, good .size, room)) (subAt s place .course .listed) (h .count) refl (good .size) (old-possible y place low held) entries
+            let n = subAt s place .course .listed in
+            more-possible o lists es (sizes.gathered * place + sizes.entry * n) place (lists-long y) low (omega arith)
+            (omega (arith, good .size, room)) n (h .count) refl (good .size) (old-possible y place low held) entries
 
         conc-turn : TurnFits s (listAt after place) (withCourseOf turn course)
         unfolding arrived withReply concInTurn
         conc-turn =
             let b = subAt s place .course in
-            let unheard = outstanding-unheard b (h .from) (every-at (eqb (b .stage) stage.prepared ∷ isOutstanding b (h .from) ∷ []) 1 inTurn) in
+            let l = eqb (b .stage) stage.prepared ∷ isOutstanding b (h .from) ∷ [] in
+            let unheard = outstanding-unheard b (h .from) (every-at l 1 inTurn) in
             list-turn valid turn fits (listAt after place) course possible
             (reply-fits o here (valid .house) b (fits .course) (h .from) 0 (h .count) (clear .ends .from) apart (inr (unheard, few))) stands
 
@@ -289,7 +305,8 @@ module _ {s : Site} {lists : List ℕ} (y : Sound s lists) where
       take-conc k =
           let b = subAt s place .course in
           let c = withReply b (h .from) 0 (h .count) in
-          by-code Left (replyCode (concInTurn b (h .from)) (every (allHeard here (c .heard) (c .mask) ∷ spentToAll s (b .mask) ∷ []))) s lists _
+          let last = allHeard here (c .heard) (c .mask) in
+          by-code Left (replyCode (concInTurn b (h .from)) (every (last ∷ spentToAll s (b .mask) ∷ []))) s lists _
           (λ z. conc-fits k (reply-clear _ _ z .turn)) (refused-fits y _ lists)
 
       take-held : Left (takeHeld (h .kind) s h es lists place)

@@ -138,7 +138,8 @@ word-of l k =
     sym (getD-take 1 (drop k l) 0 0 (omega arith) ∙ getD-drop k l 0 0 ∙ ap (λ (x : ℕ). getD l x 0) z)
 
 -- entry i of es has the words of entry j of fs
-same-entry : (o : House) (es fs : List ℕ) (i j : ℕ) → ((r : ℕ) → r < sizes.entry → getD es (sizes.entry * i + r) 0 ≡ getD fs (sizes.entry * j + r) 0)
+same-entry : (o : House) (es fs : List ℕ) (i j : ℕ)
+    → ((r : ℕ) → r < sizes.entry → getD es (sizes.entry * i + r) 0 ≡ getD fs (sizes.entry * j + r) 0)
     → entryPossible o fs j ≡ true → entryPossible o es i ≡ true
 unfolding entryPossible
 same-entry o es fs i j f e = rw (f 0 (omega arith), f 1 (omega arith), f 2 (omega arith)) e
@@ -161,7 +162,8 @@ module _ (o : House) (lists ws : List ℕ) (at place : ℕ) (size : length lists
       word-of after (at + k) ∙ ap (λ (l : List ℕ). getD l 0 0) (put-within at lists ws k 1 (omega arith) (omega arith)) ∙ sym (word-of ws k)
 
   -- at another place the entries stay
-  pub others-possible : (j n : ℕ) → (j ≡ place → ⊥) → n ≤ sizes.certEntries → AllPossible o (listAt lists j) n → AllPossible o (listAt after j) n
+  pub others-possible : (j n : ℕ) → (j ≡ place → ⊥) → n ≤ sizes.certEntries → AllPossible o (listAt lists j) n
+      → AllPossible o (listAt after j) n
   others-possible j n apart few all i h =
       let b = sizes.gathered * j in
       same-entry o (listAt after j) (listAt lists j) i i
@@ -175,13 +177,15 @@ module _ (o : House) (lists ws : List ℕ) (at place : ℕ) (size : length lists
       (all i h)
 
   -- at its own they stand behind the first k
-  pub more-possible : (k n : ℕ) → at ≡ sizes.gathered * place + sizes.entry * k → length ws ≡ sizes.entry * n → AllPossible o (listAt lists place) k
-      → AllPossible o ws n → AllPossible o (listAt after place) (k + n)
+  pub more-possible : (k n : ℕ) → at ≡ sizes.gathered * place + sizes.entry * k → length ws ≡ sizes.entry * n
+      → AllPossible o (listAt lists place) k → AllPossible o ws n → AllPossible o (listAt after place) (k + n)
   more-possible k n e whole old new i h =
       let b = sizes.gathered * place in
       by-order i k
       (λ z. same-entry o (listAt after place) (listAt lists place) i i
-      (λ r l. getD-drop b after (sizes.entry * i + r) 0 ∙ word-before (b + (sizes.entry * i + r)) (omega arith) ∙ sym (getD-drop b lists (sizes.entry * i + r) 0))
+      (λ r l.
+      let k = sizes.entry * i + r in
+      getD-drop b after k 0 ∙ word-before (b + k) (omega arith) ∙ sym (getD-drop b lists k 0))
       (old i z))
       (λ z. same-entry o (listAt after place) ws i (i - k)
       (λ r l.

@@ -56,7 +56,8 @@ module _ (s : Site) (no : siteOk s ≡ false) where
   begin-silent : Silent (beginOf s)
   unfolding beginOf
   begin-silent =
-      by-code Silent (beginCode (siteOk s) (s .counters) (freePlace (s .live))) s [] _ (λ z. absurd (set-not _ (begin-clear _ _ _ z .valid) no)) refl
+      by-code Silent (beginCode (siteOk s) (s .counters) (freePlace (s .live))) s [] _
+      (λ z. absurd (set-not _ (begin-clear _ _ _ z .valid) no)) refl
 
   enlist-silent : (room t a : ℕ) → Silent (enlistOf s room t a)
   unfolding enlistOf
@@ -122,14 +123,16 @@ module _ {sites : ℕ} {w : World} {p : Protocol} (r : Refines sites w p) (i : I
   unfolding siteStep
   site-kept s e base lists f silent =
       record {
-        site = upd-both (λ j x y. 1 ≤ j → j ≤ sites → handedOk x y ≡ true) (w .site) (w .lists) s (e .site) lists (λ a b. f a b .handed) (λ j n. k .site j);
+        site = upd-both (λ j x y. 1 ≤ j → j ≤ sites → handedOk x y ≡ true) (w .site) (w .lists) s (e .site) lists (λ a b. f a b .handed)
+            (λ j n. k .site j);
         pass = all-append (k .pass) (made-in words);
       }
     where
       words : Made (Passes (houseOf sites)) (e .words)
       words = by-site sites s (λ a b. rw (house-is s a b) at (f a b .words)) (λ n. rw (silent (r .outside s n)) none)
 
-  log-kept : (s : ℕ) (e : Effect) (base : List Value) → (1 ≤ s → s ≤ sites → handedOk (e .site) (w .lists s) ≡ true) → Kept sites (logStep w s e base .world)
+  log-kept : (s : ℕ) (e : Effect) (base : List Value) → (1 ≤ s → s ≤ sites → handedOk (e .site) (w .lists s) ≡ true)
+      → Kept sites (logStep w s e base .world)
   unfolding logStep
   log-kept s e base f =
       record {
@@ -213,6 +216,7 @@ pub fresh-kept : (sites : ℕ) → 1 ≤ sites → sites ≤ sizes.sites → Kep
 unfolding freshWorld
 fresh-kept sites some few =
     record {
-      site = λ s a b. rw (started sites s some few a b, fresh-table (startCode sites s sizes.keys sizes.lists) sizes.lists) (fresh-handed sites s some few a b);
+      site = λ s a b. rw (started sites s some few a b, fresh-table (startCode sites s sizes.keys sizes.lists) sizes.lists)
+          (fresh-handed sites s some few a b);
       pass = a-nil;
     }

@@ -96,19 +96,23 @@ module _ (s : Site) (ok : siteOk s ≡ true) (h : MessageHead) (from : isSite (s
     unfolding takeJoin joinAt spoken sendTo
     join-goes place =
         unless-refuses Held (replyCode (leb sizes.live place) (spentTo s (h .from))) s [] _ (reply-held _ _ to-ends)
-        (λ z. by-test (ltb (freePlace (s .live)) sizes.live) (λ e. rw e (accepted-refuses Held _ refl)) (λ e. rw e (accepted-refuses Held _ refl)))
+        (λ z. by-test (ltb (freePlace (s .live)) sizes.live) (λ e. rw e (accepted-refuses Held _ refl))
+        (λ e. rw e (accepted-refuses Held _ refl)))
 
     other-goes : Goes (takeOther (h .kind) s h lists)
     unfolding takeOther passPrepare passed spoken sendTo
     other-goes =
         by-test (eqb (h .kind) kind.prepare)
-        (λ e. rw e (unless-refuses Held (replyCode true (spentTo s (h .from))) s [] _ (reply-held true _ to-ends) (λ z. accepted-refuses Held _ refl)))
+        (λ e. rw e (unless-refuses Held (replyCode true (spentTo s (h .from))) s [] _ (reply-held true _ to-ends)
+        (λ z. accepted-refuses Held _ refl)))
         (λ e. rw e (accepted-refuses Held _ refl))
 
     module _ (es : List ℕ) (place : ℕ) (low : place < sizes.live) where
       -- where a decision falls, or the last list is here
       others-end : (last : Bool) → every (last ∷ spentToAll s (subAt s place .course .mask) ∷ []) ≡ true → CountEnds o s
-      others-end last e = all-ends _ (valid-site s ok .part place low .course .mask-house) (every-at (last ∷ spentToAll s (subAt s place .course .mask) ∷ []) 1 e)
+      others-end last e =
+          all-ends _ (valid-site s ok .part place low .course .mask-house)
+          (every-at (last ∷ spentToAll s (subAt s place .course .mask) ∷ []) 1 e)
 
       conc-goes : Goes (takeConc s h es lists place)
       unfolding takeConc
@@ -117,14 +121,16 @@ module _ (s : Site) (ok : siteOk s ≡ true) (h : MessageHead) (from : isSite (s
           let c = withReply b (h .from) 0 (h .count) in
           let made = gatherLists s place es lists in
           let all = allHeard (s .counters .own) (c .heard) (c .mask) in
-          unless-refuses Held (replyCode (concInTurn b (h .from)) (every (all ∷ spentToAll s (b .mask) ∷ []))) s lists _ (reply-held _ _ (others-end all))
+          unless-refuses Held (replyCode (concInTurn b (h .from)) (every (all ∷ spentToAll s (b .mask) ∷ []))) s lists _
+          (reply-held _ _ (others-end all))
           (λ z. accepted-refuses Held _ (gather-speaks s h place made .accepts))
 
       vote-goes : Goes (keeping lists (takeVote s h place))
       unfolding takeVote arrived raise
       vote-goes =
           let c = subAt s place .course in
-          step-goes place (voteInTurn c (h .from) (h .argument)) _ (voteStep (raise (arrived s place (h .from)) (h .clock)) (h .from) (h .argument))
+          step-goes place (voteInTurn c (h .from) (h .argument)) _
+          (voteStep (raise (arrived s place (h .from)) (h .clock)) (h .from) (h .argument))
           (others-end (voteDecides (s .counters .own) c (h .from) (h .argument))) (vote-speaks _ (h .from) (h .argument))
 
       held-goes : Goes (takeHeld (h .kind) s h es lists place)
@@ -133,7 +139,8 @@ module _ (s : Site) (ok : siteOk s ≡ true) (h : MessageHead) (from : isSite (s
           by-test (eqb (h .kind) kind.joined)
           (λ a. rw a (step-goes place _ false _ quiet (quietly-speaks _)))
           (λ a. by-test (eqb (h .kind) kind.prepare)
-          (λ b. rw (a, b) (step-goes place _ _ _ to-ends (prepared-speaks _ (h .from) (h .argument) _ (concurrent s place) (concurrent-whole s place))))
+          (λ b. rw (a, b) (step-goes place _ _ _ to-ends (prepared-speaks _ (h .from) (h .argument) _ (concurrent s place)
+          (concurrent-whole s place))))
           (λ b. by-test (eqb (h .kind) kind.conc)
           (λ c. rw (a, b, c) conc-goes)
           (λ c. by-test (eqb (h .kind) kind.cert)
@@ -171,7 +178,8 @@ module _ (s : Site) (lists : List ℕ) (ok : handedOk s lists ≡ true) (m : Lis
       (λ y. other (nextCauses (h .to) (s .counters .own) (h .channel) taken) refl)
       (λ y n q e.
       let from = from-site (arrival-clear (handedOk s lists) room (messageOk (s .house) m) z .formed) in
-      ⊎-elim (λ (g : n ≡ reason.stage). absurd (omega arith)) (λ (g : (n ≡ reason.spent) × CountEnds (s .house) s). absurd (omega (arith, g .0)))
+      ⊎-elim (λ (g : n ≡ reason.stage). absurd (omega arith))
+      (λ (g : (n ≡ reason.spent) × CountEnds (s .house) s). absurd (omega (arith, g .0)))
       (kind-goes s (handed-site s lists ok) h from lists (messageEntries m) (placeOf (s .live) (h .tx)) n q)))
 
   -- the next of its channel
@@ -181,4 +189,5 @@ module _ (s : Site) (lists : List ℕ) (ok : handedOk s lists ≡ true) (m : Lis
   unfolding messageOf messageAt arrivalCode nextCode
   next-held room long formed here next =
       rw (ok, formed, le-ltb room sizes.outgoing long, eq-eqb _ _ here, eq-eqb _ _ next)
-      (kind-goes s (handed-site s lists ok) (messageHead m) (from-site formed) lists (messageEntries m) (placeOf (s .live) (messageHead m .tx)))
+      (kind-goes s (handed-site s lists ok) (messageHead m) (from-site formed) lists (messageEntries m)
+      (placeOf (s .live) (messageHead m .tx)))

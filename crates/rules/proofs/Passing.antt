@@ -49,7 +49,8 @@ pub record Says (o : House) (h : MessageHead) : Type 0 where
   pub clock : pick (carriesClock (h .kind)) true (eqb (h .clock) 0) ≡ true
   pub argument : argumentOk o h ≡ true
 
-head-made : (o : House) (h : MessageHead) → Between o (h .from) (h .to) (h .tx) → Says o h → h .count ≤ mostEntries (h .kind) → headOk o h ≡ true
+head-made : (o : House) (h : MessageHead) → Between o (h .from) (h .to) (h .tx) → Says o h → h .count ≤ mostEntries (h .kind)
+    → headOk o h ≡ true
 unfolding headOk endsOk
 head-made o h b x few =
     rw (
@@ -97,9 +98,11 @@ recipient-apart mask a i e z = eqb-false (i + 1) a (not-true _ (every-at (eqb (d
 
 pub recipient-site : (o : House) (mask a i : ℕ) → isMask o mask ≡ true → isRecipient mask a i ≡ true → isSite o (i + 1) ≡ true
 unfolding isSite
-recipient-site o mask a i h e = rw (le-leb 1 (i + 1) (omega arith), le-leb (i + 1) (o .sites) (mask-site o mask (i + 1) h (recipient-in mask a i e)))
+recipient-site o mask a i h e =
+    rw (le-leb 1 (i + 1) (omega arith), le-leb (i + 1) (o .sites) (mask-site o mask (i + 1) h (recipient-in mask a i e)))
 
-pub all-pass : (o : House) (t : Turn) (a : Answer) (k clock v : ℕ) (es : List ℕ) → isSite o (t .counters .own) ≡ true → isMask o (t .sub .course .mask) ≡ true
+pub all-pass : (o : House) (t : Turn) (a : Answer) (k clock v : ℕ) (es : List ℕ) → isSite o (t .counters .own) ≡ true
+    → isMask o (t .sub .course .mask) ≡ true
     → isTx o (t .sub .tx) ≡ true → Carried o (mostEntries k) es
     → ((i : ℕ) → inMask (t .sub .course .mask) (i + 1) ≡ true
     → Says o (headTo (headOf k (t .counters .own) 0 0 (t .sub .tx) clock v (entryCount es)) (t .channels .sent) i))

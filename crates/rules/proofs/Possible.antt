@@ -70,13 +70,18 @@ module _ {sites : ℕ} {w : World} {b : List Fact} (x : Stands (More sites) site
   calls-possible : (c : Call) → step w c .answer ≡ Refused reason.malformed → Impossible o c
   unfolding step siteStep logStep mergeStep mergerStep replayStep copyStep
   calls-possible (world.begin s) q = none-else s (λ t. begin-why (w .site s) (valid s t) 2 q refl)
-  calls-possible (world.enlist s out tx a) q = none-or s (λ t. rw (site-house s t) at (enlist-why (w .site s) (valid s t) (length out) tx a 2 q refl))
-  calls-possible (world.read s tx k) q = none-or s (λ t. rw (site-house s t) at (read-why (w .site s) (valid s t) (w .base s) tx k (base-long s t) 2 q refl))
+  calls-possible (world.enlist s out tx a) q =
+      none-or s (λ t. rw (site-house s t) at (enlist-why (w .site s) (valid s t) (length out) tx a 2 q refl))
+  calls-possible (world.read s tx k) q =
+      none-or s (λ t. rw (site-house s t) at (read-why (w .site s) (valid s t) (w .base s) tx k (base-long s t) 2 q refl))
   calls-possible (world.write s tx k v) q = none-or s (λ t. rw (site-house s t) at (write-why (w .site s) (valid s t) tx k v 2 q refl))
-  calls-possible (world.commit s out tx) q = none-else s (λ t. commit-why (w .site s) (valid s t) (length out) (w .lists s) tx (site-ok s t) 2 q refl)
+  calls-possible (world.commit s out tx) q =
+      none-else s (λ t. commit-why (w .site s) (valid s t) (length out) (w .lists s) tx (site-ok s t) 2 q refl)
   calls-possible (world.abandon s out tx) q = none-else s (λ t. abandon-why (w .site s) (valid s t) (length out) tx 2 q refl)
-  calls-possible (world.message s out m) q = none-or s (λ t. rw (site-house s t) at (message-why (w .site s) (w .lists s) (site-ok s t) m (length out) 2 q refl))
-  calls-possible (world.install s out) q = none-else s (λ t. install-why (w .site s) (valid s t) (length out) (w .base s) (base-long s t) 2 q refl)
+  calls-possible (world.message s out m) q =
+      none-or s (λ t. rw (site-house s t) at (message-why (w .site s) (w .lists s) (site-ok s t) m (length out) 2 q refl))
+  calls-possible (world.install s out) q =
+      none-else s (λ t. install-why (w .site s) (valid s t) (length out) (w .base s) (base-long s t) 2 q refl)
   calls-possible (world.report s out) q = none-else s (λ t. report-why (w .site s) (valid s t) (length out) 2 q refl)
   calls-possible (world.merge m) q = rw merger-house at (merge-why (w .merger) (w .queues) merger-ok m 2 q refl)
   calls-possible (world.emit out) q = emit-why (w .merger) (w .queues) merger-ok (length out) 2 q refl

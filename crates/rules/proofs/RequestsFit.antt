@@ -126,8 +126,8 @@ module _ {s : Site} {lists : List ℕ} (y : Sound s lists) where
           record {
             handed = settled-handed y place low (requestChange s place list .turn) (x .turn) after refl
                 (length-put (sizes.gathered * place) lists list (omega (arith, fit, lists-long y)) ∙ lists-long y)
-                (λ j k m f. others-possible o lists list (sizes.gathered * place) place (lists-long y) low (omega arith) fit j _ m (few-listed y j k)
-                (old-possible y j k f));
+                (λ j k m f. others-possible o lists list (sizes.gathered * place) place (lists-long y) low (omega arith) fit j _ m
+                (few-listed y j k) (old-possible y j k f));
             words = x .words;
           }
 
@@ -150,7 +150,8 @@ module _ {s : Site} {lists : List ℕ} (y : Sound s lists) where
       (λ j.
       let other = eqb-false a here (joiner-clear _ _ _ _ j .other) in
       changed-fits y place (q .held) _ []
-      (enlist-fits (site-valid y) (fits t (q .held) (q .coordinator)) (leads t (q .held) (q .coordinator)) a (q .site) (λ e. other (sym e)))))
+      (enlist-fits (site-valid y) (fits t (q .held) (q .coordinator)) (leads t (q .held) (q .coordinator)) a (q .site)
+      (λ e. other (sym e)))))
 
   pub abandon-call : (room t : ℕ) → EffectFits s (abandonOf s room t) lists
   unfolding abandonOf
@@ -205,7 +206,8 @@ module _ {s : Site} {lists : List ℕ} (y : Sound s lists) where
     abbrev gone : Turn
     gone = withSubOf (turnAt s place) noSub
 
-    slot-fits : (i : ℕ) → i < sizes.history → entryOk o here (ltb i (remembered (n + 1))) (getD (set (s .history) (slotOf n) entry) i pastEntry) ≡ true
+    slot-fits : (i : ℕ) → i < sizes.history
+        → entryOk o here (ltb i (remembered (n + 1))) (getD (set (s .history) (slotOf n) entry) i pastEntry) ≡ true
     unfolding entryOf
     slot-fits i k =
         let b = part-at y place low in
@@ -214,8 +216,8 @@ module _ {s : Site} {lists : List ℕ} (y : Sound s lists) where
         (λ z. rw (z, getD-set-same (s .history) (slotOf n) entry pastEntry (omega (arith, slot-low n, y .history)))
         (entry-made o here _ entry (b .course .mask-house) (keys-back o here _ (b .keys)) (λ u. b .tx held)))
         (λ z. rw (getD-set-other (s .history) (slotOf n) i entry pastEntry z)
-        (let was : ltb i (remembered (n + 1)) ≡ true → ltb i (remembered n) ≡ true = λ u. lt-ltb i (remembered n) (used-before n i z (ltb-true _ _ u)) in
-        entry-made o here _ (entryAt s i) (e .mask-house) (keys-back o here _ (e .keys)) (λ u. e .tx (was u))))
+        (entry-made o here _ (entryAt s i) (e .mask-house) (keys-back o here _ (e .keys))
+        (λ u. e .tx (lt-ltb i (remembered n) (used-before n i z (ltb-true _ _ u))))))
 
     gone-fits : TurnFits s (listAt lists place) gone
     unfolding turnAt

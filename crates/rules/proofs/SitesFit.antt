@@ -103,11 +103,13 @@ module _ {s : Site} {lists : List ℕ} (y : Sound s lists) where
     pub settled-live : liveOk o here (set (s .live) place (t .sub)) ≡ true
     settled-live =
         let new = sub-made o here (t .sub) (x .course) (x .keys) (x .tx) in
-        live-made o here (set (s .live) place (t .sub)) (settled (λ i b. subOk o here b ≡ true) new (λ i h n. sub-back o here _ (part-at i h)))
+        live-made o here (set (s .live) place (t .sub))
+        (settled (λ i b. subOk o here b ≡ true) new (λ i h n. sub-back o here _ (part-at i h)))
 
     -- with the lists after it, in which the others have what they had
     pub settled-lists : (after : List ℕ) → es ≡ listAt after place
-        → ((j : ℕ) → j < sizes.live → (j ≡ place → ⊥) → (IsFree (subAt s j) → ⊥) → AllPossible o (listAt after j) (subAt s j .course .listed))
+        → ((j : ℕ) → j < sizes.live → (j ≡ place → ⊥) → (IsFree (subAt s j) → ⊥)
+        → AllPossible o (listAt after j) (subAt s j .course .listed))
         → listsOk o (set (s .live) place (t .sub)) after ≡ true
     settled-lists after e others =
         let new = gathered-made o (t .sub) (listAt after place) (λ f. rw e at (x .entries)) in
@@ -126,7 +128,8 @@ module _ {s : Site} {lists : List ℕ} (y : Sound s lists) where
         })
 
     pub settled-handed : (after : List ℕ) → es ≡ listAt after place → length after ≡ sizes.lists
-        → ((j : ℕ) → j < sizes.live → (j ≡ place → ⊥) → (IsFree (subAt s j) → ⊥) → AllPossible o (listAt after j) (subAt s j .course .listed))
+        → ((j : ℕ) → j < sizes.live → (j ≡ place → ⊥) → (IsFree (subAt s j) → ⊥)
+        → AllPossible o (listAt after j) (subAt s j .course .listed))
         → handedOk (settle s place t) after ≡ true
     unfolding settle
     settled-handed after e n others = handed-made (settle s place t) after n settled-ok (settled-lists after e others)

@@ -102,7 +102,15 @@ votes-so o s place es n =
 pub clock-fits : (s : Site) (es : List ℕ) (c : Counters) (b : Sub) (n : ℕ) → Fits s es c b → Fits s es (withClock c n) b
 unfolding countersOk
 clock-fits s es c b n x =
-    record { own = x .own; installs = x .installs; counters = x .counters; course = x .course; keys = x .keys; tx = x .tx; entries = x .entries }
+    record {
+      own = x .own;
+      installs = x .installs;
+      counters = x .counters;
+      course = x .course;
+      keys = x .keys;
+      tx = x .tx;
+      entries = x .entries;
+    }
 
 pub raise-fits : (s : Site) (es : List ℕ) (t : Turn) (n : ℕ) → TurnFits s es t → TurnFits s es (raise t n)
 unfolding raise
@@ -304,7 +312,8 @@ module _ {s : Site} (v : ValidSite s) where
     pub reply-turn : (a r : ℕ) → isSite o a ≡ true → (a ≡ here → ⊥) → TurnFits s es (withCourseOf t (withReply (t .sub .course) a r 0))
     unfolding withReply
     reply-turn a r h n =
-        course-turn t x (withReply (t .sub .course) a r 0) (l .tx) (reply-fits o here house (t .sub .course) (x .course) a r 0 h n (inl refl))
+        course-turn t x (withReply (t .sub .course) a r 0) (l .tx)
+        (reply-fits o here house (t .sub .course) (x .course) a r 0 h n (inl refl))
         (λ i k. x .entries i (omega arith))
 
     pub ballot-fits : (a v : ℕ) → isSite o a ≡ true → (a ≡ here → ⊥) → ChangeFits s es (voteStep t a v)
@@ -320,7 +329,8 @@ module _ {s : Site} (v : ValidSite s) where
 
   -- A participant's steps.
   module _ {es : List ℕ} {t : Turn} {to : ℕ} (x : TurnFits s es t) (r : Replies s t to) where
-    stage-turn : (mask st : ℕ) → isMask o mask ≡ true → st ≤ stage.rejected → TurnFits s es (withCourseOf t (withStage (t .sub .course) mask st))
+    stage-turn : (mask st : ℕ) → isMask o mask ≡ true → st ≤ stage.rejected
+        → TurnFits s es (withCourseOf t (withStage (t .sub .course) mask st))
     unfolding withStage
     stage-turn mask st m h =
         let c = withStage (t .sub .course) mask st in
@@ -333,8 +343,10 @@ module _ {s : Site} (v : ValidSite s) where
         let on = replies-on x r in
         by-test lost
         (λ e. rw e
-        (vote-fits (stage-turn mask stage.rejected m (omega arith)) (on (withStage (t .sub .course) mask stage.rejected)) _ reason.uncertain (may-uncertain o)))
-        (λ e. rw e (conc-fits (stage-turn mask stage.prepared m (omega arith)) (on (withStage (t .sub .course) mask stage.prepared)) fs carried))
+        (vote-fits (stage-turn mask stage.rejected m (omega arith))
+        (on (withStage (t .sub .course) mask stage.rejected)) _ reason.uncertain (may-uncertain o)))
+        (λ e. rw e (conc-fits (stage-turn mask stage.prepared m (omega arith))
+        (on (withStage (t .sub .course) mask stage.prepared)) fs carried))
 
     pub certified-fits : (v : ℕ) → MayVote o v → ChangeFits s es (certifiedStep t to v)
     unfolding certifiedStep withMark
@@ -347,4 +359,5 @@ module _ {s : Site} (v : ValidSite s) where
         by-test (eqb v 0)
         (λ e. rw e (vote-fits (course-turn t x c (r .tx) marked (λ i h. absurd (omega arith))) (on c) clock 0 (may-yes o)))
         (λ e. rw e
-        (vote-fits (stage-turn mask stage.rejected (mask-house t x) (omega arith)) (on (withStage (t .sub .course) mask stage.rejected)) clock v may))
+        (vote-fits (stage-turn mask stage.rejected (mask-house t x) (omega arith))
+        (on (withStage (t .sub .course) mask stage.rejected)) clock v may))

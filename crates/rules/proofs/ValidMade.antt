@@ -94,7 +94,9 @@ pub keys-made : (o : House) (own : ℕ) (b : Keys) → b .read ≤ sizes.reads �
     → keysOk o own b ≡ true
 unfolding keysOk
 keys-made o own b r w f g =
-    rw (le-leb (b .read) sizes.reads r, le-leb (b .wrote) sizes.writes w, keys-at o own (b .reads) (b .read) f, keys-at o own (b .writes) (b .wrote) g)
+    let reads = keys-at o own (b .reads) (b .read) f in
+    let writes = keys-at o own (b .writes) (b .wrote) g in
+    rw (le-leb (b .read) sizes.reads r, le-leb (b .wrote) sizes.writes w, reads, writes)
 
 pub keys-back : (o : House) (own : ℕ) (b : Keys) → ValidKeys o own b → keysOk o own b ≡ true
 keys-back o own b v = keys-made o own b (v .few-read) (v .few-wrote) (v .read-here) (v .wrote-here)
@@ -130,7 +132,8 @@ unfolding entryOk
 entry-made o own used e m k t = by-test used (λ u. rw (m, k, u, t u)) (λ u. rw (m, k, u))
 
 -- The tables and the site.
-pub live-made : (o : House) (own : ℕ) (live : List Sub) → ((i : ℕ) → i < sizes.live → subOk o own (getD live i pastSub) ≡ true) → liveOk o own live ≡ true
+pub live-made : (o : House) (own : ℕ) (live : List Sub) → ((i : ℕ) → i < sizes.live → subOk o own (getD live i pastSub) ≡ true)
+    → liveOk o own live ≡ true
 unfolding liveOk
 live-made o own live f = sym (all-below (λ i. subOk o own (getD live i pastSub)) sizes.live f)
 
@@ -138,7 +141,8 @@ pub history-made : (o : House) (own installs : ℕ) (history : List Entry)
     → ((i : ℕ) → i < sizes.history → entryOk o own (ltb i (remembered installs)) (getD history i pastEntry) ≡ true)
     → historyOk o own installs history ≡ true
 unfolding historyOk
-history-made o own installs history f = sym (all-below (λ i. entryOk o own (ltb i (remembered installs)) (getD history i pastEntry)) sizes.history f)
+history-made o own installs history f =
+    sym (all-below (λ i. entryOk o own (ltb i (remembered installs)) (getD history i pastEntry)) sizes.history f)
 
 pub record SiteTests (s : Site) : Type 0 where
   pub house : houseOk (s .house) ≡ true
@@ -172,7 +176,8 @@ gathered-made o b es f =
     (λ e. rw e)
     (λ e. rw e (sym (all-below (entryPossible o es) (b .course .listed) (f (eqb-false _ stage.free e)))))
 
-pub handed-made : (s : Site) (lists : List ℕ) → length lists ≡ sizes.lists → siteOk s ≡ true → listsOk (s .house) (s .live) lists ≡ true → handedOk s lists ≡ true
+pub handed-made : (s : Site) (lists : List ℕ) → length lists ≡ sizes.lists → siteOk s ≡ true → listsOk (s .house) (s .live) lists ≡ true
+    → handedOk s lists ≡ true
 unfolding handedOk
 handed-made s lists n v l = rw (eq-eqb (length lists) sizes.lists n, v, l)
 

@@ -63,7 +63,8 @@ accepted-refuses P a f n q = absurd (set-not _ (ap isRefused q) f)
 refused-refuses : (P : ℕ → Type 0) (n : ℕ) → P n → Refuses P (Refused n)
 refused-refuses P n h m q = let e : n ≡ m = cc in rw e at h
 
-pub unless-refuses : (P : ℕ → Type 0) (code : ℕ) (s : Site) (lent : List ℕ) (e : Effect) → ((code ≡ 0 → ⊥) → P code) → (code ≡ 0 → Refuses P (e .answer))
+pub unless-refuses : (P : ℕ → Type 0) (code : ℕ) (s : Site) (lent : List ℕ) (e : Effect) → ((code ≡ 0 → ⊥) → P code)
+    → (code ≡ 0 → Refuses P (e .answer))
     → Refuses P (unless code s lent e .answer)
 unless-refuses P code s lent e f g =
     by-test (eqb code 0) (λ h. rw h (g (eqb-true code 0 h))) (λ h. rw h (refused-refuses P code (f (eqb-false code 0 h))))
@@ -99,11 +100,13 @@ module _ (s : Site) (ok : siteOk s ≡ true) where
   enlist-why room t a =
       let place = placeOf (s .live) t in
       let c = subAt s place .course in
+      let own = eqb a (s .counters .own) in
+      let spent = channelSpent (s .channels) a in
       let X = isSite (s .house) a ≡ false in
       unless-refuses (Only X) (enlistCode (siteOk s) room (isSite (s .house) a) place (isMine s t)) s [] _
       (λ z e. fails _ (rw ok at (held (enlistCauses (siteOk s) room (isSite (s .house) a) place (isMine s t)) e)))
-      (λ z. unless-refuses (Only X) (joinerCode (c .stage) (eqb a (s .counters .own)) (inMask (c .mask) a) (channelSpent (s .channels) a)) s [] _
-      (λ y. other (joinerCauses (c .stage) (eqb a (s .counters .own)) (inMask (c .mask) a) (channelSpent (s .channels) a)) refl)
+      (λ z. unless-refuses (Only X) (joinerCode (c .stage) own (inMask (c .mask) a) spent) s [] _
+      (λ y. other (joinerCauses (c .stage) own (inMask (c .mask) a) spent) refl)
       (λ y. accepted-refuses (Only X) _ (enlist-speaks (turnAt s place) a .accepts)))
 
   -- read and write: the key
@@ -113,7 +116,8 @@ module _ (s : Site) (ok : siteOk s ≡ true) where
   access-why room k place st e q =
       fails _ (rw (ok, eq-eqb room sizes.keys e) at (held (accessCauses (siteOk s) room (s .house) (s .counters .own) k place st) q))
 
-  pub read-why : (base : List Value) (t k : ℕ) → length base ≡ sizes.keys → Refuses (Only (isKey (s .house) k ≡ false)) (readOf s base t k .answer)
+  pub read-why : (base : List Value) (t k : ℕ) → length base ≡ sizes.keys
+      → Refuses (Only (isKey (s .house) k ≡ false)) (readOf s base t k .answer)
   unfolding readOf readAt readCode readVersion
   read-why base t k size =
       let place = placeOf (s .live) t in
@@ -134,6 +138,7 @@ module _ (s : Site) (ok : siteOk s ≡ true) where
       let place = placeOf (s .live) t in
       let b = subAt s place in
       let n = s .counters .installs in
+      let lost = isForgotten n (b .snapshot) in
       let X = isKey (s .house) k ≡ false in
       unless-refuses (Only X) (accessCode (siteOk s) sizes.keys (s .house) (s .counters .own) k place (stageAt (s .live) place)) s [] _
       (λ z. access-why sizes.keys k place (stageAt (s .live) place) refl)
@@ -141,7 +146,7 @@ module _ (s : Site) (ok : siteOk s ≡ true) where
       (λ e. rw e (accepted-refuses (Only X) _ refl))
       (λ e. rw e
       (unless-refuses (Only X) (writeCodeAt s place k) s [] _
-      (λ y. other (writeCauses (isForgotten n (b .snapshot)) (keyHeld (s .live) place k) (isNewer (s .history) n (b .snapshot) k) (b .keys .wrote)) refl)
+      (λ y. other (writeCauses lost (keyHeld (s .live) place k) (isNewer (s .history) n (b .snapshot) k) (b .keys .wrote)) refl)
       (λ y. accepted-refuses (Only X) _ refl))))
 
   request-why : (given : Bool) (room place : ℕ) (mine : Bool) → given ≡ true → Only ⊥ (requestCode given room place mine)
@@ -156,7 +161,8 @@ module _ (s : Site) (ok : siteOk s ≡ true) where
       let own = s .counters .own in
       let heard = allHeard own (c .heard) (c .mask) in
       let low = countsLow (s .channels .sent) (c .mask) own in
-      unless-refuses (Only ⊥) (requestCode (handedOk s lists) room place (isMine s t)) s lists _ (λ z. request-why _ room place (isMine s t) given)
+      unless-refuses (Only ⊥) (requestCode (handedOk s lists) room place (isMine s t)) s lists _
+      (λ z. request-why _ room place (isMine s t) given)
       (λ z. unless-refuses (Only ⊥) (commitCode (c .stage) heard low) s lists _ (λ y. other (commitCauses (c .stage) heard low) refl)
       (λ y. accepted-refuses (Only ⊥) _ (commit-speaks s place .accepts)))
 
@@ -197,7 +203,8 @@ neither false true e = absurd (set-not false e refl)
 neither false false e = (refl, refl)
 
 module _ (g : Merger) (queues : List ℕ) (ok : mergerOk g queues ≡ true) where
-  pub merge-why : (m : List ℕ) → Refuses (Only ((partOk (g .house) m ≡ false) × (stateOk (g .house) m ≡ false))) (mergeOf g queues m .answer)
+  pub merge-why : (m : List ℕ)
+      → Refuses (Only ((partOk (g .house) m ≡ false) × (stateOk (g .house) m ≡ false))) (mergeOf g queues m .answer)
   unfolding mergeOf mergeCode mergePart mergePartCode mergeState mergeStateCode
   merge-why m =
       let P = Only ((partOk (g .house) m ≡ false) × (stateOk (g .house) m ≡ false)) in
@@ -224,7 +231,8 @@ module _ (copy : List ℕ) (size : length copy ≡ sizes.copy) where
       let P = Only (mergedOk m ≡ false) in
       by-test (eqb (replayCode copy m) 0)
       (λ h. rw h (accepted-refuses P _ refl))
-      (λ h. rw h (refused-refuses P (replayCode copy m) (λ e. fails _ (rw (eq-eqb (length copy) sizes.copy size) at (held (replayCauses copy m) e)))))
+      (λ h. rw h
+      (refused-refuses P (replayCode copy m) (λ e. fails _ (rw (eq-eqb (length copy) sizes.copy size) at (held (replayCauses copy m) e)))))
 
   pub value-why : (k : ℕ) → Refuses (Only (sizes.keys ≤ k)) (valueOf copy k)
   unfolding valueOf valueCode
