@@ -37,7 +37,7 @@ use Rattle.rules.specs.Possible.{CountEnds}
 use Rattle.rules.proofs.Spoken.{Speaks, quietly-speaks, prepared-speaks, certified-speaks, vote-speaks, vote-known}
 use Rattle.rules.proofs.GoesOn.{gather-speaks}
 use Rattle.rules.proofs.Passing.{recipient-site}
-use Rattle.rules.proofs.WhyRefused.{Refuses, Only, accepted-refuses, unless-refuses, fails, other, held}
+use Rattle.rules.proofs.WhyRefused.{Refuses, Only, accepted-refuses, unless-refuses, fails, other-cause, malformed-cause}
 
 -- a test that fails at some index
 all-below-not : (t : ℕ → Bool) (n : ℕ) → allBelow t n ≡ false → (i : ℕ) × (i < n) × (t i ≡ false)
@@ -69,24 +69,24 @@ module _ (s : Site) (ok : siteOk s ≡ true) (h : MessageHead) (from : isSite (s
       (λ r. absurd (set-not true refl (rw r at q)))
 
   -- out of turn, or at the end of a count
-  abbrev pub Held : ℕ → Type 0
-  Held n = (n ≡ reason.stage) ⊎ ((n ≡ reason.spent) × CountEnds o s)
+  abbrev pub Stopped : ℕ → Type 0
+  Stopped n = (n ≡ reason.stage) ⊎ ((n ≡ reason.spent) × CountEnds o s)
 
-  reply-held : (turn spent : Bool) → (spent ≡ true → CountEnds o s) → (replyCode turn spent ≡ 0 → ⊥) → Held (replyCode turn spent)
+  reply-stopped : (turn spent : Bool) → (spent ≡ true → CountEnds o s) → (replyCode turn spent ≡ 0 → ⊥) → Stopped (replyCode turn spent)
   unfolding replyCode
-  reply-held turn spent f =
+  reply-stopped turn spent f =
       by-test turn
       (λ a. by-test spent (λ b. rw (a, b) (λ n. inr (refl, f b))) (λ b. rw (a, b) (λ n. absurd (n refl))))
       (λ a. rw a (λ n. inl refl))
 
   module _ (lists : List ℕ) where
     abbrev Goes : Effect → Type 0
-    Goes e = Refuses Held (e .answer)
+    Goes e = Refuses Stopped (e .answer)
 
     step-goes : (place : ℕ) (turn spent : Bool) (c : Change) → (spent ≡ true → CountEnds o s) → Speaks c
         → Goes (keeping lists (stepUnless (replyCode turn spent) s place c))
     step-goes place turn spent c f x =
-        unless-refuses Held (replyCode turn spent) s [] _ (reply-held turn spent f) (λ z. accepted-refuses Held _ (x .accepts))
+        unless-refuses Stopped (replyCode turn spent) s [] _ (reply-stopped turn spent f) (λ z. accepted-refuses Stopped _ (x .accepts))
 
     -- no message to send
     quiet : false ≡ true → CountEnds o s
@@ -95,17 +95,17 @@ module _ (s : Site) (ok : siteOk s ≡ true) (h : MessageHead) (from : isSite (s
     join-goes : (place : ℕ) → Goes (keeping lists (takeJoin s h place))
     unfolding takeJoin joinAt spoken sendTo
     join-goes place =
-        unless-refuses Held (replyCode (leb sizes.live place) (spentTo s (h .from))) s [] _ (reply-held _ _ to-ends)
-        (λ z. by-test (ltb (freePlace (s .live)) sizes.live) (λ e. rw e (accepted-refuses Held _ refl))
-        (λ e. rw e (accepted-refuses Held _ refl)))
+        unless-refuses Stopped (replyCode (leb sizes.live place) (spentTo s (h .from))) s [] _ (reply-stopped _ _ to-ends)
+        (λ z. by-test (ltb (freePlace (s .live)) sizes.live) (λ e. rw e (accepted-refuses Stopped _ refl))
+        (λ e. rw e (accepted-refuses Stopped _ refl)))
 
     other-goes : Goes (takeOther (h .kind) s h lists)
     unfolding takeOther passPrepare passed spoken sendTo
     other-goes =
         by-test (eqb (h .kind) kind.prepare)
-        (λ e. rw e (unless-refuses Held (replyCode true (spentTo s (h .from))) s [] _ (reply-held true _ to-ends)
-        (λ z. accepted-refuses Held _ refl)))
-        (λ e. rw e (accepted-refuses Held _ refl))
+        (λ e. rw e (unless-refuses Stopped (replyCode true (spentTo s (h .from))) s [] _ (reply-stopped true _ to-ends)
+        (λ z. accepted-refuses Stopped _ refl)))
+        (λ e. rw e (accepted-refuses Stopped _ refl))
 
     module _ (es : List ℕ) (place : ℕ) (low : place < sizes.live) where
       -- where a decision falls, or the last list is here
@@ -121,9 +121,9 @@ module _ (s : Site) (ok : siteOk s ≡ true) (h : MessageHead) (from : isSite (s
           let c = withReply b (h .from) 0 (h .count) in
           let made = gatherLists s place es lists in
           let all = allHeard (s .counters .own) (c .heard) (c .mask) in
-          unless-refuses Held (replyCode (concInTurn b (h .from)) (every (all ∷ spentToAll s (b .mask) ∷ []))) s lists _
-          (reply-held _ _ (others-end all))
-          (λ z. accepted-refuses Held _ (gather-speaks s h place made .accepts))
+          unless-refuses Stopped (replyCode (concInTurn b (h .from)) (every (all ∷ spentToAll s (b .mask) ∷ []))) s lists _
+          (reply-stopped _ _ (others-end all))
+          (λ z. accepted-refuses Stopped _ (gather-speaks s h place made .accepts))
 
       vote-goes : Goes (keeping lists (takeVote s h place))
       unfolding takeVote arrived raise
@@ -173,9 +173,9 @@ module _ (s : Site) (lists : List ℕ) (ok : handedOk s lists ≡ true) (m : Lis
       let X = messageOk (s .house) m ≡ false in
       let taken = getD (s .channels .taken) (h .from - 1) 0 in
       unless-refuses (Only X) (arrivalCode (handedOk s lists) room (messageOk (s .house) m)) s lists _
-      (λ z e. fails _ (rw ok at (held (arrivalCauses (handedOk s lists) room (messageOk (s .house) m)) e)))
+      (λ z e. fails _ (rw ok at (malformed-cause (arrivalCauses (handedOk s lists) room (messageOk (s .house) m)) e)))
       (λ z. unless-refuses (Only X) (nextCode (h .to) (s .counters .own) (h .channel) taken) s lists _
-      (λ y. other (nextCauses (h .to) (s .counters .own) (h .channel) taken) refl)
+      (λ y. other-cause (nextCauses (h .to) (s .counters .own) (h .channel) taken) refl)
       (λ y n q e.
       let from = from-site (arrival-clear (handedOk s lists) room (messageOk (s .house) m) z .formed) in
       ⊎-elim (λ (g : n ≡ reason.stage). absurd (omega arith))
@@ -183,11 +183,11 @@ module _ (s : Site) (lists : List ℕ) (ok : handedOk s lists ≡ true) (m : Lis
       (kind-goes s (handed-site s lists ok) h from lists (messageEntries m) (placeOf (s .live) (h .tx)) n q)))
 
   -- the next of its channel
-  pub next-held : (room : ℕ) → sizes.outgoing ≤ room → messageOk (s .house) m ≡ true → messageHead m .to ≡ s .counters .own
+  pub next-stopped : (room : ℕ) → sizes.outgoing ≤ room → messageOk (s .house) m ≡ true → messageHead m .to ≡ s .counters .own
       → messageHead m .channel ≡ getD (s .channels .taken) (messageHead m .from - 1) 0 + 1
       → Refuses (λ n. (n ≡ reason.stage) ⊎ ((n ≡ reason.spent) × CountEnds (s .house) s)) (messageOf s room lists m .answer)
   unfolding messageOf messageAt arrivalCode nextCode
-  next-held room long formed here next =
+  next-stopped room long formed here next =
       rw (ok, formed, le-ltb room sizes.outgoing long, eq-eqb _ _ here, eq-eqb _ _ next)
       (kind-goes s (handed-site s lists ok) (messageHead m) (from-site formed) lists (messageEntries m)
       (placeOf (s .live) (messageHead m .tx)))

@@ -29,7 +29,7 @@ use Rattle.rules.proofs.Stands.{Stands, Keeps, list-stands}
 use Rattle.rules.proofs.Progress.{messages-progress}
 use Rattle.rules.proofs.WhyRefused.{begin-why, enlist-why, read-why, write-why, commit-why, abandon-why, install-why, report-why}
 use Rattle.rules.proofs.WhyRefused.{merge-why, emit-why, replay-why, value-why}
-use Rattle.rules.proofs.NextGoes.{message-why, next-held}
+use Rattle.rules.proofs.NextGoes.{message-why, next-stopped}
 use Rattle.rules.proofs.Kept.{Kept, houseOf, house-is, call-keeps, fresh-kept}
 
 abbrev More : ℕ → World → Stream → Type 0
@@ -118,7 +118,7 @@ module _ {sites : ℕ} {w : World} {b : List Fact} (x : Stands (More sites) site
       ⊎-elim
       (λ (g : n ≡ reason.stage). absurd (turn to out m (inl i) (q ∙ ap Refused g)))
       (λ (g : (n ≡ reason.spent) × CountEnds (w .site to .house) (w .site to)). rw (site-house to t) at g)
-      (next-held (w .site to) (w .lists to) (site-ok to t) m (length out) long e here next n q)
+      (next-stopped (w .site to) (w .lists to) (site-ok to t) m (length out) long e here next n q)
 
 pub possible : Possible
 unfolding Possible MessagesProgress

@@ -42,16 +42,16 @@ use Rattle.rules.proofs.Spoken.{enlist-speaks, abort-speaks}
 use Rattle.rules.proofs.KnownWords.{commit-speaks}
 
 -- some cause of number n holds: computed at a written list
-abbrev pub heldAs : ℕ → List Cause → Bool
-heldAs n [] = false
-heldAs n (c ∷ l) = pick (eqb (c .number) n) (pick (c .holds) true (heldAs n l)) (heldAs n l)
+abbrev pub causeHolds : ℕ → List Cause → Bool
+causeHolds n [] = false
+causeHolds n (c ∷ l) = pick (eqb (c .number) n) (pick (c .holds) true (causeHolds n l)) (causeHolds n l)
 
-pub code-held : (n : ℕ) (l : List Cause) → (n ≡ 0 → ⊥) → codeOf l ≡ n → heldAs n l ≡ true
-code-held n [] z e = absurd (z (sym e))
-code-held n (c ∷ l) z e =
+pub code-cause : (n : ℕ) (l : List Cause) → (n ≡ 0 → ⊥) → codeOf l ≡ n → causeHolds n l ≡ true
+code-cause n [] z e = absurd (z (sym e))
+code-cause n (c ∷ l) z e =
     by-test (c .holds)
     (λ h. rw (h, eq-eqb (c .number) n (rw h at e)))
-    (λ h. let rest = code-held n l z (rw h at e) in by-test (eqb (c .number) n) (λ q. rw (q, h) rest) (λ q. rw q rest))
+    (λ h. let rest = code-cause n l z (rw h at e) in by-test (eqb (c .number) n) (λ q. rw (q, h) rest) (λ q. rw q rest))
 
 -- every number that it is refused with is one of which P holds
 abbrev pub Refuses : (ℕ → Type 0) → Answer → Type 0
@@ -81,11 +81,11 @@ fails true e = absurd (set-not false e refl)
 fails false e = refl
 
 -- a number of its own
-pub other : {X : Type 0} (l : List Cause) → heldAs reason.malformed l ≡ false → Only X (codeOf l)
-other l n e = absurd (set-not _ (code-held reason.malformed l (λ z. omega arith) e) n)
+pub other-cause : {X : Type 0} (l : List Cause) → causeHolds reason.malformed l ≡ false → Only X (codeOf l)
+other-cause l n e = absurd (set-not _ (code-cause reason.malformed l (λ z. omega arith) e) n)
 
-pub held : (l : List Cause) → codeOf l ≡ reason.malformed → heldAs reason.malformed l ≡ true
-held l e = code-held reason.malformed l (λ z. omega arith) e
+pub malformed-cause : (l : List Cause) → codeOf l ≡ reason.malformed → causeHolds reason.malformed l ≡ true
+malformed-cause l e = code-cause reason.malformed l (λ z. omega arith) e
 
 module _ (s : Site) (ok : siteOk s ≡ true) where
   pub begin-why : Refuses (Only ⊥) (beginOf s .answer)
@@ -93,7 +93,7 @@ module _ (s : Site) (ok : siteOk s ≡ true) where
   begin-why =
       let place = freePlace (s .live) in
       unless-refuses (Only ⊥) (beginCode (siteOk s) (s .counters) place) s [] _
-      (λ z e. never (rw ok at (held (beginCauses (siteOk s) (s .counters) place) e))) (λ z. accepted-refuses (Only ⊥) _ refl)
+      (λ z e. never (rw ok at (malformed-cause (beginCauses (siteOk s) (s .counters) place) e))) (λ z. accepted-refuses (Only ⊥) _ refl)
 
   pub enlist-why : (room t a : ℕ) → Refuses (Only (isSite (s .house) a ≡ false)) (enlistOf s room t a .answer)
   unfolding enlistOf enlistAt enlistCode joinerCode
@@ -104,9 +104,9 @@ module _ (s : Site) (ok : siteOk s ≡ true) where
       let spent = channelSpent (s .channels) a in
       let X = isSite (s .house) a ≡ false in
       unless-refuses (Only X) (enlistCode (siteOk s) room (isSite (s .house) a) place (isMine s t)) s [] _
-      (λ z e. fails _ (rw ok at (held (enlistCauses (siteOk s) room (isSite (s .house) a) place (isMine s t)) e)))
+      (λ z e. fails _ (rw ok at (malformed-cause (enlistCauses (siteOk s) room (isSite (s .house) a) place (isMine s t)) e)))
       (λ z. unless-refuses (Only X) (joinerCode (c .stage) own (inMask (c .mask) a) spent) s [] _
-      (λ y. other (joinerCauses (c .stage) own (inMask (c .mask) a) spent) refl)
+      (λ y. other-cause (joinerCauses (c .stage) own (inMask (c .mask) a) spent) refl)
       (λ y. accepted-refuses (Only X) _ (enlist-speaks (turnAt s place) a .accepts)))
 
   -- read and write: the key
@@ -114,7 +114,7 @@ module _ (s : Site) (ok : siteOk s ≡ true) where
       → Only (isKey (s .house) k ≡ false) (accessCode (siteOk s) room (s .house) (s .counters .own) k place st)
   unfolding accessCode
   access-why room k place st e q =
-      fails _ (rw (ok, eq-eqb room sizes.keys e) at (held (accessCauses (siteOk s) room (s .house) (s .counters .own) k place st) q))
+      fails _ (rw (ok, eq-eqb room sizes.keys e) at (malformed-cause (accessCauses (siteOk s) room (s .house) (s .counters .own) k place st) q))
 
   pub read-why : (base : List Value) (t k : ℕ) → length base ≡ sizes.keys
       → Refuses (Only (isKey (s .house) k ≡ false)) (readOf s base t k .answer)
@@ -130,7 +130,7 @@ module _ (s : Site) (ok : siteOk s ≡ true) where
       (λ e. rw e (accepted-refuses (Only X) _ refl))
       (λ e. rw e
       (unless-refuses (Only X) (readCode lost (readKey (b .keys) k) (b .keys .read)) s [] _
-      (λ y. other (readCauses lost (readKey (b .keys) k) (b .keys .read)) refl) (λ y. accepted-refuses (Only X) _ refl))))
+      (λ y. other-cause (readCauses lost (readKey (b .keys) k) (b .keys .read)) refl) (λ y. accepted-refuses (Only X) _ refl))))
 
   pub write-why : (t k : ℕ) (v : Value) → Refuses (Only (isKey (s .house) k ≡ false)) (writeOf s t k v .answer)
   unfolding writeOf writeAt writeCodeAt writeCode written quietly
@@ -146,12 +146,12 @@ module _ (s : Site) (ok : siteOk s ≡ true) where
       (λ e. rw e (accepted-refuses (Only X) _ refl))
       (λ e. rw e
       (unless-refuses (Only X) (writeCodeAt s place k) s [] _
-      (λ y. other (writeCauses lost (keyHeld (s .live) place k) (isNewer (s .history) n (b .snapshot) k) (b .keys .wrote)) refl)
+      (λ y. other-cause (writeCauses lost (keyHeld (s .live) place k) (isNewer (s .history) n (b .snapshot) k) (b .keys .wrote)) refl)
       (λ y. accepted-refuses (Only X) _ refl))))
 
   request-why : (given : Bool) (room place : ℕ) (mine : Bool) → given ≡ true → Only ⊥ (requestCode given room place mine)
   unfolding requestCode
-  request-why given room place mine e q = never (rw e at (held (requestCauses given room place mine) q))
+  request-why given room place mine e q = never (rw e at (malformed-cause (requestCauses given room place mine) q))
 
   pub commit-why : (room : ℕ) (lists : List ℕ) (t : ℕ) → handedOk s lists ≡ true → Refuses (Only ⊥) (commitOf s room lists t .answer)
   unfolding commitOf commitCode
@@ -163,7 +163,7 @@ module _ (s : Site) (ok : siteOk s ≡ true) where
       let low = countsLow (s .channels .sent) (c .mask) own in
       unless-refuses (Only ⊥) (requestCode (handedOk s lists) room place (isMine s t)) s lists _
       (λ z. request-why _ room place (isMine s t) given)
-      (λ z. unless-refuses (Only ⊥) (commitCode (c .stage) heard low) s lists _ (λ y. other (commitCauses (c .stage) heard low) refl)
+      (λ z. unless-refuses (Only ⊥) (commitCode (c .stage) heard low) s lists _ (λ y. other-cause (commitCauses (c .stage) heard low) refl)
       (λ y. accepted-refuses (Only ⊥) _ (commit-speaks s place .accepts)))
 
   pub abandon-why : (room t : ℕ) → Refuses (Only ⊥) (abandonOf s room t .answer)
@@ -173,7 +173,7 @@ module _ (s : Site) (ok : siteOk s ≡ true) where
       let c = subAt s place .course in
       let low = countsLow (s .channels .sent) (c .mask) (s .counters .own) in
       unless-refuses (Only ⊥) (requestCode (siteOk s) room place (isMine s t)) s [] _ (λ z. request-why _ room place (isMine s t) ok)
-      (λ z. unless-refuses (Only ⊥) (abandonCode (c .stage) low) s [] _ (λ y. other (abandonCauses (c .stage) low) refl)
+      (λ z. unless-refuses (Only ⊥) (abandonCode (c .stage) low) s [] _ (λ y. other-cause (abandonCauses (c .stage) low) refl)
       (λ y. accepted-refuses (Only ⊥) _ (abort-speaks (turnAt s place) reason.abandoned .accepts)))
 
   pub install-why : (room : ℕ) (base : List Value) → length base ≡ sizes.keys → Refuses (Only ⊥) (installOf s room base .answer)
@@ -183,13 +183,13 @@ module _ (s : Site) (ok : siteOk s ≡ true) where
       let due = isDue (s .live) place in
       let n = s .counters .installs in
       unless-refuses (Only ⊥) (installCode (siteOk s) room (length base) due n) s base _
-      (λ z e. never (rw (ok, eq-eqb (length base) sizes.keys size) at (held (installCauses (siteOk s) room (length base) due n) e)))
+      (λ z e. never (rw (ok, eq-eqb (length base) sizes.keys size) at (malformed-cause (installCauses (siteOk s) room (length base) due n) e)))
       (λ z. accepted-refuses (Only ⊥) _ refl)
 
   pub report-why : (room : ℕ) → Refuses (Only ⊥) (reportOf s room .answer)
   unfolding reportOf reportCode
   report-why room =
-      unless-refuses (Only ⊥) (reportCode (siteOk s) room) s [] _ (λ z e. never (rw ok at (held (reportCauses (siteOk s) room) e)))
+      unless-refuses (Only ⊥) (reportCode (siteOk s) room) s [] _ (λ z e. never (rw ok at (malformed-cause (reportCauses (siteOk s) room) e)))
       (λ z. accepted-refuses (Only ⊥) _ refl)
 
 -- The merger, likewise.
@@ -210,18 +210,18 @@ module _ (g : Merger) (queues : List ℕ) (ok : mergerOk g queues ≡ true) wher
       let P = Only ((partOk (g .house) m ≡ false) × (stateOk (g .house) m ≡ false)) in
       let r = recordHead m in
       let c = sourceAt g (r .site - 1) in
-      merger-refuses P (mergeCode g queues m) g queues _ (λ e. neither _ _ (rw ok at (held (mergeCauses g queues m) e)))
+      merger-refuses P (mergeCode g queues m) g queues _ (λ e. neither _ _ (rw ok at (malformed-cause (mergeCauses g queues m) e)))
       (by-test (eqb (r .kind) kind.part)
-      (λ k. rw k (merger-refuses P (mergePartCode c r) g queues _ (other (mergePartCauses c r) refl) (accepted-refuses P _ refl)))
-      (λ k. rw k (merger-refuses P (mergeStateCode c r) g queues _ (other (mergeStateCauses c r) refl) (accepted-refuses P _ refl))))
+      (λ k. rw k (merger-refuses P (mergePartCode c r) g queues _ (other-cause (mergePartCauses c r) refl) (accepted-refuses P _ refl)))
+      (λ k. rw k (merger-refuses P (mergeStateCode c r) g queues _ (other-cause (mergeStateCauses c r) refl) (accepted-refuses P _ refl))))
 
   pub emit-why : (room : ℕ) → Refuses (Only ⊥) (emitOf g room queues .answer)
   unfolding emitOf emitCode emitDue dueCode
   emit-why room =
       let heads = headsOf queues (g .house .sites) in
       let least = leastSite g queues in
-      merger-refuses (Only ⊥) (emitCode g queues room) g queues _ (λ e. never (rw ok at (held (emitCauses g queues room) e)))
-      (merger-refuses (Only ⊥) (dueCode g heads least) g queues _ (other (dueCauses g heads least) refl) (accepted-refuses (Only ⊥) _ refl))
+      merger-refuses (Only ⊥) (emitCode g queues room) g queues _ (λ e. never (rw ok at (malformed-cause (emitCauses g queues room) e)))
+      (merger-refuses (Only ⊥) (dueCode g heads least) g queues _ (other-cause (dueCauses g heads least) refl) (accepted-refuses (Only ⊥) _ refl))
 
 -- The copies.
 module _ (copy : List ℕ) (size : length copy ≡ sizes.copy) where
@@ -232,7 +232,7 @@ module _ (copy : List ℕ) (size : length copy ≡ sizes.copy) where
       by-test (eqb (replayCode copy m) 0)
       (λ h. rw h (accepted-refuses P _ refl))
       (λ h. rw h
-      (refused-refuses P (replayCode copy m) (λ e. fails _ (rw (eq-eqb (length copy) sizes.copy size) at (held (replayCauses copy m) e)))))
+      (refused-refuses P (replayCode copy m) (λ e. fails _ (rw (eq-eqb (length copy) sizes.copy size) at (malformed-cause (replayCauses copy m) e)))))
 
   pub value-why : (k : ℕ) → Refuses (Only (sizes.keys ≤ k)) (valueOf copy k)
   unfolding valueOf valueCode
@@ -242,4 +242,4 @@ module _ (copy : List ℕ) (size : length copy ≡ sizes.copy) where
       (λ h. rw h (accepted-refuses P _ refl))
       (λ h. rw h
       (refused-refuses P (valueCode copy k)
-      (λ e. leb-true sizes.keys k (sym (pick-self _) ∙ rw (eq-eqb (length copy) sizes.copy size) at (held (valueCauses copy k) e)))))
+      (λ e. leb-true sizes.keys k (sym (pick-self _) ∙ rw (eq-eqb (length copy) sizes.copy size) at (malformed-cause (valueCauses copy k) e)))))
