@@ -54,7 +54,7 @@ use Rattle.rules.proofs.SitesFit.{Sound, EffectFits, site-ok, site-vali
 use Rattle.rules.proofs.SitesFit.{tx-there, tx-possible, old-fits, settled-handed, changed-fits, refused-fits, unless-fits}
 use Rattle.rules.proofs.CallsFit.{new-part}
 
--- with the lists as they were
+-- the lists stay as they were
 keeping-fits : (s : Site) (lists : List ℕ) (e : Effect) → EffectFits s e lists → EffectFits s (keeping lists e) lists
 keeping-fits s lists e x = record { handed = x .handed; words = x .words }
 
@@ -71,7 +71,7 @@ module _ {s : Site} {lists : List ℕ} (y : Sound s lists) where
   abbrev counters-ok : countersOk o (s .counters) ≡ true
   counters-ok = site-tests s (site-ok y) .counters
 
-  -- with the lists that it lends back
+  -- what a message leaves, with the lists that it lends back
   abbrev Left : Effect → Type 0
   Left e = EffectFits s e (e .lent)
 
@@ -127,7 +127,7 @@ module _ {s : Site} {lists : List ℕ} (y : Sound s lists) where
         (λ e. rw e (changed-fits y free (ltb-true _ _ e) _ [] (joined-fits valid (join-turn (listAt lists free)) r 0 (inl refl))))
         (λ e. rw e (spoken-fits [] _ (joined-fits valid (join-turn []) r reason.full (inr refl)))))
 
-    -- for a transaction not held
+    -- A transaction that is not held.
     take-other : Left (takeOther (h .kind) s h lists)
     unfolding takeOther passPrepare raise toCoordinator
     take-other =
@@ -143,7 +143,7 @@ module _ {s : Site} {lists : List ℕ} (y : Sound s lists) where
         (may-unknown o))))))
         (λ e. rw e (keeping-fits s lists _ (passed-fits (h .from))))
 
-    -- For one that is held.
+    -- A transaction that is held.
     module _ (low : placeOf (s .live) (h .tx) < sizes.live) where
       abbrev place : ℕ
       place = placeOf (s .live) (h .tx)
@@ -178,7 +178,7 @@ module _ {s : Site} {lists : List ℕ} (y : Sound s lists) where
             apart = λ z. apart (sym z);
           }
 
-      -- the same after its clock is raised
+      -- the turn with its clock raised
       abbrev raised : Turn
       raised = raise turn (h .clock)
 

@@ -48,11 +48,11 @@ clear-entry : (o : House) (es : List ℕ) (i : ℕ) → PossibleEntry o es i →
 unfolding entryPossible
 clear-entry o es i p = rw (p .tx, p .mask, le-leb (entryMark es i) 1 (p .mark))
 
--- the first so many entries are possible
+-- the first n entries are possible
 abbrev pub AllPossible : House → List ℕ → ℕ → Type 0
 AllPossible o es n = (i : ℕ) → i < n → entryPossible o es i ≡ true
 
--- entries that a message of at most so many may carry
+-- whole entries, at most `most`, each of which passes the check
 pub record Carried (o : House) (most : ℕ) (es : List ℕ) : Type 0 where
   pub whole : length es ≡ sizes.entry * entryCount es
   pub few : entryCount es ≤ most
@@ -161,7 +161,7 @@ module _ (o : House) (lists ws : List ℕ) (at place : ℕ) (size : length lists
   word-within k h =
       word-of after (at + k) ∙ ap (λ (l : List ℕ). getD l 0 0) (put-within at lists ws k 1 (omega arith) (omega arith)) ∙ sym (word-of ws k)
 
-  -- at another place the entries stay
+  -- the entries at another place stay
   pub others-possible : (j n : ℕ) → (j ≡ place → ⊥) → n ≤ sizes.certEntries → AllPossible o (listAt lists j) n
       → AllPossible o (listAt after j) n
   others-possible j n apart few all i h =
@@ -176,7 +176,7 @@ module _ (o : House) (lists ws : List ℕ) (at place : ℕ) (size : length lists
       ∙ sym (getD-drop b lists k 0))
       (all i h)
 
-  -- at its own they stand behind the first k
+  -- those put at their own place stand behind its first k
   pub more-possible : (k n : ℕ) → at ≡ sizes.gathered * place + sizes.entry * k → length ws ≡ sizes.entry * n
       → AllPossible o (listAt lists place) k → AllPossible o ws n → AllPossible o (listAt after place) (k + n)
   more-possible k n e whole old new i h =

@@ -105,7 +105,7 @@ pub record Kept (sites : ℕ) (w : World) : Type 0 where
   pub site : (s : ℕ) → 1 ≤ s → s ≤ sites → handedOk (w .site s) (w .lists s) ≡ true
   pub pass : All (Passes (houseOf sites)) (w .sent)
 
--- a site of the house, or another
+-- s is a site of the house, or none
 pub by-site : {P : Type 0} (sites s : ℕ) → (1 ≤ s → s ≤ sites → P) → (((1 ≤ s) × (s ≤ sites) → ⊥) → P) → P
 by-site sites s f g =
     by-test (leb 1 s)
@@ -140,7 +140,7 @@ module _ {sites : ℕ} {w : World} {p : Protocol} (r : Refines sites w p) (i : I
         pass = k .pass;
       }
 
-  -- the coordinator is in its mask
+  -- a transaction's coordinator is in its mask
   own-masked : (s t : ℕ) → 1 ≤ s → s ≤ sites → placeOf (w .site s .live) t < sizes.live → isMine (w .site s) t ≡ true
       → inMask (subAt (w .site s) (placeOf (w .site s .live) t) .course .mask) (w .site s .counters .own) ≡ true
   own-masked s t a b low mine =

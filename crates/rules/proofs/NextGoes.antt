@@ -182,7 +182,7 @@ module _ (s : Site) (lists : List ℕ) (ok : handedOk s lists ≡ true) (m : Lis
       (λ (g : (n ≡ reason.spent) × CountEnds (s .house) s). absurd (omega (arith, g .0)))
       (kind-goes s (handed-site s lists ok) h from lists (messageEntries m) (placeOf (s .live) (h .tx)) n q)))
 
-  -- the next of its channel
+  -- the next message of its channel
   pub next-stopped : (room : ℕ) → sizes.outgoing ≤ room → messageOk (s .house) m ≡ true → messageHead m .to ≡ s .counters .own
       → messageHead m .channel ≡ getD (s .channels .taken) (messageHead m .from - 1) 0 + 1
       → Refuses (λ n. (n ≡ reason.stage) ⊎ ((n ≡ reason.spent) × CountEnds (s .house) s)) (messageOf s room lists m .answer)

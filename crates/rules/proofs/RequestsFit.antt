@@ -164,7 +164,7 @@ module _ {s : Site} {lists : List ℕ} (y : Sound s lists) where
       unless-fits y (abandonCode (c .stage) (countsLow (s .channels .sent) (c .mask) here)) [] _
       (λ a. abort-call t (q .held) (q .coordinator) reason.abandoned []))
 
-  -- a part that this site coordinates has it in its mask
+  -- the commit call, where a part that this site coordinates has this site in its mask
   pub commit-call : (room t : ℕ)
       → (placeOf (s .live) t < sizes.live → isMine s t ≡ true → inMask (subAt s (placeOf (s .live) t) .course .mask) here ≡ true)
       → EffectFits s (commitOf s room lists t) (commitOf s room lists t .lent)
@@ -185,7 +185,7 @@ module _ {s : Site} {lists : List ℕ} (y : Sound s lists) where
   unfolding countersOk
   installs-fit n = site-tests s (site-ok y) .counters
 
-  -- of the slots in use after it only the new one was not before
+  -- a slot in use after an install, other than its own, was in use before it
   used-before : (n i : ℕ) → (i ≡ slotOf n → ⊥) → i < remembered (n + 1) → i < remembered n
   unfolding remembered
   used-before n i apart h =

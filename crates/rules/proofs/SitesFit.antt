@@ -106,7 +106,7 @@ module _ {s : Site} {lists : List ℕ} (y : Sound s lists) where
         live-made o here (set (s .live) place (t .sub))
         (settled (λ i b. subOk o here b ≡ true) new (λ i h n. sub-back o here _ (part-at i h)))
 
-    -- with the lists after it, in which the others have what they had
+    -- the lists after it hold what the other parts had gathered
     pub settled-lists : (after : List ℕ) → es ≡ listAt after place
         → ((j : ℕ) → j < sizes.live → (j ≡ place → ⊥) → (IsFree (subAt s j) → ⊥)
         → AllPossible o (listAt after j) (subAt s j .course .listed))

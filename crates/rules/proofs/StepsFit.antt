@@ -58,19 +58,19 @@ pub record ChangeFits (s : Site) (es : List ℕ) (c : Change) : Type 0 where
   pub turn : TurnFits s es (c .turn)
   pub words : Made (Passes (s .house)) (c .words)
 
--- a turn of a possible transaction, of which this site is coordinator
+-- a turn of a possible transaction that this site coordinates
 pub record Leads (s : Site) (t : Turn) : Type 0 where
   pub tx : isTx (s .house) (t .sub .tx) ≡ true
   pub mine : coordinatorOf (t .sub .tx) ≡ s .counters .own
 
--- or another is: the site that it replies to
+-- a turn of a possible transaction that another site coordinates, to which it replies
 pub record Replies (s : Site) (t : Turn) (to : ℕ) : Type 0 where
   pub tx : isTx (s .house) (t .sub .tx) ≡ true
   pub theirs : coordinatorOf (t .sub .tx) ≡ to
   pub site : isSite (s .house) to ≡ true
   pub apart : s .counters .own ≡ to → ⊥
 
--- an argument of a VOTE
+-- v may be the argument of a VOTE
 abbrev pub MayVote : House → ℕ → Type 0
 MayVote o v = (h : MessageHead) → h .kind ≡ kind.vote → h .argument ≡ v → argumentOk o h ≡ true
 
@@ -98,7 +98,7 @@ votes-so o s place es n =
     (λ e. rw e (may-conflict o))
     (λ e. by-test (anyBelow (uncertainOf s es) n) (λ f. rw (e, f) (may-uncertain o)) (λ f. rw (e, f) (may-yes o)))
 
--- the clock is free
+-- any clock fits
 pub clock-fits : (s : Site) (es : List ℕ) (c : Counters) (b : Sub) (n : ℕ) → Fits s es c b → Fits s es (withClock c n) b
 unfolding countersOk
 clock-fits s es c b n x =
@@ -137,7 +137,7 @@ module _ {s : Site} (v : ValidSite s) where
     mask-house : isMask o (t .sub .course .mask) ≡ true
     mask-house = valid-course o here (t .sub .course) house (x .course) .mask-house
 
-    -- another course, also with another list
+    -- with another course, and with another list gathered
     pub list-turn : (fs : List ℕ) (c : Course) → isTx o (t .sub .tx) ≡ true → courseOk o here c ≡ true → AllPossible o fs (c .listed)
         → TurnFits s fs (withCourseOf t c)
     list-turn fs c tx e all =
@@ -147,7 +147,7 @@ module _ {s : Site} (v : ValidSite s) where
         → TurnFits s es (withCourseOf t c)
     course-turn c tx e all = list-turn es c tx e all
 
-    -- no part
+    -- without its part
     pub gone-turn : TurnFits s es (withSubOf t noSub)
     unfolding noSub
     gone-turn =
@@ -229,7 +229,7 @@ module _ {s : Site} (v : ValidSite s) where
               (record { low = omega arith; high = omega arith; coordinator = leads-own; clock = refl; argument = refl }) (carried-none o _);
         }
 
-  -- Replies to it.
+  -- A participant's messages.
   module _ {es : List ℕ} {t : Turn} {to : ℕ} (x : TurnFits s es t) (r : Replies s t to) where
     between : Between o (t .counters .own) to (t .sub .tx)
     between = record { sender = own-site t x; receiver = r .site; apart = λ z. r .apart (sym (x .own) ∙ z); tx = r .tx }

@@ -53,7 +53,7 @@ code-cause n (c ∷ l) z e =
     (λ h. rw (h, eq-eqb (c .number) n (rw h at e)))
     (λ h. let rest = code-cause n l z (rw h at e) in by-test (eqb (c .number) n) (λ q. rw (q, h) rest) (λ q. rw q rest))
 
--- every number that it is refused with is one of which P holds
+-- P holds of every number that the answer is a refusal with
 abbrev pub Refuses : (ℕ → Type 0) → Answer → Type 0
 Refuses P a = (n : ℕ) → a ≡ Refused n → P n
 
@@ -64,8 +64,7 @@ refused-refuses : (P : ℕ → Type 0) (n : ℕ) → P n → Refuses P (Refused 
 refused-refuses P n h m q = let e : n ≡ m = cc in rw e at h
 
 pub unless-refuses : (P : ℕ → Type 0) (code : ℕ) (s : Site) (lent : List ℕ) (e : Effect) → ((code ≡ 0 → ⊥) → P code)
-    → (code ≡ 0 → Refuses P (e .answer))
-    → Refuses P (unless code s lent e .answer)
+    → (code ≡ 0 → Refuses P (e .answer)) → Refuses P (unless code s lent e .answer)
 unless-refuses P code s lent e f g =
     by-test (eqb code 0) (λ h. rw h (g (eqb-true code 0 h))) (λ h. rw h (refused-refuses P code (f (eqb-false code 0 h))))
 
@@ -80,7 +79,7 @@ pub fails : (b : Bool) → pick (not b) true false ≡ true → b ≡ false
 fails true e = absurd (set-not false e refl)
 fails false e = refl
 
--- a number of its own
+-- causes of which none with number 2 holds give another number
 pub other-cause : {X : Type 0} (l : List Cause) → causeHolds reason.malformed l ≡ false → Only X (codeOf l)
 other-cause l n e = absurd (set-not _ (code-cause reason.malformed l (λ z. omega arith) e) n)
 

@@ -19,7 +19,7 @@ use Rattle.rules.specs.Merger.{mergerOk}
 use Rattle.rules.specs.World as world
 use Rattle.rules.specs.World.{Call, World, Is, Lawful, freshWorld, step, run}
 
--- what is handed in is impossible by itself, whatever state the list left
+-- 01, cause 2: what is handed in is impossible by itself, whatever state the list left
 abbrev pub Impossible : House → Call → Type 0
 Impossible o (world.begin s) = isSite o s ≡ false
 Impossible o (world.enlist s out tx site) = (isSite o s ≡ false) ⊎ (isSite o site ≡ false)
@@ -35,7 +35,7 @@ Impossible o (world.emit out) = ⊥
 Impossible o (world.replay c m) = mergedOk m ≡ false
 Impossible o (world.value c key) = sizes.keys ≤ key
 
--- every state and lent table is possible, so no call is refused 2 for one of them
+-- every state and lent table that the list left is possible, so no call is refused 2 for one of them
 pub record StatesPossible (o : House) (w : World) : Type 0 where
   pub house : (s : ℕ) → isSite o s ≡ true → w .site s .house ≡ o
   pub site : (s : ℕ) → isSite o s ≡ true → handedOk (w .site s) (w .lists s) ≡ true
@@ -53,8 +53,8 @@ MessagesPass o w =
 abbrev pub CountEnds : House → Site → Type 0
 CountEnds o s = (r : ℕ) × (isSite o r ≡ true) × (sizes.last ≤ getD (s .channels .sent) (r - 1) 0)
 
--- so the next message of its channel, handed to its site with a buffer that is long enough, is taken: it is refused for nothing but 13,
--- where a count is at its end
+-- so the next message of its channel, handed to its site with a buffer of 7,966 words, is taken: nothing refuses it but 13, where a count
+-- is at its end
 abbrev pub NextGoes : House → World → Type 0
 NextGoes o w =
     (m out : List ℕ) → Is m (w .sent) → sizes.outgoing ≤ length out
