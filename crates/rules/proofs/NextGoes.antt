@@ -37,7 +37,7 @@ use Rattle.rules.specs.Possible.{CountEnds}
 use Rattle.rules.proofs.Spoken.{Speaks, quietly-speaks, prepared-speaks, certified-speaks, vote-speaks, vote-known}
 use Rattle.rules.proofs.GoesOn.{gather-speaks}
 use Rattle.rules.proofs.Passing.{recipient-site}
-use Rattle.rules.proofs.WhyRefused.{Refuses, Only, accepted-refuses, unless-refuses, fails, other-cause, malformed-cause}
+use Rattle.rules.proofs.WhyRefused.{Refuses, Only, accepted-refuses, unless-refuses, fails, other-cause, caused}
 
 -- a test that fails at some index
 all-below-not : (t : ℕ → Bool) (n : ℕ) → allBelow t n ≡ false → (i : ℕ) × (i < n) × (t i ≡ false)
@@ -173,7 +173,7 @@ module _ (s : Site) (lists : List ℕ) (ok : handedOk s lists ≡ true) (m : Lis
       let X = messageOk (s .house) m ≡ false in
       let taken = getD (s .channels .taken) (h .from - 1) 0 in
       unless-refuses (Only X) (arrivalCode (handedOk s lists) room (messageOk (s .house) m)) s lists _
-      (λ z e. fails _ (rw ok at (malformed-cause (arrivalCauses (handedOk s lists) room (messageOk (s .house) m)) e)))
+      (λ z e. fails _ (rw ok at (caused (arrivalCauses (handedOk s lists) room (messageOk (s .house) m)) e)))
       (λ z. unless-refuses (Only X) (nextCode (h .to) (s .counters .own) (h .channel) taken) s lists _
       (λ y. other-cause (nextCauses (h .to) (s .counters .own) (h .channel) taken) refl)
       (λ y n q e.

@@ -83,8 +83,8 @@ fails false e = refl
 pub other-cause : {X : Type 0} (l : List Cause) → causeHolds reason.malformed l ≡ false → Only X (codeOf l)
 other-cause l n e = absurd (set-not _ (code-cause reason.malformed l (λ z. omega arith) e) n)
 
-pub malformed-cause : (l : List Cause) → codeOf l ≡ reason.malformed → causeHolds reason.malformed l ≡ true
-malformed-cause l e = code-cause reason.malformed l (λ z. omega arith) e
+pub caused : (l : List Cause) → codeOf l ≡ reason.malformed → causeHolds reason.malformed l ≡ true
+caused l e = code-cause reason.malformed l (λ z. omega arith) e
 
 module _ (s : Site) (ok : siteOk s ≡ true) where
   pub begin-why : Refuses (Only ⊥) (beginOf s .answer)
@@ -92,7 +92,7 @@ module _ (s : Site) (ok : siteOk s ≡ true) where
   begin-why =
       let place = freePlace (s .live) in
       unless-refuses (Only ⊥) (beginCode (siteOk s) (s .counters) place) s [] _
-      (λ z e. never (rw ok at (malformed-cause (beginCauses (siteOk s) (s .counters) place) e))) (λ z. accepted-refuses (Only ⊥) _ refl)
+      (λ z e. never (rw ok at (caused (beginCauses (siteOk s) (s .counters) place) e))) (λ z. accepted-refuses (Only ⊥) _ refl)
 
   pub enlist-why : (room t a : ℕ) → Refuses (Only (isSite (s .house) a ≡ false)) (enlistOf s room t a .answer)
   unfolding enlistOf enlistAt enlistCode joinerCode
@@ -103,7 +103,7 @@ module _ (s : Site) (ok : siteOk s ≡ true) where
       let spent = channelSpent (s .channels) a in
       let X = isSite (s .house) a ≡ false in
       unless-refuses (Only X) (enlistCode (siteOk s) room (isSite (s .house) a) place (isMine s t)) s [] _
-      (λ z e. fails _ (rw ok at (malformed-cause (enlistCauses (siteOk s) room (isSite (s .house) a) place (isMine s t)) e)))
+      (λ z e. fails _ (rw ok at (caused (enlistCauses (siteOk s) room (isSite (s .house) a) place (isMine s t)) e)))
       (λ z. unless-refuses (Only X) (joinerCode (c .stage) own (inMask (c .mask) a) spent) s [] _
       (λ y. other-cause (joinerCauses (c .stage) own (inMask (c .mask) a) spent) refl)
       (λ y. accepted-refuses (Only X) _ (enlist-speaks (turnAt s place) a .accepts)))
@@ -113,7 +113,7 @@ module _ (s : Site) (ok : siteOk s ≡ true) where
       → Only (isKey (s .house) k ≡ false) (accessCode (siteOk s) room (s .house) (s .counters .own) k place st)
   unfolding accessCode
   access-why room k place st e q =
-      fails _ (rw (ok, eq-eqb room sizes.keys e) at (malformed-cause (accessCauses (siteOk s) room (s .house) (s .counters .own) k place st) q))
+      fails _ (rw (ok, eq-eqb room sizes.keys e) at (caused (accessCauses (siteOk s) room (s .house) (s .counters .own) k place st) q))
 
   pub read-why : (base : List Value) (t k : ℕ) → length base ≡ sizes.keys
       → Refuses (Only (isKey (s .house) k ≡ false)) (readOf s base t k .answer)
@@ -150,7 +150,7 @@ module _ (s : Site) (ok : siteOk s ≡ true) where
 
   request-why : (given : Bool) (room place : ℕ) (mine : Bool) → given ≡ true → Only ⊥ (requestCode given room place mine)
   unfolding requestCode
-  request-why given room place mine e q = never (rw e at (malformed-cause (requestCauses given room place mine) q))
+  request-why given room place mine e q = never (rw e at (caused (requestCauses given room place mine) q))
 
   pub commit-why : (room : ℕ) (lists : List ℕ) (t : ℕ) → handedOk s lists ≡ true → Refuses (Only ⊥) (commitOf s room lists t .answer)
   unfolding commitOf commitCode
@@ -182,13 +182,13 @@ module _ (s : Site) (ok : siteOk s ≡ true) where
       let due = isDue (s .live) place in
       let n = s .counters .installs in
       unless-refuses (Only ⊥) (installCode (siteOk s) room (length base) due n) s base _
-      (λ z e. never (rw (ok, eq-eqb (length base) sizes.keys size) at (malformed-cause (installCauses (siteOk s) room (length base) due n) e)))
+      (λ z e. never (rw (ok, eq-eqb (length base) sizes.keys size) at (caused (installCauses (siteOk s) room (length base) due n) e)))
       (λ z. accepted-refuses (Only ⊥) _ refl)
 
   pub report-why : (room : ℕ) → Refuses (Only ⊥) (reportOf s room .answer)
   unfolding reportOf reportCode
   report-why room =
-      unless-refuses (Only ⊥) (reportCode (siteOk s) room) s [] _ (λ z e. never (rw ok at (malformed-cause (reportCauses (siteOk s) room) e)))
+      unless-refuses (Only ⊥) (reportCode (siteOk s) room) s [] _ (λ z e. never (rw ok at (caused (reportCauses (siteOk s) room) e)))
       (λ z. accepted-refuses (Only ⊥) _ refl)
 
 -- The merger, likewise.
@@ -209,7 +209,7 @@ module _ (g : Merger) (queues : List ℕ) (ok : mergerOk g queues ≡ true) wher
       let P = Only ((partOk (g .house) m ≡ false) × (stateOk (g .house) m ≡ false)) in
       let r = recordHead m in
       let c = sourceAt g (r .site - 1) in
-      merger-refuses P (mergeCode g queues m) g queues _ (λ e. neither _ _ (rw ok at (malformed-cause (mergeCauses g queues m) e)))
+      merger-refuses P (mergeCode g queues m) g queues _ (λ e. neither _ _ (rw ok at (caused (mergeCauses g queues m) e)))
       (by-test (eqb (r .kind) kind.part)
       (λ k. rw k (merger-refuses P (mergePartCode c r) g queues _ (other-cause (mergePartCauses c r) refl) (accepted-refuses P _ refl)))
       (λ k. rw k (merger-refuses P (mergeStateCode c r) g queues _ (other-cause (mergeStateCauses c r) refl) (accepted-refuses P _ refl))))
@@ -219,8 +219,9 @@ module _ (g : Merger) (queues : List ℕ) (ok : mergerOk g queues ≡ true) wher
   emit-why room =
       let heads = headsOf queues (g .house .sites) in
       let least = leastSite g queues in
-      merger-refuses (Only ⊥) (emitCode g queues room) g queues _ (λ e. never (rw ok at (malformed-cause (emitCauses g queues room) e)))
-      (merger-refuses (Only ⊥) (dueCode g heads least) g queues _ (other-cause (dueCauses g heads least) refl) (accepted-refuses (Only ⊥) _ refl))
+      merger-refuses (Only ⊥) (emitCode g queues room) g queues _ (λ e. never (rw ok at (caused (emitCauses g queues room) e)))
+      (merger-refuses (Only ⊥) (dueCode g heads least) g queues _ (other-cause (dueCauses g heads least) refl)
+      (accepted-refuses (Only ⊥) _ refl))
 
 -- The copies.
 module _ (copy : List ℕ) (size : length copy ≡ sizes.copy) where
@@ -231,7 +232,8 @@ module _ (copy : List ℕ) (size : length copy ≡ sizes.copy) where
       by-test (eqb (replayCode copy m) 0)
       (λ h. rw h (accepted-refuses P _ refl))
       (λ h. rw h
-      (refused-refuses P (replayCode copy m) (λ e. fails _ (rw (eq-eqb (length copy) sizes.copy size) at (malformed-cause (replayCauses copy m) e)))))
+      (refused-refuses P (replayCode copy m)
+      (λ e. fails _ (rw (eq-eqb (length copy) sizes.copy size) at (caused (replayCauses copy m) e)))))
 
   pub value-why : (k : ℕ) → Refuses (Only (sizes.keys ≤ k)) (valueOf copy k)
   unfolding valueOf valueCode
@@ -241,4 +243,4 @@ module _ (copy : List ℕ) (size : length copy ≡ sizes.copy) where
       (λ h. rw h (accepted-refuses P _ refl))
       (λ h. rw h
       (refused-refuses P (valueCode copy k)
-      (λ e. leb-true sizes.keys k (sym (pick-self _) ∙ rw (eq-eqb (length copy) sizes.copy size) at (malformed-cause (valueCauses copy k) e)))))
+      (λ e. leb-true sizes.keys k (sym (pick-self _) ∙ rw (eq-eqb (length copy) sizes.copy size) at (caused (valueCauses copy k) e)))))
