@@ -116,6 +116,22 @@ pub mod LiveOnce
 pub mod CallsKept
 pub mod ReadAnswers
 pub mod ReadsRight
+-- what the store leaves, the store takes: what makes a state possible, entries and messages that pass,
+pub mod ValidMade
+pub mod EntriesMade
+pub mod Passing
+-- courses, steps, sites and calls that keep it so,
+pub mod CourseFits
+pub mod StepsFit
+pub mod SitesFit
+pub mod CallsFit
+pub mod RequestsFit
+pub mod DeliveryFits
+pub mod Kept
+-- and what is refused 2, or stops the next message,
+pub mod WhyRefused
+pub mod NextGoes
+pub mod Possible
 -- refusals leave all as it was, and the first cause is returned.
 pub mod Unaltered
 pub mod FirstCause

@@ -21,7 +21,7 @@ use Rattle.rules.proofs.Protocol.{freshProtocol}
 use Rattle.rules.proofs.Refines.{IsFree, sliceOf, SiteIs, Refines}
 
 -- a site of the house starts fresh,
-started : (sites s : ℕ) → 1 ≤ sites → sites ≤ sizes.sites → 1 ≤ s → s ≤ sites → startOf sites s sizes.keys sizes.lists .site ≡ freshSite sites s
+pub started : (sites s : ℕ) → 1 ≤ sites → sites ≤ sizes.sites → 1 ≤ s → s ≤ sites → startOf sites s sizes.keys sizes.lists .site ≡ freshSite sites s
 unfolding startOf startCode houseOk isSite
 started sites s a b l h = rw (le-leb 1 sites a, le-leb sites sizes.sites b, le-leb 1 s l, le-leb s sites h)
 

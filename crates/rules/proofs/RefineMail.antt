@@ -90,7 +90,7 @@ pub grows-one : (post : ℕ → ℕ → List Msg) (a b : ℕ) (m : Msg) → Grow
 grows-one post a b m = upd₂-cases (λ i j l. (k : List Msg) × (l ≡ post i j ++ k)) post a b _ (m ∷ [], refl) (λ i j o. ([], sym (append-nil (post i j))))
 
 -- one message from a to each other participant
-recipient-in : (mask a i : ℕ) → isRecipient mask a i ≡ true → inMask mask (i + 1) ≡ true
+pub recipient-in : (mask a i : ℕ) → isRecipient mask a i ≡ true → inMask mask (i + 1) ≡ true
 unfolding isRecipient inMask
 recipient-in mask a i e =
     let q : i + 1 - 1 ≡ i = omega arith in

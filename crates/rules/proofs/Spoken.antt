@@ -1,7 +1,7 @@
 -- What a step of a part's course says: it is no refusal, and writes whole messages, none a VOTE of 5.
 use Prim.Native.Nat.{ℕ, zero, suc, _+_, _*_}
 use mathlib.Core.Path.{_≡_, refl, sym}
-use mathlib.Core.Bool.{Bool, false}
+use mathlib.Core.Bool.{Bool, true, false}
 use mathlib.Core.List.{List, [], append-nil}
 use native.Mathlib.Omega.{arith}
 use native.Mathlib.Numerals.{add-one}
@@ -34,23 +34,22 @@ use Rattle.rules.proofs.RefineMail.{made-append, Made, none, one}
 abbrev pub Known : List ℕ → Type 0
 Known m = messageHead m .kind ≡ kind.vote → messageHead m .argument ≡ reason.unknown → ⊥
 
-abbrev KnownHead : MessageHead → Type 0
-KnownHead h = h .kind ≡ kind.vote → h .argument ≡ reason.unknown → ⊥
-
-made-message : (h : MessageHead) (es : List ℕ) → length es ≡ sizes.entry * h .count → KnownHead h → Made Known (messageWords h es)
+-- One message, and one to each other participant.
+pub made-message : (P : List ℕ → Type 0) (h : MessageHead) (es : List ℕ) → length es ≡ sizes.entry * h .count → P (messageWords h es)
+    → Made P (messageWords h es)
 unfolding messageWords
-made-message h es e k =
-    one {m = messageWords h es} (sym (append-nil (messageWords h es))) (sym (length-message h es e)) (omega arith) (rw (head-back h es) k) none
+made-message P h es e p = one {m = messageWords h es} (sym (append-nil (messageWords h es))) (sym (length-message h es e)) (omega arith) p none
 
-module _ (h : MessageHead) (sent : List ℕ) (mask : ℕ) (es : List ℕ) (size : length es ≡ sizes.entry * h .count) (known : KnownHead h) where
-  made-to : (i : ℕ) → Made Known (wordsTo h sent mask es i)
+module _ (P : List ℕ → Type 0) (h : MessageHead) (sent : List ℕ) (mask : ℕ) (es : List ℕ) (size : length es ≡ sizes.entry * h .count)
+    (each : (i : ℕ) → isRecipient mask (h .from) i ≡ true → P (messageWords (headTo h sent i) es)) where
+  made-to : (i : ℕ) → Made P (wordsTo h sent mask es i)
   unfolding headTo
   made-to i =
       by-test (isRecipient mask (h .from) i)
-      (λ e. rw (words-to-some h sent mask es i e) (made-message (headTo h sent i) es size known))
+      (λ e. rw (words-to-some h sent mask es i e) (made-message P (headTo h sent i) es size (each i e)))
       (λ e. rw (words-to-none h sent mask es i e) none)
 
-  made-to-all : (k : ℕ) → Made Known (messagesTo h sent mask es k)
+  pub made-to-all : (k : ℕ) → Made P (messagesTo h sent mask es k)
   made-to-all zero = rw (messages-none h sent mask es) none
   made-to-all (suc k) = rw (← add-one k, messages-more h sent mask es k) (made-append (made-to-all k) (made-to k))
 
@@ -65,11 +64,11 @@ quietly-speaks t = record { accepts = refl; known = none }
 
 pub to-speaks : (t : Turn) (k to clock v : ℕ) (es : List ℕ) → Whole es → (k ≡ kind.vote → v ≡ reason.unknown → ⊥) → Speaks (sendTo t k to clock v es)
 unfolding sendTo headOf
-to-speaks t k to clock v es w n = record { accepts = refl; known = made-message _ es w n }
+to-speaks t k to clock v es w n = record { accepts = refl; known = made-message Known _ es w (rw (head-back _ es) n) }
 
 all-speaks : (t : Turn) (a : Answer) (k clock v : ℕ) (es : List ℕ) → isRefused a ≡ false → Whole es → (k ≡ kind.vote → ⊥) → Speaks (sendAll t a k clock v es)
-unfolding sendAll headOf
-all-speaks t a k clock v es e w n = record { accepts = e; known = made-to-all _ _ _ es w (λ x y. n x) sizes.sites }
+unfolding sendAll headOf headTo
+all-speaks t a k clock v es e w n = record { accepts = e; known = made-to-all Known _ _ _ es w (λ i r. rw (head-back _ es) (λ x y. n x)) sizes.sites }
 
 leaving-speaks : (b : Sub) (c : Change) → Speaks c → Speaks (leaving b c)
 leaving-speaks b c x = record { accepts = x .accepts; known = x .known }

@@ -29,6 +29,7 @@ pub mod Book
 pub mod Claim
 pub mod Reads
 pub mod Progress
+pub mod Possible
 pub mod Refusals
 -- Laws of the rules.
 pub mod MessageLaws

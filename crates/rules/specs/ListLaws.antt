@@ -74,7 +74,7 @@ module _ (s : Site) (place : ℕ) where
       let (i, l, e, at) = gathered-from (λ i. installedWords own (recall (s .history) n (seen + i))) (λ i. inr refl) (remembered n - seen) k h in
       record { install = seen + i; after = omega arith; kept = omega arith; tx = at 0 (omega arith); mask = at 1 (omega arith); mark = at 2 (omega arith) }
 
-  candidate-from : (k : ℕ) → k < entryCount (candidates s place)
+  pub candidate-from : (k : ℕ) → k < entryCount (candidates s place)
       → (let es = candidates s place in Candidate s place (entryTx es k) (entryMask es k) (entryMark es k))
   unfolding candidates entryCount
   candidate-from k h =

@@ -83,7 +83,7 @@ unfolding isMask
 mask-low o m h t = omega (arith, ltb-true m (2 ^ o .sites) t, pow-le-pow-right (lit< {m = 0} {n = 2} tt) {i = o .sites} {j = 8} h)
 
 -- a mask has at most eight sites; one that lacks a site seven, and one that lacks two six
-digit-none : (mask s : ℕ) → inMask mask s ≡ false → digit mask (s - 1) ≡ 0
+pub digit-none : (mask s : ℕ) → inMask mask s ≡ false → digit mask (s - 1) ≡ 0
 unfolding inMask
 digit-none mask s t =
     let l = digit-le mask (s - 1) in

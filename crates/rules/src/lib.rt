@@ -1,6 +1,7 @@
 // What a reader must believe: the rules of 01 as definitions (specs), and what holds of these very definitions after any list of calls.
 ghost use Rattle.rules.specs.Claim.{Demand3};
 ghost use Rattle.rules.specs.Progress.{MessagesProgress, RecordsProgress};
+ghost use Rattle.rules.specs.Possible.{Possible};
 ghost use Rattle.rules.specs.Reads.{ReadsRight};
 ghost use Rattle.rules.specs.Refusals.{RefusedLeaves, FirstCause};
 
@@ -22,6 +23,11 @@ pub fn messages_progress()
 // In such a list every log ascends, its next record is taken, a due record is whole, and a drained house emits.
 pub fn records_progress()
     ensures { λ _. ⌜ RecordsProgress ⌝ }
+{}
+
+// In such a list every state stays possible, every message passes the check at its site, and the next one is taken, or refused 13.
+pub fn states_possible()
+    ensures { λ _. ⌜ Possible ⌝ }
 {}
 
 // In any state a refused call leaves all as it was.
