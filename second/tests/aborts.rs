@@ -60,7 +60,7 @@ fn a_spent_clock_aborts_13_on_the_last_vote() {
     let mut one = site(2, 1);
     one.begin().unwrap();
     one.live[0].participants = 3;
-    one.live[0].stage = Stage::Open { mark: 0, awaited: 2 };
+    one.live[0].stage = Stage::Open { mark: 0 };
     let mut yes = message(6, 2, 1, T);
     yes[6] = u64::MAX;
     let (decision, sent) = take(&mut one, &yes);
