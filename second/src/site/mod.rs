@@ -74,8 +74,9 @@ impl Site {
         let place = self.find(transaction).ok_or(Refusal::NotHeld)?;
         let part = &self.live[place];
         let bit = site_bit(site);
-        let allowed =
-            self.coordinates(transaction) && part.is_active() && part.participants & bit == 0;
+        // The coordinator takes part from the beginning, whatever a handed mask says.
+        let taking_part = part.participants | self.own_bit();
+        let allowed = self.coordinates(transaction) && part.is_active() && taking_part & bit == 0;
         require(allowed, Refusal::Stage)?;
         self.can_send(bit)?;
         self.live[place].participants |= bit;

@@ -2,7 +2,8 @@
 //! What is possible stays as it was set; what is not is set back after some calls.
 
 use super::Maker;
-use crate::site::Part;
+use crate::message::Kind;
+use crate::site::{Part, Stage};
 use crate::sizes::*;
 
 /// Serials from here on are planted, and no probe's site gives them.
@@ -13,9 +14,9 @@ const ENTRIES: u64 = 4;
 impl Maker {
     pub(super) fn poke(&mut self) {
         let Some((site, part)) = self.held() else { return self.poke_source() };
-        match self.random.below(8) {
-            0 => self.replies(site, part.transaction),
-            1 | 2 => self.course(site, part.transaction),
+        match self.random.below(10) {
+            0 | 8 => self.replies(site, part.transaction),
+            1 | 2 | 9 => self.course(site, part.transaction),
             3 => self.number(site, &part),
             4 => self.past_number(site),
             5 | 6 => self.bad_list(site, &part),
@@ -56,7 +57,7 @@ impl Maker {
         }
     }
 
-    /// Participants, or the sites heard.
+    /// Participants, or the sites heard; then replies of the round.
     fn replies(&mut self, site: u64, transaction: u64) {
         let poke = format!("live {site} {transaction}");
         let mask = self.mask();
@@ -64,6 +65,25 @@ impl Maker {
             0 => drop(self.say(format!("{poke} 3 {mask}"))),
             1 => drop(self.say(format!("{poke} 3 {}", mask | site_bit(site)))),
             _ => drop(self.say(format!("{poke} 5 {}", mask & !site_bit(site)))),
+        }
+        self.some_replies(site, transaction);
+    }
+
+    /// The next messages of some sites, such as the stage waits for.
+    fn some_replies(&mut self, site: u64, transaction: u64) {
+        for _ in 0..self.random.below(4) {
+            let state = &self.probe.sites[site as usize - 1].site;
+            let Some(place) = state.find(transaction) else { return };
+            let from = self.random.between(1, self.sites());
+            let number = state.taken[from as usize - 1].wrapping_add(1);
+            let kind = match state.live[place].stage {
+                Stage::Active { .. } => Kind::Joined,
+                Stage::Prepared => Kind::Conc,
+                _ => Kind::Vote,
+            };
+            self.say(format!("head {} {from} {site} {number}", kind as u64));
+            self.say(format!("word 5 {transaction}"));
+            self.say(format!("message {site}"));
         }
     }
 
@@ -82,6 +102,7 @@ impl Maker {
             self.say(format!("{poke} {field} {value}"));
         }
         self.good_list(site, transaction);
+        self.some_replies(site, transaction);
     }
 
     fn good_list(&mut self, site: u64, transaction: u64) -> u64 {
@@ -113,7 +134,8 @@ impl Maker {
         self.say(format!("list {site} {transaction} {word} {value}"));
     }
 
-    /// A word that no entry has, among those that count or behind them.
+    /// A word that no entry has, among those that count or behind them; then a
+    /// good one, or a free place.
     fn bad_list(&mut self, site: u64, part: &Part) {
         let transaction = part.transaction;
         let count = self.good_list(site, transaction);
@@ -125,6 +147,10 @@ impl Maker {
         };
         self.plant(site, transaction, 3 * entry + word, bad);
         self.some_calls(site, transaction);
+        if self.random.chance(15) {
+            self.say(format!("live {site} {transaction} 2 0"));
+            return self.some_calls(site, transaction);
+        }
         let good = if word == 0 { self.transaction() } else { self.random.below(2) };
         if entry < count {
             self.plant(site, transaction, 3 * entry + word, good);
