@@ -92,6 +92,7 @@ fn a_vote_of_another_site_is_not_the_one_outstanding() {
 fn a_mask_without_the_own_site_is_not_that_of_a_lone_participant() {
     let mut house = House::after(3, &["begin 1", &format!("live 1 {T} 3 2")]);
     assert_eq!(house.say(&format!("commit 1 {T}")), "refused 7");
+    assert_eq!(house.say(&format!("enlist 1 {T} 1")), "refused 6");
 }
 
 #[test]
