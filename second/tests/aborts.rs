@@ -20,7 +20,7 @@ fn a_vote_of_5_aborts_with_it() {
     assert_eq!((two.clock, two.taken[0], two.live.len()), (40, 1, 0));
     let mut one = site(2, 1);
     one.begin().unwrap();
-    one.live[0].participants = 3;
+    (one.live[0].participants, one.live[0].heard) = (3, 2);
     one.commit(T, &mut buffer()).unwrap();
     let (decision, sent) = take(&mut one, &votes[0]);
     assert_eq!(decision, Some(Decision::Abort(5)));
@@ -60,7 +60,7 @@ fn a_spent_clock_aborts_13_on_the_last_vote() {
     let mut one = site(2, 1);
     one.begin().unwrap();
     one.live[0].participants = 3;
-    one.live[0].stage = Stage::Open { mark: 0, awaited: 2 };
+    one.live[0].stage = Stage::Open { mark: 0 };
     let mut yes = message(6, 2, 1, T);
     yes[6] = u64::MAX;
     let (decision, sent) = take(&mut one, &yes);

@@ -41,11 +41,11 @@ fn the_queue_installs_its_least_if_decided() {
     both.clock = 4;
     let other = (2 << 32) + 1;
     both.live.push(queued(T, Stage::Decided { number: 4 }));
-    both.live.push(queued(other, Stage::Open { mark: 4, awaited: 0 }));
+    both.live.push(queued(other, Stage::Open { mark: 4 }));
     assert_eq!(both.install(&mut buffer()).unwrap().pair, Pair::new(4, 1));
     let mut open = site(2, 1);
     open.clock = 4;
-    open.live.push(queued(T, Stage::Open { mark: 4, awaited: 2 }));
+    open.live.push(queued(T, Stage::Open { mark: 4 }));
     open.live.push(queued(other, Stage::Decided { number: 4 }));
     refused(&open, 41, 17, |site, out| site.install(out));
 }
@@ -55,7 +55,7 @@ fn state_numbers() {
     let mut one = site(2, 1);
     one.clock = 9;
     assert_eq!(one.report(&mut buffer()).unwrap().state, 9);
-    one.live.push(queued(T, Stage::Open { mark: 6, awaited: 2 }));
+    one.live.push(queued(T, Stage::Open { mark: 6 }));
     one.live.push(queued(T + 1, Stage::Decided { number: 6 }));
     assert_eq!(one.report(&mut buffer()).unwrap().state, 5);
     one.live.push(queued(T + 2, Stage::Decided { number: 0 }));

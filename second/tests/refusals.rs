@@ -196,7 +196,7 @@ fn a_count_that_would_pass_its_end() {
     one.sent[1] = u64::MAX;
     refused(&one, FULL, 13, |site, out| site.enlist(T, 2, out));
     assert!(one.clone().commit(T, &mut buffer()).is_ok(), "a lone save sends nothing");
-    one.live[0].participants = 3;
+    (one.live[0].participants, one.live[0].heard) = (3, 2);
     refused(&one, FULL, 13, |site, out| site.commit(T, out));
     refused(&one, FULL, 13, |site, out| site.abandon(T, out));
     let mut two = site(2, 2);

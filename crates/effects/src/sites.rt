@@ -10,6 +10,7 @@ use kinds::sizes::KEYS;
 use pages::is_refused;
 use parts::front;
 use parts::front_mut;
+use pokes::poke_list;
 use pokes::poke_site;
 use verbs::Line;
 use verbs::verb;
@@ -50,6 +51,29 @@ fn call(s: Site, l: Line, m: &[u64], base: &mut [u64], lists: &mut [u64], out: &
     }
 }
 
+// A call is lent as much of the tables as is asked for; a list is poked in the whole of them.
+fn obeyed(
+    s: Site,
+    l: Line,
+    lent: Lent,
+    m: &[u64],
+    base: &mut [u64],
+    lists: &mut [u64],
+    out: &mut [u64],
+) -> Out {
+    if l.verb == verb::LIST {
+        return poke_list(s, lists, l.b, l.c, l.d);
+    }
+    call(
+        s,
+        l,
+        m,
+        front_mut(base, lent.base),
+        front_mut(lists, lent.lists),
+        out,
+    )
+}
+
 fn whole(s: Site, base: &[u64], lists: &[u64]) -> u64 {
     sums::of_words(sums::of_words(sums::whole::site(s), base), lists)
 }
@@ -61,7 +85,7 @@ fn state_of(a: Answer, s: Site, base: &[u64]) -> u64 {
     sums::seen::site(s, front(base, KEYS))
 }
 
-// Calls a site with its tables, of which as much is lent as is asked for, and compares it before and after.
+// Calls a site with its tables, and compares it before and after.
 pub fn at_site(
     s: Site,
     l: Line,
@@ -73,14 +97,7 @@ pub fn at_site(
 ) -> SiteDone {
     let before = whole(s, base, lists);
     pattern(out);
-    let o = call(
-        s,
-        l,
-        m,
-        front_mut(base, lent.base),
-        front_mut(lists, lent.lists),
-        out,
-    );
+    let o = obeyed(s, l, lent, m, base, lists, out);
     let t = o.site;
     let answer = o.answer;
     let after = whole(t, base, lists);

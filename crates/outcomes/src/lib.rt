@@ -144,6 +144,7 @@ fn is_poke(v: u64) -> bool {
         verb::SITE => true,
         verb::LIVE => true,
         verb::PAST => true,
+        verb::LIST => true,
         verb::MERGER => true,
         verb::SOURCE => true,
         verb::QUEUED => true,

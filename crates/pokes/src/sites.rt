@@ -11,10 +11,12 @@ use kinds::Snapshot;
 use kinds::Sub;
 use kinds::reason::MALFORMED;
 use kinds::reason::UNKNOWN;
+use kinds::sizes::GATHERED;
 use kinds::sizes::HISTORY;
 use kinds::sizes::LIVE;
 use kinds::sizes::SITES;
 use kinds::sizes::WRITES;
+use parts::put;
 use verbs::Line;
 use verbs::verb;
 ghost use Prim.Native.Nat.{_<_};
@@ -277,6 +279,28 @@ fn poke_past(s: Site, n: u64, field: u64, v: u64) -> Out {
     let mut t = s;
     t.history[slot] = e;
     done(t)
+}
+
+// A word of the gathered list of a place.
+fn put_listed(lists: &mut [u64], place: usize, i: u64, v: u64) {
+    if LIVE <= place {
+        return;
+    }
+    if GATHERED as u64 <= i {
+        return;
+    }
+    put(lists, place * GATHERED + i as usize, v);
+}
+
+// A word of the gathered list of the part of `tx`.
+pub fn poke_list(s: Site, lists: &mut [u64], tx: u64, i: u64, v: u64) -> Out {
+    let live = s.live;
+    let place = live::place_of(live, tx);
+    if LIVE <= place {
+        return refused(s, UNKNOWN);
+    }
+    put_listed(lists, place, i, v);
+    done(s)
 }
 
 pub fn poke_site(s: Site, l: Line) -> Out {

@@ -103,6 +103,7 @@ fn four(v: u64) -> u64 {
         verb::WRITE => SITE,
         verb::LIVE => SITE,
         verb::PAST => SITE,
+        verb::LIST => SITE,
         verb::HEAD => HAND,
         verb::ENTRIES => HAND,
         verb::FORM => HAND,

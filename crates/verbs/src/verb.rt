@@ -38,6 +38,8 @@ pub const LIVE: u64 = 1818850917;
 
 pub const PAST: u64 = 1885434740;
 
+pub const LIST: u64 = 1818850164;
+
 pub const MERGE: u64 = 469853431653;
 
 pub const EMIT: u64 = 1701669236;

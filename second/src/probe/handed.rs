@@ -1,11 +1,12 @@
 //! A site as a caller hands it in: any field may have been poked, and a state past
 //! the sizes gives 2. What the site itself cannot hold is noted beside it.
 
-use std::collections::BTreeSet;
+use std::collections::{BTreeMap, BTreeSet};
 
+use super::listed::Listed;
 use super::sums;
 use crate::answer::Refusal;
-use crate::site::{Footprint, Part, Site, Stage};
+use crate::site::{Footprint, Installed, Part, Site, Stage};
 use crate::sizes::*;
 
 /// Fields of a part and of an installed one. A key adds its place to 100 (read)
@@ -38,26 +39,89 @@ pub struct Handed {
     /// The site whose keys the parts hold.
     keys_of: u64,
     past_sizes: BTreeSet<Place>,
+    /// Gathered lists that were poked, by transaction.
+    lists: BTreeMap<u64, Listed>,
+    /// Every slot of the history: install n stands in slot (n − 1) % 32. The site
+    /// remembers those that its count of installs reaches.
+    slots: Vec<Installed>,
 }
 
 impl Handed {
     pub fn new(site: Site) -> Self {
-        Handed { keys_of: site.own, site, past_sizes: BTreeSet::new() }
+        let unused = Installed {
+            install: 0,
+            transaction: 0,
+            participants: 0,
+            footprint: Footprint::default(),
+        };
+        Handed {
+            keys_of: site.own,
+            site,
+            past_sizes: BTreeSet::new(),
+            lists: BTreeMap::new(),
+            slots: vec![unused; HISTORY],
+        }
     }
 
-    /// 01, "Sizes of a house": counts, keys and masks.
+    /// 01, "Sizes of a house": counts, keys and masks. What goes out in a CONC is
+    /// a transaction of the house: the numbers of parts and of remembered ones.
     pub fn is_within_sizes(&self) -> bool {
         let site = &self.site;
-        let house = is_site(site.sites, SITES as u64) && is_site(site.own, site.sites);
+        if !self.has_house() {
+            return false;
+        }
         let footprints = (site.live.iter().map(|part| &part.footprint))
-            .chain(site.history.iter().map(|past| &past.footprint));
-        let masks = (site.live.iter().map(|part| part.participants))
-            .chain(site.history.iter().map(|past| past.participants));
-        house
-            && site.serial <= LAST_SERIAL
+            .chain(self.slots.iter().map(|past| &past.footprint));
+        let numbers = (site.live.iter().map(|part| part.transaction))
+            .chain(site.history.iter().map(|past| past.transaction));
+        site.serial <= LAST_SERIAL
             && self.past_sizes.is_empty()
-            && masks.into_iter().all(|mask| is_mask(mask, site.sites))
+            && site.live.iter().all(|part| self.has_possible_masks(part))
+            && self.slots.iter().all(|past| is_mask(past.participants, site.sites))
+            && numbers.into_iter().all(|number| is_transaction(number, site.sites))
             && (site.own == self.keys_of || footprints.into_iter().all(is_empty))
+    }
+
+    fn has_house(&self) -> bool {
+        is_site(self.site.sites, SITES as u64) && is_site(self.site.own, self.site.sites)
+    }
+
+    /// Replies come from other sites, and each list has at most 47 entries, the
+    /// own one too.
+    fn has_possible_masks(&self, part: &Part) -> bool {
+        let (sites, own) = (self.site.sites, self.site.own);
+        let lists = u64::from(part.heard.count_ones()) + 1;
+        is_mask(part.participants, sites)
+            && is_mask(part.heard, sites)
+            && part.heard & site_bit(own) == 0
+            && self.list_of(part).count <= LIST_ENTRIES as u64 * lists
+    }
+
+    /// Whether every entry that a gathered list counts is possible.
+    pub fn has_possible_lists(&self) -> bool {
+        let mut parts = self.site.live.iter();
+        parts.all(|part| self.list_of(part).is_possible(self.site.sites))
+    }
+
+    fn list_of(&self, part: &Part) -> Listed {
+        let poked = self.lists.get(&part.transaction).cloned();
+        poked.unwrap_or_else(|| Listed::of(&part.gathered))
+    }
+
+    /// After an accepted call: lists and slots are as the call left the site.
+    pub fn follow(&mut self, before: &Site) {
+        let site = &self.site;
+        self.lists.retain(|&transaction, _| site.find(transaction).is_some());
+        for part in &site.live {
+            let Some(list) = self.lists.get_mut(&part.transaction) else { continue };
+            let earlier = before.find(part.transaction).map(|place| &before.live[place].gathered);
+            if earlier != Some(&part.gathered) {
+                list.fill(&part.gathered);
+            }
+        }
+        for past in &site.history {
+            self.slots[slot_of(past.install)] = past.clone();
+        }
     }
 
     pub fn poke(&mut self, field: u64, value: u64) {
@@ -67,66 +131,130 @@ impl Handed {
             1 => site.own = value,
             2 => site.clock = value,
             3 => site.serial = value,
-            4 => site.installs = value,
+            4 => {
+                site.installs = value;
+                self.remember();
+            }
             11..=18 => site.sent[field as usize - 11] = value,
             21..=28 => site.taken[field as usize - 21] = value,
             _ => {}
         }
     }
 
-    pub fn poke_live(&mut self, transaction: u64, what: u64, value: u64) -> Result<(), Refusal> {
-        let place = self.site.find(transaction).ok_or(Refusal::NotHeld)?;
-        let (own, sites) = (self.site.own, self.site.sites);
-        let part = &mut self.site.live[place];
-        let (stage, number, heard, reason) = sums::course(part, own);
-        let foreign = !is_mask(value, sites) || value & site_bit(own) != 0;
-        let lists = u64::from(heard.count_ones()) + 1;
+    /// The last installs, up to 32, as their slots say.
+    fn remember(&mut self) {
+        let installs = self.site.installs;
+        let last = (0..installs.min(HISTORY as u64)).rev();
+        self.site.history = last
+            .map(|back| {
+                let past = &mut self.slots[slot_of(installs - back)];
+                past.install = installs - back;
+                past.clone()
+            })
+            .collect();
+    }
+
+    /// `Ok(Err(..))` where the part is not there.
+    pub fn poke_live(
+        &mut self,
+        transaction: u64,
+        what: u64,
+        value: u64,
+    ) -> Result<Result<(), Refusal>, String> {
+        let Some(place) = self.site.find(transaction) else { return Ok(Err(Refusal::NotHeld)) };
+        let own = self.site.own;
         let past = match what {
             field::STAGE => value > LAST_STAGE,
-            field::HEARD => foreign,
-            field::LISTED => value > LIST_ENTRIES as u64 * lists,
-            _ => is_past(&part.footprint, own, what, value),
+            _ => is_past(&self.site.live[place].footprint, own, what, value),
         };
         self.note(Place::Live(transaction, what), past);
         if past {
-            return Ok(());
+            return Ok(Ok(()));
         }
         let part = &mut self.site.live[place];
+        let (_, number, _, reason) = sums::course(part, own);
         match what {
-            field::TRANSACTION => part.transaction = value,
+            field::TRANSACTION => return self.number_anew(place, value),
             field::SNAPSHOT => part.snapshot = value,
-            field::STAGE if value == 0 => drop(self.site.live.remove(place)),
-            field::STAGE => stand(part, own, (value, number, heard, reason)),
-            field::MASK => {
-                part.participants = value;
-                stand(part, own, (stage, number, heard, reason));
+            field::STAGE if value == 0 => return self.free(place),
+            field::STAGE => part.stage = stage_of(value, number, reason),
+            field::MASK => part.participants = value,
+            field::NUMBER => match &mut part.stage {
+                Stage::Open { mark: number } | Stage::Decided { number } => *number = value,
+                _ => {}
+            },
+            field::HEARD => part.heard = value,
+            field::REASON => {
+                if let Stage::Active { full } = &mut part.stage {
+                    *full = value != 0;
+                }
             }
-            field::NUMBER => stand(part, own, (stage, value, heard, reason)),
-            field::HEARD => stand(part, own, (stage, number, value, reason)),
-            field::REASON => stand(part, own, (stage, number, heard, value)),
+            field::LISTED => self.poke_list(place, |list| list.count = value),
             _ => {}
         }
+        Ok(Ok(()))
+    }
+
+    /// Two parts of one number: which of them a call finds is left free.
+    fn number_anew(&mut self, place: usize, value: u64) -> Result<Result<(), Refusal>, String> {
+        let before = self.site.live[place].transaction;
+        if self.site.find(value).is_some_and(|other| other != place) {
+            return Err("two parts of one transaction".to_string());
+        }
+        self.site.live[place].transaction = value;
+        if let Some(list) = self.lists.remove(&before) {
+            self.lists.insert(value, list);
+        }
+        let noted = std::mem::take(&mut self.past_sizes).into_iter();
+        self.past_sizes = noted
+            .map(|noted| match noted {
+                Place::Live(transaction, what) if transaction == before => Place::Live(value, what),
+                other => other,
+            })
+            .collect();
+        Ok(Ok(()))
+    }
+
+    /// A free place's number and list are not looked at, its counts and masks are.
+    fn free(&mut self, place: usize) -> Result<Result<(), Refusal>, String> {
+        if !self.has_house() || !self.has_possible_masks(&self.site.live[place]) {
+            return Err("a free place past the sizes".to_string());
+        }
+        let part = self.site.live.remove(place);
+        self.lists.remove(&part.transaction);
+        Ok(Ok(()))
+    }
+
+    /// Word `word` of the gathered list of a part.
+    pub fn plant(&mut self, transaction: u64, word: u64, value: u64) -> Result<(), Refusal> {
+        let place = self.site.find(transaction).ok_or(Refusal::NotHeld)?;
+        self.poke_list(place, |list| list.poke(word, value));
         Ok(())
     }
 
-    /// The entry of install `count`, or where it would stand.
+    fn poke_list(&mut self, place: usize, change: impl FnOnce(&mut Listed)) {
+        let part = &mut self.site.live[place];
+        let list = self.lists.entry(part.transaction).or_insert_with(|| Listed::of(&part.gathered));
+        change(list);
+        if let Some(entries) = list.entries() {
+            part.gathered = entries;
+        }
+    }
+
+    /// The slot of install `count`.
     pub fn poke_past(&mut self, count: u64, what: u64, value: u64) -> Result<(), Refusal> {
-        let slot = count.checked_sub(1).ok_or(Refusal::Impossible)? % HISTORY as u64;
-        let (own, sites) = (self.site.own, self.site.sites);
-        let mut history = self.site.history.iter_mut();
-        let there = history.find(|past| (past.install - 1) % HISTORY as u64 == slot);
-        let none = Footprint::default();
-        let footprint = there.as_ref().map_or(&none, |past| &past.footprint);
-        let past = match what {
-            field::MASK => there.is_none() && !is_mask(value, sites),
-            _ => is_past(footprint, own, what, value),
-        };
-        match (there, what) {
-            (Some(entry), field::TRANSACTION) => entry.transaction = value,
-            (Some(entry), field::MASK) => entry.participants = value,
+        if count == 0 {
+            return Err(Refusal::Impossible);
+        }
+        let slot = slot_of(count);
+        let past = is_past(&self.slots[slot].footprint, self.site.own, what, value);
+        self.note(Place::Past(slot as u64, what), past);
+        match what {
+            field::TRANSACTION => self.slots[slot].transaction = value,
+            field::MASK => self.slots[slot].participants = value,
             _ => {}
         }
-        self.note(Place::Past(slot, what), past);
+        self.remember();
         Ok(())
     }
 
@@ -137,6 +265,10 @@ impl Handed {
             self.past_sizes.remove(&place);
         }
     }
+}
+
+fn slot_of(install: u64) -> usize {
+    ((install - 1) % HISTORY as u64) as usize
 }
 
 fn is_empty(footprint: &Footprint) -> bool {
@@ -154,21 +286,13 @@ fn is_past(footprint: &Footprint, own: u64, what: u64, value: u64) -> bool {
     }
 }
 
-/// Puts a part into a stage by its number; the coordinator awaits all not heard.
-fn stand(part: &mut Part, own: u64, (stage, number, heard, reason): (u64, u64, u64, u64)) {
-    let coordinates = coordinator_of(part.transaction) == own;
-    let others = part.participants & !site_bit(own);
-    let awaited = if coordinates { others & !heard } else { 0 };
-    let list = match &part.stage {
-        Stage::Gathering { list, .. } => list.clone(),
-        _ => Vec::new(),
-    };
-    part.stage = match stage {
-        1 => Stage::Active { joining: awaited, full: reason != 0 },
-        2 if coordinates => Stage::Gathering { awaited, list },
-        2 => Stage::Listed,
-        3 => Stage::Open { mark: number, awaited },
+/// A stage by its number, with what the part kept beside it.
+fn stage_of(stage: u64, number: u64, reason: u64) -> Stage {
+    match stage {
+        1 => Stage::Active { full: reason != 0 },
+        2 => Stage::Prepared,
+        3 => Stage::Open { mark: number },
         4 => Stage::Decided { number },
         _ => Stage::VotedNo,
-    };
+    }
 }

@@ -7,7 +7,7 @@ pub struct Line {
 }
 
 /// Verbs, each with how many numbers follow it.
-const VERBS: [(&str, usize); 37] = [
+const VERBS: [(&str, usize); 38] = [
     ("house", 1),
     ("room", 1),
     ("base", 1),
@@ -27,6 +27,7 @@ const VERBS: [(&str, usize); 37] = [
     ("site", 3),
     ("live", 4),
     ("past", 4),
+    ("list", 4),
     ("merge", 0),
     ("emit", 0),
     ("open", 1),

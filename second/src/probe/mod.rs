@@ -5,6 +5,7 @@
 mod hand;
 mod handed;
 pub mod line;
+mod listed;
 mod queued;
 pub mod random;
 pub mod sums;
@@ -26,7 +27,7 @@ use queued::Queued;
 const ROOM: u64 = 8_192;
 const COPIES: usize = 2;
 const COPY_WORDS: u64 = 2 + KEYS;
-const LISTS: u64 = (LIVE * ENTRY_WORDS * JOINED_ENTRIES) as u64;
+const LISTS: u64 = (LIVE * listed::LIST_WORDS) as u64;
 const QUEUES: u64 = (SITES * sums::SITE_QUEUE) as u64;
 
 /// Lengths lent.
@@ -81,7 +82,7 @@ impl Probe {
             }
             "house" => *self = Probe::new(line.numbers[0]),
             "room" | "base" | "lists" | "queues" | "copies" => self.lend(line),
-            "site" | "live" | "past" | "merger" | "source" | "queued" | "copied" => {
+            "site" | "live" | "past" | "list" | "merger" | "source" | "queued" | "copied" => {
                 let answer = self.poke(line)?;
                 tell(output, event, &answer.map(|()| Answer::Done));
                 output.push('\n');
@@ -141,7 +142,10 @@ impl Probe {
                 match (verb, rest) {
                     ("site", &[field, value]) => site.poke(field, value),
                     ("live", &[transaction, field, value]) => {
-                        return Ok(site.poke_live(transaction, field, value));
+                        return site.poke_live(transaction, field, value);
+                    }
+                    ("list", &[transaction, word, value]) => {
+                        return Ok(site.plant(transaction, word, value));
                     }
                     ("past", &[count, field, value]) => {
                         return Ok(site.poke_past(count, field, value));
@@ -180,6 +184,9 @@ impl Probe {
         let before = handed.clone();
         let (base, lists) = (self.lent.base == KEYS, self.lent.lists == LISTS);
         let answer = site_call(handed, line, self.hand.words(), base, lists, out);
+        if answer.is_ok() {
+            handed.follow(&before.site);
+        }
         let same = before == *handed;
         let state = answer.map_or(0, |_| sums::site(&handed.site));
         Done { answer, found: true, same, state }
@@ -190,7 +197,7 @@ impl Probe {
         let lent = self.lent.queues == QUEUES;
         let answer = merger_call(&mut self.merger, line, self.hand.words(), lent, out);
         let same = before == self.merger;
-        let state = answer.map_or(0, |_| sums::merger(&self.merger.merger));
+        let state = answer.map_or(0, |_| self.merger.sum());
         Done { answer, found: true, same, state }
     }
 
@@ -249,6 +256,9 @@ fn site_call(
         return Ok(Answer::Done);
     }
     require(handed.is_within_sizes(), Refusal::Impossible)?;
+    if matches!(line.verb.as_str(), "commit" | "message") {
+        require(handed.has_possible_lists(), Refusal::Impossible)?;
+    }
     let site = &mut handed.site;
     match (line.verb.as_str(), &line.numbers[1..]) {
         ("begin", _) => site.begin().map(Answer::Begun),

@@ -2,8 +2,9 @@
 
 use std::collections::BTreeMap;
 
-use super::sums::{queue_words, SITE_QUEUE};
-use crate::merger::Merger;
+use super::sums::{self, queue_words, Source, SITE_QUEUE};
+use crate::answer::Pair;
+use crate::merger::{Log, Merger};
 use crate::record::{parse_log, LogRecord, Save};
 use crate::sizes::*;
 
@@ -12,19 +13,56 @@ pub struct Queued {
     pub merger: Merger,
     /// Number of sites, where it is not that of the logs.
     sites: Option<u64>,
-    /// Counts of queued parts, by site, where the queue is shorter.
+    /// Counts of queued parts, by site, where the queue is shorter. The house lacks
+    /// some of these sites.
     counts: BTreeMap<u64, u64>,
     /// Words of a site's queue that are no parts of it.
     words: BTreeMap<u64, Vec<u64>>,
+    /// State and last pair at the sources of sites that the house lacks.
+    lacked: BTreeMap<u64, (u64, Pair)>,
 }
 
 impl Queued {
     pub fn new(merger: Merger) -> Self {
-        Queued { merger, sites: None, counts: BTreeMap::new(), words: BTreeMap::new() }
+        Queued {
+            merger,
+            sites: None,
+            counts: BTreeMap::new(),
+            words: BTreeMap::new(),
+            lacked: BTreeMap::new(),
+        }
     }
 
+    /// No part is well made at a site that the house lacks, so none is counted there.
     pub fn is_within_sizes(&self) -> bool {
-        self.sites.is_none() && self.counts.is_empty() && self.words.is_empty()
+        let parts = self.words.keys().all(|&site| !self.has(site));
+        self.sites.is_none() && self.counts.is_empty() && parts
+    }
+
+    fn has(&self, site: u64) -> bool {
+        is_site(site, self.merger.logs.len() as u64)
+    }
+
+    /// The checksum of all eight sources and their queues.
+    pub fn sum(&self) -> u64 {
+        let sources: Vec<Source> = (1..=SITES as u64).map(|site| self.source(site)).collect();
+        sums::merger(self.merger.logs.len() as u64, &sources)
+    }
+
+    fn source(&self, site: u64) -> Source {
+        if let Some(log) = self.merger.logs.get(site as usize - 1) {
+            let words = queue_words(site, log.queue.iter());
+            return Source {
+                state: log.state,
+                last: log.last,
+                queued: log.queue.len() as u64,
+                words,
+            };
+        }
+        let (state, last) = self.lacked.get(&site).copied().unwrap_or_default();
+        let words = self.words.get(&site).cloned();
+        let words = words.unwrap_or_else(|| vec![0; SITE_QUEUE]);
+        Source { state, last, queued: 0, words }
     }
 
     pub fn poke_sites(&mut self, sites: u64) -> Result<(), String> {
@@ -36,18 +74,23 @@ impl Queued {
     }
 
     pub fn poke_source(&mut self, site: u64, field: u64, value: u64) -> Result<(), String> {
-        if !is_site(site, self.merger.logs.len() as u64) {
-            return Err("a source that the house lacks".to_string());
+        if !is_site(site, SITES as u64) {
+            return Err("a source that no house has".to_string());
         }
-        let log = &mut self.merger.logs[site as usize - 1];
-        match field {
-            0 => log.state = value,
-            1 => log.last.number = value,
-            2 => log.last.coordinator = value,
-            3 if value < log.queue.len() as u64 => {
-                return Err("a shorter queue".to_string());
+        let queued = self.merger.logs.get(site as usize - 1).map_or(0, |log| log.queue.len());
+        let (state, last) = match self.merger.logs.get_mut(site as usize - 1) {
+            Some(Log { state, last, .. }) => (state, last),
+            None => {
+                let (state, last) = self.lacked.entry(site).or_default();
+                (state, last)
             }
-            3 if value == log.queue.len() as u64 => drop(self.counts.remove(&site)),
+        };
+        match field {
+            0 => *state = value,
+            1 => last.number = value,
+            2 => last.coordinator = value,
+            3 if value < queued as u64 => return Err("a shorter queue".to_string()),
+            3 if value == queued as u64 => drop(self.counts.remove(&site)),
             3 => drop(self.counts.insert(site, value)),
             _ => {}
         }
@@ -55,11 +98,15 @@ impl Queued {
     }
 
     pub fn poke_queue(&mut self, site: u64, place: u64, value: u64) -> Result<(), String> {
-        let sites = self.merger.logs.len() as u64;
-        if !is_site(site, sites) || place >= SITE_QUEUE as u64 {
+        if !is_site(site, SITES as u64) || place >= SITE_QUEUE as u64 {
             return Err("a word of no queue".to_string());
         }
-        let queue = &mut self.merger.logs[site as usize - 1].queue;
+        let sites = self.merger.logs.len() as u64;
+        let Some(Log { queue, .. }) = self.merger.logs.get_mut(site as usize - 1) else {
+            let words = self.words.entry(site).or_insert_with(|| vec![0; SITE_QUEUE]);
+            words[place as usize] = value;
+            return Ok(());
+        };
         if place as usize >= queue.len() * PART_BUFFER {
             return Err("a word behind the queued parts".to_string());
         }

@@ -1,6 +1,8 @@
 //! Random probes: calls in turn and out of turn, words forged, buffers shortened,
-//! counters near their ends, states past the sizes. The house is run beside, so
-//! that the lines lead into deep states.
+//! counters near their ends, states past the sizes, fields poked. The house is run
+//! beside, so that the lines lead into deep states.
+
+mod pokes;
 
 use std::fmt::Write;
 
@@ -25,6 +27,10 @@ struct Maker {
     forged: u64,
     /// Percent of messages that come in turn.
     order: u64,
+    /// Percent of steps that poke a state.
+    poked: u64,
+    /// How many transaction numbers were planted.
+    planted: u64,
     merged: Vec<u64>,
     replayed: Vec<u64>,
 }
@@ -41,6 +47,8 @@ pub fn probe(seed: u64, lines: u64) -> String {
         lone: random.chance(25),
         forged: [0, 2, 10][random.below(3) as usize],
         order: [60, 90, 98][random.below(3) as usize],
+        poked: [0, 2, 6][random.below(3) as usize],
+        planted: 0,
         merged: vec![0; sites as usize],
         replayed: vec![0; super::COPIES],
         random,
@@ -71,6 +79,9 @@ impl Maker {
     }
 
     fn step(&mut self) {
+        if self.random.chance(self.poked) {
+            return self.poke();
+        }
         let (site, transaction) = self.any_part();
         match self.random.weighted(if self.lone { &LONE } else { &SPANNING }) {
             0 => {
@@ -221,6 +232,7 @@ impl Maker {
             if self.random.chance(30) {
                 let left = self.random.below(12);
                 self.say(format!("site {site} 4 {}", u64::MAX - left));
+                self.fill_the_history(site);
             }
         }
     }

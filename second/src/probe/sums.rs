@@ -1,8 +1,8 @@
 //! Checksums of words and of states, below the prime 2^32 − 5. A state's is over
 //! what the rules fix: parts and history as sets, nothing that a stage does not use.
 
+use crate::answer::Pair;
 use crate::copy::Copy;
-use crate::merger::Merger;
 use crate::record::{self, Save};
 use crate::site::{Footprint, Installed, Part, Site, Stage};
 use crate::sizes::*;
@@ -38,15 +38,11 @@ fn keys(sum: u64, own: u64, footprint: &Footprint) -> u64 {
 /// round, and 12 once a JOINED said so.
 pub fn course(part: &Part, own: u64) -> (u64, u64, u64, u64) {
     let coordinates = coordinator_of(part.transaction) == own;
-    let others = part.participants & !site_bit(own);
-    let heard = |awaited: u64| if coordinates { others & !awaited } else { 0 };
+    let heard = if coordinates { part.heard } else { 0 };
     match part.stage {
-        Stage::Active { joining, full } => {
-            (1, 0, heard(joining), if coordinates && full { 12 } else { 0 })
-        }
-        Stage::Gathering { awaited, .. } => (2, 0, heard(awaited), 0),
-        Stage::Listed => (2, 0, 0, 0),
-        Stage::Open { mark, awaited } => (3, mark, heard(awaited), 0),
+        Stage::Active { full } => (1, 0, heard, if coordinates && full { 12 } else { 0 }),
+        Stage::Prepared => (2, 0, heard, 0),
+        Stage::Open { mark } => (3, mark, heard, 0),
         Stage::Decided { number } => (4, number, 0, 0),
         Stage::VotedNo => (5, 0, 0, 0),
     }
@@ -85,18 +81,21 @@ pub fn queue_words<'a>(site: u64, queue: impl Iterator<Item = &'a Save>) -> Vec<
     place_words
 }
 
+/// What stands at a source of the merger, and the words of its queue.
+pub struct Source {
+    pub state: u64,
+    pub last: Pair,
+    pub queued: u64,
+    pub words: Vec<u64>,
+}
+
 /// One word more than the queues have is there to be lent.
-pub fn merger(merger: &Merger) -> u64 {
-    let mut sum = merger.logs.len() as u64;
-    let mut queues = Vec::with_capacity(SITES * SITE_QUEUE + 1);
-    for place in 0..SITES {
-        let log = merger.logs.get(place).cloned().unwrap_or_default();
-        let queued = log.queue.len() as u64;
-        sum = words(sum, &[log.state, log.last.number, log.last.coordinator, queued]);
-        queues.extend(queue_words(place as u64 + 1, log.queue.iter()));
-    }
-    queues.push(0);
-    words(sum, &queues)
+pub fn merger(sites: u64, sources: &[Source]) -> u64 {
+    let sum = sources.iter().fold(sites, |sum, one| {
+        words(sum, &[one.state, one.last.number, one.last.coordinator, one.queued])
+    });
+    let queues = sources.iter().fold(sum, |sum, one| words(sum, &one.words));
+    more(queues, 0)
 }
 
 pub fn copy(copy: &Copy) -> u64 {

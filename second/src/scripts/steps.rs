@@ -74,7 +74,7 @@ impl Generator {
     fn commit(&mut self) {
         let joining = self.random.chance(10);
         let parts = self.parts(|site, part| {
-            let waits = matches!(part.stage, Stage::Active { joining, .. } if joining != 0);
+            let waits = part.outstanding(site.own) != 0;
             coordinates(site, part) && part.is_active() && waits == joining
         });
         let Some((_, transaction)) = self.random.pick(&parts) else { return };

@@ -21,10 +21,8 @@ impl Site {
         list.extend(prepared.chain(installed).map(|(transaction, participants, footprint)| {
             Entry { transaction, participants, marked: part.footprint.depends(footprint) }
         }));
-        list.sort_unstable_by_key(|entry| entry.transaction);
         // A repeated number needs a forged JOIN; it is still one transaction.
-        list.dedup_by(|next, kept| next.transaction == kept.transaction && kept.absorb(next));
-        list
+        joined(list)
     }
 
     /// Course 7: 0, 18 or 19; where both fit, 18.
@@ -49,12 +47,8 @@ impl Site {
     }
 
     /// The coordinator has every list: it votes, then sends CERT or ABORT.
-    pub(super) fn close(
-        &mut self,
-        place: usize,
-        list: &[Entry],
-        out: &mut Outbox,
-    ) -> Option<Decision> {
+    pub(super) fn close(&mut self, place: usize, out: &mut Outbox) -> Option<Decision> {
+        let list = joined(std::mem::take(&mut self.live[place].gathered));
         let part = &self.live[place];
         let vote = self.vote(part, list.iter().copied());
         if vote != 0 {
@@ -62,11 +56,11 @@ impl Site {
         }
         let cert = Letter::bare(Kind::Cert, part.transaction);
         let others = self.others(place);
-        self.live[place].stage = Stage::Open { mark: self.clock, awaited: others };
+        self.live[place].enter_queue(self.clock);
         if others == 0 {
             return Some(self.decide(place, out));
         }
-        self.send(others, cert, list, out);
+        self.send(others, cert, &list, out);
         None
     }
 
@@ -92,19 +86,9 @@ impl Site {
     }
 }
 
-/// Course 6: joins a site's list, ascending, into the coordinator's.
-pub(super) fn join(gathered: &[Entry], more: impl Iterator<Item = Entry>) -> Vec<Entry> {
-    let mut gathered = gathered.iter().copied().peekable();
-    let mut joined = Vec::with_capacity(gathered.len());
-    for mut entry in more {
-        while let Some(earlier) = gathered.next_if(|one| one.transaction < entry.transaction) {
-            joined.push(earlier);
-        }
-        if let Some(same) = gathered.next_if(|one| one.transaction == entry.transaction) {
-            entry.absorb(&same);
-        }
-        joined.push(entry);
-    }
-    joined.extend(gathered);
-    joined
+/// Course 6: the entries of several lists as one, by transaction ascending.
+fn joined(mut entries: Vec<Entry>) -> Vec<Entry> {
+    entries.sort_unstable_by_key(|entry| entry.transaction);
+    entries.dedup_by(|next, kept| next.transaction == kept.transaction && kept.absorb(next));
+    entries
 }

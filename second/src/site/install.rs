@@ -53,7 +53,7 @@ impl Site {
     /// The least of clock, open marks, and decided numbers less 1.
     pub fn state_number(&self) -> u64 {
         let held_back = self.live.iter().filter_map(|part| match part.stage {
-            Stage::Open { mark, .. } => Some(mark),
+            Stage::Open { mark } => Some(mark),
             Stage::Decided { number } => Some(number.saturating_sub(1)),
             _ => None,
         });

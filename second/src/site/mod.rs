@@ -73,14 +73,13 @@ impl Site {
         require(is_site(site, self.sites), Refusal::Impossible)?;
         let place = self.find(transaction).ok_or(Refusal::NotHeld)?;
         let part = &self.live[place];
-        let Stage::Active { joining, full } = part.stage else { return Err(Refusal::Stage) };
         let bit = site_bit(site);
-        let allowed = self.coordinates(transaction) && part.participants & bit == 0;
+        // The coordinator takes part from the beginning, whatever a handed mask says.
+        let taking_part = part.participants | self.own_bit();
+        let allowed = self.coordinates(transaction) && part.is_active() && taking_part & bit == 0;
         require(allowed, Refusal::Stage)?;
         self.can_send(bit)?;
-        let part = &mut self.live[place];
-        part.participants |= bit;
-        part.stage = Stage::Active { joining: joining | bit, full };
+        self.live[place].participants |= bit;
         self.send(bit, Letter::bare(Kind::Join, transaction), &[], &mut out);
         Ok(Sent { words: out.used(), decision: None })
     }
@@ -120,10 +119,10 @@ impl Site {
         let mut out = Outbox::new(out)?;
         let place = self.find(transaction).ok_or(Refusal::NotHeld)?;
         require(self.coordinates(transaction), Refusal::Stage)?;
-        let Stage::Active { joining, full } = self.live[place].stage else {
+        let Stage::Active { full } = self.live[place].stage else {
             return Err(Refusal::Stage);
         };
-        require(joining == 0, Refusal::JoinedOutstanding)?;
+        require(self.outstanding(place) == 0, Refusal::JoinedOutstanding)?;
         let others = self.others(place);
         self.can_send(others)?;
         let decision = if full {
@@ -151,17 +150,20 @@ impl Site {
         if self.has_forgotten_since(part.snapshot) {
             return Some(self.abort(place, reason::FORGOTTEN, out));
         }
-        let list = self.concurrent(part);
-        if others == 0 {
-            return self.close(place, &list, out);
-        }
         let letter = Letter {
             kind: Kind::Prepare,
             transaction: part.transaction,
             clock: self.clock,
             argument: part.participants,
         };
-        self.live[place].stage = Stage::Gathering { awaited: others, list };
+        let list = self.concurrent(part);
+        let part = &mut self.live[place];
+        part.stage = Stage::Prepared;
+        part.heard = 0;
+        part.gathered = list;
+        if others == 0 {
+            return self.close(place, out);
+        }
         self.send(others, letter, &[], out);
         None
     }
@@ -212,5 +214,9 @@ impl Site {
 
     fn others(&self, place: usize) -> u64 {
         self.live[place].participants & !self.own_bit()
+    }
+
+    fn outstanding(&self, place: usize) -> u64 {
+        self.live[place].outstanding(self.own)
     }
 }

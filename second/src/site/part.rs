@@ -71,20 +71,17 @@ impl Footprint {
     }
 }
 
-/// How far a part has come. The fields beside are masks of sites and, at a
-/// participant, empty.
-#[derive(Clone, PartialEq, Eq, Debug)]
+/// How far a part has come.
+#[derive(Clone, Copy, PartialEq, Eq, Debug)]
 pub enum Stage {
-    /// Takes reads and writes. `joining`: JOINED outstanding; `full`: one said 12.
-    Active { joining: u64, full: bool },
-    /// Coordinator after the commit request. `awaited`: CONC outstanding.
-    Gathering { awaited: u64, list: Vec<Entry> },
-    /// Participant that replied CONC.
-    Listed,
+    /// Takes reads and writes. `full`: a JOINED said 12.
+    Active { full: bool },
+    /// The commit is requested, or PREPARE taken; the list is made.
+    Prepared,
     /// Participant that voted no; it keeps its keys until ABORT.
     VotedNo,
-    /// Voted yes, in the queue. `awaited`: VOTE outstanding.
-    Open { mark: u64, awaited: u64 },
+    /// Voted yes, in the queue.
+    Open { mark: u64 },
     /// Committed, in the queue.
     Decided { number: u64 },
 }
@@ -96,6 +93,11 @@ pub struct Part {
     pub snapshot: u64,
     pub participants: u64,
     pub stage: Stage,
+    /// At the coordinator, the sites whose reply of this round came: JOINED, then
+    /// CONC, then VOTE.
+    pub heard: u64,
+    /// At the coordinator, its own list and those that came, one behind the other.
+    pub gathered: Vec<Entry>,
     pub footprint: Footprint,
 }
 
@@ -105,7 +107,9 @@ impl Part {
             transaction,
             snapshot,
             participants,
-            stage: Stage::Active { joining: 0, full: false },
+            stage: Stage::Active { full: false },
+            heard: 0,
+            gathered: Vec::new(),
             footprint: Footprint::default(),
         }
     }
@@ -114,15 +118,27 @@ impl Part {
         matches!(self.stage, Stage::Active { .. })
     }
 
+    /// Other participants whose reply of this round is still to come.
+    pub fn outstanding(&self, own: u64) -> u64 {
+        self.participants & !site_bit(own) & !self.heard
+    }
+
     /// 01, course 5: PREPARE taken, or commit requested; a no included.
     pub fn is_prepared(&self) -> bool {
         !self.is_active()
     }
 
+    /// Yes enters the queue: the lists are done with, and the round of votes begins.
+    pub(super) fn enter_queue(&mut self, mark: u64) {
+        self.stage = Stage::Open { mark };
+        self.heard = 0;
+        self.gathered.clear();
+    }
+
     /// Place in the queue, for a part that entered it.
     pub fn queue_order(&self) -> Option<(u64, u64, u64)> {
         let first = match self.stage {
-            Stage::Open { mark, .. } => mark,
+            Stage::Open { mark } => mark,
             Stage::Decided { number } => number,
             _ => return None,
         };

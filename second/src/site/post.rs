@@ -1,7 +1,6 @@
 //! Messages: what a site does on taking one, and how it sends
 //! (01, "Message and record words", turns).
 
-use super::certify::join;
 use super::{Part, Site, Stage};
 use crate::answer::{reason, require, Decision, Refusal, Sent};
 use crate::message::{Entry, Kind, Letter, Message, Outbox};
@@ -71,10 +70,12 @@ impl Site {
 
     fn take_joined(&mut self, place: usize, message: &Message) -> Taken {
         let from = site_bit(message.from);
-        match &mut self.live[place].stage {
-            Stage::Active { joining, full } if *joining & from != 0 => {
-                *joining &= !from;
+        let awaited = self.outstanding(place) & from != 0;
+        let part = &mut self.live[place];
+        match &mut part.stage {
+            Stage::Active { full } if awaited => {
                 *full |= message.argument == reason::LIVE_FULL;
+                part.heard |= from;
                 Ok(None)
             }
             _ => Err(Refusal::Stage),
@@ -93,7 +94,7 @@ impl Site {
             self.reply_vote(message, reason::FORGOTTEN, out);
         } else {
             let list = self.concurrent(part);
-            self.live[place].stage = Stage::Listed;
+            self.live[place].stage = Stage::Prepared;
             self.send(from, Letter::bare(Kind::Conc, message.transaction), &list, out);
         }
         Ok(None)
@@ -101,28 +102,27 @@ impl Site {
 
     fn take_conc(&mut self, place: usize, message: &Message, out: &mut Outbox) -> Taken {
         let from = site_bit(message.from);
-        let Stage::Gathering { awaited, list } = &self.live[place].stage else {
-            return Err(Refusal::Stage);
-        };
-        require(awaited & from != 0, Refusal::Stage)?;
-        let awaited = awaited & !from;
-        if awaited == 0 {
+        let outstanding = self.outstanding(place);
+        let in_turn = self.live[place].stage == Stage::Prepared && outstanding & from != 0;
+        require(in_turn, Refusal::Stage)?;
+        let last = outstanding == from;
+        if last {
             self.can_send(self.others(place))?;
         }
-        let list = join(list, message.entries());
-        if awaited == 0 {
-            return Ok(self.close(place, &list, out));
-        }
-        self.live[place].stage = Stage::Gathering { awaited, list };
-        Ok(None)
+        let part = &mut self.live[place];
+        part.heard |= from;
+        part.gathered.extend(message.entries());
+        Ok(if last { self.close(place, out) } else { None })
     }
 
     fn take_cert(&mut self, place: usize, message: &Message, out: &mut Outbox) -> Taken {
-        require(self.live[place].stage == Stage::Listed, Refusal::Stage)?;
+        require(self.live[place].stage == Stage::Prepared, Refusal::Stage)?;
         self.can_send(site_bit(message.from))?;
         let vote = self.vote(&self.live[place], message.entries());
-        self.live[place].stage =
-            if vote == 0 { Stage::Open { mark: self.clock, awaited: 0 } } else { Stage::VotedNo };
+        match vote {
+            0 => self.live[place].enter_queue(self.clock),
+            _ => self.live[place].stage = Stage::VotedNo,
+        }
         self.reply_vote(message, vote, out);
         Ok(None)
     }
@@ -131,25 +131,23 @@ impl Site {
     fn take_vote(&mut self, place: usize, message: &Message, out: &mut Outbox) -> Taken {
         let from = site_bit(message.from);
         let no = message.argument != 0;
-        let left = match self.live[place].stage {
-            Stage::Gathering { awaited, .. } if awaited & from != 0 && no => awaited & !from,
-            Stage::Open { awaited, .. } if awaited & from != 0 => awaited & !from,
-            _ => return Err(Refusal::Stage),
+        let outstanding = self.outstanding(place);
+        let in_turn = match self.live[place].stage {
+            Stage::Prepared => no,
+            Stage::Open { .. } => true,
+            _ => false,
         };
-        if no || left == 0 {
+        require(in_turn && outstanding & from != 0, Refusal::Stage)?;
+        let last = outstanding == from;
+        if no || last {
             self.can_send(self.others(place))?;
         }
         self.raise(message.clock);
         if no {
             return Ok(Some(self.abort(place, message.argument, out)));
         }
-        if left == 0 {
-            return Ok(Some(self.decide(place, out)));
-        }
-        if let Stage::Open { awaited, .. } = &mut self.live[place].stage {
-            *awaited = left;
-        }
-        Ok(None)
+        self.live[place].heard |= from;
+        Ok(last.then(|| self.decide(place, out)))
     }
 
     /// COMMIT's clock is the commit number.
