@@ -1,0 +1,22 @@
+use Rattle.pages.proofs.Behind.{laid-behind, laid-number, laid-results}
+use borrow.Author.Needs.{needs}
+use Rattle.pages.proofs.text.two_numbers.Statement.{statement}
+use Rattle.pages.proofs.text.two_numbers.Tie as tie
+use Rattle.pages.proofs.text.two_numbers.Reads as reads
+use Rattle.pages.proofs.text.two_numbers.Lts as lts
+use Rattle.pages.proofs.text.number.Reads as number-reads
+
+number-requires : tie.Need-number-requires
+number-requires c κs = search needs
+
+number-requires-2 : tie.Need-number-requires-2
+number-requires-2 c κs = search needs
+
+same-length : tie.Need-same-length
+same-length c = search needs
+
+returns : tie.Need-returns
+returns c = search (laid-results, needs)
+
+pub two-numbers-spec : {M : Type 1} → statement M
+two-numbers-spec = tie.close (tie.spec number-requires number-requires-2 same-length returns)

@@ -1,0 +1,3 @@
+-- An outcome as a printed line.
+pub mod Line
+pub mod Laid
