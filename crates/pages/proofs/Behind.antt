@@ -8,7 +8,7 @@ use lib.Seq.{paste, length-take-le, take-all, take-at, drop-append-add, drop-dro
 use Rattle.laws.specs.Overlay.{putAt}
 use Rattle.pages.specs.Laid.{Laid}
 use Rattle.pages.specs.Line.{bytesOf, decimalOf, resultsOf}
-use Rattle.pages.proofs.Lengths.{results-one, results-behind}
+use Rattle.pages.proofs.Digits.{results-one, results-behind}
 
 -- what a loop that copies the whole of b leaves
 pub put-paste : (d b : List ℕ) (a n : ℕ) → n ≡ length b → paste d a b n ≡ putAt a d b
@@ -28,7 +28,7 @@ put-behind d v w a h =
     let s : take a d ++ (v ++ rest) ≡ p ++ rest = sym (append-assoc (take a d) v rest) in
     let t : take (a + length v) (p ++ rest) ≡ p = take-at p rest (a + length v) n in
     let r : drop (a + length v + length w) (p ++ rest) ≡ drop (a + length v + length w) d =
-        ap (λ (k : ℕ). drop (k + length w) (p ++ rest)) (sym n) ∙ drop-append-add p rest (length w) ∙ drop-drop (length w) (a + length v) d in
+    ap (λ (k : ℕ). drop (k + length w) (p ++ rest)) (sym n) ∙ drop-append-add p rest (length w) ∙ drop-drop (length w) (a + length v) d in
     let q : a + length (v ++ w) ≡ a + length v + length w = omega (arith, length-append v w) in
     rw (s, t, r, q) (simp append-assoc)
 

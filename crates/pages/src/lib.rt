@@ -14,7 +14,7 @@ ghost use mathlib.Core.List.{[], _∷_};
 ghost use lib.ListN.{length};
 ghost use Rattle.rules.specs.Answers.{isRefused};
 ghost use Rattle.said.specs.Said.{saidOf};
-ghost use Rattle.pages.specs.Laid.{Laid, lineStart};
+ghost use Rattle.pages.specs.Laid.{Laid, lineStart, full, nearly};
 ghost use Rattle.pages.specs.Line.{outcomeOf, lineOf, lineWith};
 
 // Bytes of a page, and of the longest line: four numbers, with at most nine other bytes before each.
@@ -87,23 +87,23 @@ pub fn flush(page: &[u8; PAGE], used: usize) -> bool {
 }
 
 // How much is on the page, and whether all went well.
-pub struct Said {
+pub struct Filled {
     pub used: usize,
     pub ok: bool,
 }
 
 // Puts an event's line on the page, which is written out first where it is full.
-pub fn say(page: &mut [u8; PAGE], used: usize, event: u64, a: Answer) -> Said
-    ensures { λ r. ⌜ Laid (now (page .entry)) (lineStart 65408 used) (lineOf event (saidOf a)) (now (page .exit)) (r .used) ⌝ }
+pub fn say(page: &mut [u8; PAGE], used: usize, event: u64, a: Answer) -> Filled
+    ensures { λ r. ⌜ Laid (now (page .entry)) (lineStart full used) (lineOf event (saidOf a)) (now (page .exit)) (r .used) ⌝ }
 {
     if used <= FULL {
-        return Said {
+        return Filled {
             used: line(page, used, event, a),
             ok: true,
         };
     }
     let ok = flush(page, used);
-    Said {
+    Filled {
         used: line(page, 0, event, a),
         ok,
     }
@@ -138,17 +138,17 @@ pub fn say_with(
     c: u64,
     d: u64,
     e: u64,
-) -> Said
-    ensures { λ r. ⌜ Laid (now (page .entry)) (lineStart 65280 used) (lineWith event (saidOf a) (b ∷ c ∷ d ∷ e ∷ [])) (now (page .exit)) (r .used) ⌝ }
+) -> Filled
+    ensures { λ r. ⌜ Laid (now (page .entry)) (lineStart nearly used) (lineWith event (saidOf a) (b ∷ c ∷ d ∷ e ∷ [])) (now (page .exit)) (r .used) ⌝ }
 {
     if used <= NEARLY {
-        return Said {
+        return Filled {
             used: line_with(page, used, event, a, b, c, d, e),
             ok: true,
         };
     }
     let ok = flush(page, used);
-    Said {
+    Filled {
         used: line_with(page, 0, event, a, b, c, d, e),
         ok,
     }

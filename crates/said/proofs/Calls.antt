@@ -13,7 +13,7 @@ use Rattle.kinds.specs.declared.Site.{Site}
 use Rattle.kinds.specs.declared.Merger.{Merger}
 use Rattle.rules.specs.Record.{recordHead}
 use Rattle.rules.specs.Keys.{wroteKey}
-use Rattle.rules.specs.Live.{placeOf, freePlace}
+use Rattle.rules.specs.Live.{placeOf}
 use Rattle.rules.specs.Course.{sendTo, sendAll, quietly, enlistStep, abortStep}
 use Rattle.rules.specs.Begin.{begun, beginOf}
 use Rattle.rules.specs.Access.{readVersion, readAt, readOf, writeCodeAt, written, writeAt, writeOf}

@@ -1,6 +1,6 @@
 -- What a commit request and a message say: their steps answer a decision or nothing, and a refusal is its number.
 use Prim.Native.Nat.{ℕ}
-use mathlib.Core.Path.{_≡_, refl}
+use mathlib.Core.Path.{_≡_}
 use mathlib.Core.List.{List, []}
 use mathlib.Core.Bool.{Bool, true, false}
 use borrow.Author.Tests.{eqb-true}
@@ -13,15 +13,14 @@ use Rattle.kinds.specs.Reason as reason
 use Rattle.kinds.specs.declared.MessageHead.{MessageHead}
 use Rattle.kinds.specs.declared.Site.{Site}
 use Rattle.kinds.specs.declared.Turn.{Turn}
-use Rattle.rules.specs.Message.{messageHead, messageEntries, entryCount}
+use Rattle.rules.specs.Message.{messageHead, messageEntries}
 use Rattle.rules.specs.Live.{placeOf, freePlace}
-use Rattle.rules.specs.Join.{joined}
-use Rattle.rules.specs.Certify.{concurrent, voteOf}
-use Rattle.rules.specs.Effect.{Effect, turnAt, settle, unless}
-use Rattle.rules.specs.Course.{raise, withReply, sendTo, sendAll, quietly, abortStep, commitStep, decideStep, castStep, withMark, withRequest, prepareStep, voteStep, preparedStep, certifiedStep}
+use Rattle.rules.specs.Certify.{concurrent}
+use Rattle.rules.specs.Effect.{turnAt}
+use Rattle.rules.specs.Course.{raise, sendTo, sendAll, quietly, abortStep, commitStep, decideStep, castStep, withMark, withRequest, prepareStep, voteStep, preparedStep, certifiedStep}
 use Rattle.rules.specs.Commit.{isFull, isLost, requestChange, commitChange, commitOf}
-use Rattle.rules.specs.Deliver.{replyCode, spentTo, arrived, passed, spoken, joinAt, takeJoin, takeJoined, takePrepare, passPrepare, gatherChange, takeConc, takeCert, takeVote, takeCommit, takeAbort, takeHeld, takeOther, takeKind, messageAt, messageOf, gatherLists}
-use Rattle.said.specs.Said.{Said, ok, abort, saidOf, unlessNo}
+use Rattle.rules.specs.Deliver.{replyCode, spentTo, arrived, passed, spoken, joinAt, takeJoin, takeJoined, takePrepare, passPrepare, gatherChange, takeConc, takeCert, takeVote, takeCommit, takeAbort, takeHeld, takeOther, takeKind, messageAt, messageOf}
+use Rattle.said.specs.Said.{ok, abort, saidOf, unlessNo}
 use Rattle.said.specs.Decided.{replied, alone, listHeard, voteHeard, decidedSaid, castSaid, requestNo, commitNo, requestSaid, commitSaid, arrivalNo, nextNo, heldNo, kindNo, concSaid, voteSaid, takenSaid, messageSaid}
 
 -- Decisions.

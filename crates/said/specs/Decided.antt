@@ -25,7 +25,7 @@ use Rattle.rules.specs.Enlist.{isMine}
 use Rattle.rules.specs.Course.{withCourseOf, raise, withReply, voteDecides}
 use Rattle.rules.specs.Commit.{requestCode, commitCode, isFull, isLost}
 use Rattle.rules.specs.Deliver.{arrivalCode, nextCode, replyCode, spentTo, spentToAll, joinedInTurn, concInTurn, voteInTurn, arrived, gatherLists}
-use Rattle.said.specs.Said.{Said, ok, abort, no, unlessNo}
+use Rattle.said.specs.Said.{Said, ok, abort, unlessNo}
 
 -- every other participant has replied; there is no other participant
 abbrev pub replied : Turn → Bool

@@ -1,13 +1,9 @@
-use Rattle.pages.specs.Line.{lineOf, lineWith}
-use Rattle.pages.proofs.Behind.{laid-behind, laid-number, laid-results}
+-- The event, its outcome and the end of the line, one behind the other.
+use Rattle.pages.specs.Line.{lineOf}
+use Rattle.pages.proofs.Behind.{laid-behind}
 use borrow.Author.Needs.{needs}
 use Rattle.pages.proofs.line.Statement.{statement}
 use Rattle.pages.proofs.line.Tie as tie
-use Rattle.pages.proofs.line.Reads as reads
-use Rattle.pages.proofs.line.Lts as lts
-use Rattle.pages.proofs.outcome.Reads as outcome-reads
-use Rattle.pages.proofs.text.digits.Reads as digits-reads
-use Rattle.pages.proofs.text.put.Reads as put-reads
 
 digits-requires : tie.Need-digits-requires
 digits-requires c κs = search needs

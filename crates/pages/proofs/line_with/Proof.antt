@@ -1,14 +1,9 @@
+-- The event, its outcome, the numbers and the end of the line, one behind the other.
 use Rattle.pages.specs.Line.{lineWith}
-use Rattle.pages.proofs.Behind.{laid-behind, laid-number, laid-results}
+use Rattle.pages.proofs.Behind.{laid-behind}
 use borrow.Author.Needs.{needs}
 use Rattle.pages.proofs.line_with.Statement.{statement}
 use Rattle.pages.proofs.line_with.Tie as tie
-use Rattle.pages.proofs.line_with.Reads as reads
-use Rattle.pages.proofs.line_with.Lts as lts
-use Rattle.pages.proofs.outcome.Reads as outcome-reads
-use Rattle.pages.proofs.text.digits.Reads as digits-reads
-use Rattle.pages.proofs.text.put.Reads as put-reads
-use Rattle.pages.proofs.text.told_more.Reads as told-more-reads
 
 digits-requires : tie.Need-digits-requires
 digits-requires c κs = search needs

@@ -1,14 +1,9 @@
+-- Each case of an answer is laid as it is said.
 use Rattle.said.specs.Said.{saidOf}
 use Rattle.pages.specs.Line.{resultsOf, outcomeOf}
 use borrow.Author.Needs.{needs}
 use Rattle.pages.proofs.outcome.Statement.{statement}
 use Rattle.pages.proofs.outcome.Tie as tie
-use Rattle.pages.proofs.outcome.Reads as reads
-use Rattle.pages.proofs.outcome.Lts as lts
-use Rattle.pages.proofs.text.put.Reads as put-reads
-use Rattle.pages.proofs.text.told.Reads as told-reads
-use Rattle.pages.proofs.text.told_three.Reads as told-three-reads
-use Rattle.pages.proofs.text.told_two.Reads as told-two-reads
 
 enum-known-a : tie.Need-enum-known-a
 enum-known-a c = search needs

@@ -1,11 +1,8 @@
+-- The line is laid behind what is on the page, or at its start.
 use borrow.Author.Tests.{le-leb, lt-leb}
 use borrow.Author.Needs.{needs}
 use Rattle.pages.proofs.say.Statement.{statement}
 use Rattle.pages.proofs.say.Tie as tie
-use Rattle.pages.proofs.say.Reads as reads
-use Rattle.pages.proofs.say.Lts as lts
-use Rattle.pages.proofs.flush.Reads as flush-reads
-use Rattle.pages.proofs.line.Reads as line-reads
 
 line-requires : tie.Need-line-requires
 line-requires c κs = search needs

@@ -1,11 +1,8 @@
+-- The line is laid behind what is on the page, or at its start.
 use borrow.Author.Tests.{le-leb, lt-leb}
 use borrow.Author.Needs.{needs}
 use Rattle.pages.proofs.say_with.Statement.{statement}
 use Rattle.pages.proofs.say_with.Tie as tie
-use Rattle.pages.proofs.say_with.Reads as reads
-use Rattle.pages.proofs.say_with.Lts as lts
-use Rattle.pages.proofs.flush.Reads as flush-reads
-use Rattle.pages.proofs.line_with.Reads as line-with-reads
 
 line-with-requires : tie.Need-line-with-requires
 line-with-requires c κs = search needs

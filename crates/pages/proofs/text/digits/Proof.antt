@@ -3,14 +3,10 @@ use mathlib.Core.Path.{_≡_, _∙_}
 use native.Mathlib.Omega.{arith}
 use lib.ListN.{take}
 use Rattle.pages.specs.Line.{decimalOf}
-use Rattle.pages.proofs.Lengths.{decimal-short, decimal-is}
+use Rattle.pages.proofs.Digits.{decimal-short, decimal-is}
 use borrow.Author.Needs.{needs}
 use Rattle.pages.proofs.text.digits.Statement.{statement}
 use Rattle.pages.proofs.text.digits.Tie as tie
-use Rattle.pages.proofs.text.digits.Reads as reads
-use Rattle.pages.proofs.text.digits.Lts as lts
-use Rattle.io.proofs.decimal.Reads as decimal-reads
-use Rattle.pages.proofs.text.put.Reads as put-reads
 
 -- `decimal` spells the number
 spelled : (c : tie.After-decimal) → take (c .decimal .result) (c .decimal .last .1 .0) ≡ decimalOf (c .before .before .before .args .n)

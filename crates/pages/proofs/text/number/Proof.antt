@@ -1,11 +1,8 @@
-use Rattle.pages.proofs.Behind.{laid-behind, laid-number, laid-results}
+-- A space, then the digits.
+use Rattle.pages.proofs.Behind.{laid-number}
 use borrow.Author.Needs.{needs}
 use Rattle.pages.proofs.text.number.Statement.{statement}
 use Rattle.pages.proofs.text.number.Tie as tie
-use Rattle.pages.proofs.text.number.Reads as reads
-use Rattle.pages.proofs.text.number.Lts as lts
-use Rattle.pages.proofs.text.digits.Reads as digits-reads
-use Rattle.pages.proofs.text.put.Reads as put-reads
 
 slice-aggregate-put : tie.Need-slice-aggregate-put
 slice-aggregate-put c = search needs

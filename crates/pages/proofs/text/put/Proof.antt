@@ -9,8 +9,6 @@ use lib.Seq.{paste, paste-zero, paste-suc}
 use Rattle.pages.proofs.Behind.{put-paste}
 use Rattle.pages.proofs.text.put.Statement.{statement}
 use Rattle.pages.proofs.text.put.Tie as tie
-use Rattle.pages.proofs.text.put.Reads as reads
-use Rattle.pages.proofs.text.put.Lts as lts
 
 abbrev Inv-loop : tie.InvT-loop
 Inv-loop page₀ used b i₀ page i = (i ≤ length b) × ((length page ≡ length page₀) × (page ≡ paste page₀ used b i))

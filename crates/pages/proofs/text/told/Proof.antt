@@ -1,11 +1,8 @@
-use Rattle.pages.proofs.Behind.{laid-behind, laid-number, laid-results}
+-- The word, then the number.
+use Rattle.pages.proofs.Behind.{laid-behind}
 use borrow.Author.Needs.{needs}
 use Rattle.pages.proofs.text.told.Statement.{statement}
 use Rattle.pages.proofs.text.told.Tie as tie
-use Rattle.pages.proofs.text.told.Reads as reads
-use Rattle.pages.proofs.text.told.Lts as lts
-use Rattle.pages.proofs.text.number.Reads as number-reads
-use Rattle.pages.proofs.text.put.Reads as put-reads
 
 put-requires : tie.Need-put-requires
 put-requires c κs = search needs

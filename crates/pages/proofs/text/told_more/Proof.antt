@@ -1,11 +1,8 @@
-use Rattle.pages.proofs.Behind.{laid-behind, laid-number, laid-results}
+-- The semicolon, then the numbers.
+use Rattle.pages.proofs.Behind.{laid-behind}
 use borrow.Author.Needs.{needs}
 use Rattle.pages.proofs.text.told_more.Statement.{statement}
 use Rattle.pages.proofs.text.told_more.Tie as tie
-use Rattle.pages.proofs.text.told_more.Reads as reads
-use Rattle.pages.proofs.text.told_more.Lts as lts
-use Rattle.pages.proofs.text.four_numbers.Reads as four-numbers-reads
-use Rattle.pages.proofs.text.put.Reads as put-reads
 
 slice-aggregate-put : tie.Need-slice-aggregate-put
 slice-aggregate-put c = search needs

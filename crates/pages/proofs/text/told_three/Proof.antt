@@ -1,11 +1,8 @@
-use Rattle.pages.proofs.Behind.{laid-behind, laid-number, laid-results}
+-- The word, then the numbers.
+use Rattle.pages.proofs.Behind.{laid-behind}
 use borrow.Author.Needs.{needs}
 use Rattle.pages.proofs.text.told_three.Statement.{statement}
 use Rattle.pages.proofs.text.told_three.Tie as tie
-use Rattle.pages.proofs.text.told_three.Reads as reads
-use Rattle.pages.proofs.text.told_three.Lts as lts
-use Rattle.pages.proofs.text.put.Reads as put-reads
-use Rattle.pages.proofs.text.three_numbers.Reads as three-numbers-reads
 
 slice-aggregate-put : tie.Need-slice-aggregate-put
 slice-aggregate-put c = search needs

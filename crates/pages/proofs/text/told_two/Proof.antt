@@ -1,11 +1,8 @@
-use Rattle.pages.proofs.Behind.{laid-behind, laid-number, laid-results}
+-- The word, then the numbers.
+use Rattle.pages.proofs.Behind.{laid-behind}
 use borrow.Author.Needs.{needs}
 use Rattle.pages.proofs.text.told_two.Statement.{statement}
 use Rattle.pages.proofs.text.told_two.Tie as tie
-use Rattle.pages.proofs.text.told_two.Reads as reads
-use Rattle.pages.proofs.text.told_two.Lts as lts
-use Rattle.pages.proofs.text.put.Reads as put-reads
-use Rattle.pages.proofs.text.two_numbers.Reads as two-numbers-reads
 
 slice-aggregate-put : tie.Need-slice-aggregate-put
 slice-aggregate-put c = search needs

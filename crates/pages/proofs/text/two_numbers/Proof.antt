@@ -1,10 +1,8 @@
-use Rattle.pages.proofs.Behind.{laid-behind, laid-number, laid-results}
+-- A number, then the other.
+use Rattle.pages.proofs.Behind.{laid-results}
 use borrow.Author.Needs.{needs}
 use Rattle.pages.proofs.text.two_numbers.Statement.{statement}
 use Rattle.pages.proofs.text.two_numbers.Tie as tie
-use Rattle.pages.proofs.text.two_numbers.Reads as reads
-use Rattle.pages.proofs.text.two_numbers.Lts as lts
-use Rattle.pages.proofs.text.number.Reads as number-reads
 
 number-requires : tie.Need-number-requires
 number-requires c κs = search needs

@@ -1,6 +1,6 @@
--- The digits of a number as `io::decimal` counts them, and how long a line's parts are.
-use Prim.Native.Nat.{ℕ, zero, suc, _+_, _-_, _*_, _/_, _%_, _^_, _≤_, _<_}
-use mathlib.Core.Path.{_≡_, refl, sym, ap, _∙_}
+-- A number's digits are those that `io::decimal` counts, 20 at most; results behind results are results.
+use Prim.Native.Nat.{ℕ, zero, suc, _-_, _/_, _%_, _^_, _≤_, _<_}
+use mathlib.Core.Path.{_≡_, refl, ap, _∙_}
 use mathlib.Core.Bool.{Bool}
 use mathlib.Core.List.{List, [], _∷_, _++_, append-assoc, append-nil}
 use native.Mathlib.Nat.{pow-le-pow-right}
@@ -11,11 +11,8 @@ use lib.Dec.{ltb, lit<}
 use lib.ListN.{length, length-append}
 use Rattle.io.specs.Digits.{digits, glyph, Fewest}
 use Rattle.laws.specs.Choice.{by-same, by-test}
-use Rattle.laws.specs.Scan.{firstBelow, first-below, first-below-none, first-le, NoneBelow}
-use Rattle.kinds.specs.declared.Answer.{Answer}
-use Rattle.kinds.specs.declared.Answer.the-variants.{Refused, Done, Begun, Found, Committed, Aborted, Installed, Reported, Emitted, Standing}
-use Rattle.said.specs.Said.{saidOf}
-use Rattle.pages.specs.Line.{bytesOf, placesOf, decimalOf, resultsOf, outcomeOf}
+use Rattle.laws.specs.Scan.{first-below, first-below-none, first-le, NoneBelow}
+use Rattle.pages.specs.Line.{bytesOf, placesOf, decimalOf, resultsOf}
 
 length-digits : (b k n : ℕ) → length (digits b k n) ≡ k
 length-digits b zero n = refl
@@ -60,9 +57,9 @@ pub decimal-is : (n k : ℕ) → n < 2 ^ 64 → Fewest 10 1 n k → digits 10 k 
 unfolding decimalOf
 decimal-is n k f w =
     let e : k ≡ placesOf n =
-        by-same k 1
-        (λ q. q ∙ one-place n (rw q at (w .1)))
-        (λ q. more-places n k f (omega arith) (w .1) (w .2 (omega arith))) in
+    by-same k 1
+    (λ q. q ∙ one-place n (rw q at (w .1)))
+    (λ q. more-places n k f (omega arith) (w .1) (w .2 (omega arith))) in
     ap (λ (j : ℕ). digits 10 j n) e
 
 -- Results.
@@ -74,21 +71,3 @@ pub results-behind : (l m : List ℕ) → resultsOf l ++ resultsOf m ≡ results
 unfolding resultsOf
 results-behind [] m = refl
 results-behind (n ∷ l) m = simp append-assoc (rw (results-behind l m))
-
-pub results-short : (l : List ℕ) → length (resultsOf l) ≤ 21 * length l
-unfolding resultsOf
-results-short [] = omega arith
-results-short (n ∷ l) = omega (arith, length-append (decimalOf n) (resultsOf l), decimal-short n, results-short l)
-
-pub outcome-short : (a : Answer) → length (outcomeOf (saidOf a)) ≤ 66
-unfolding saidOf outcomeOf
-outcome-short (Refused n) = omega (arith, results-short (n ∷ []))
-outcome-short Done = omega (arith, results-short [])
-outcome-short (Begun tx) = omega (arith, results-short (tx ∷ []))
-outcome-short (Found v) = omega (arith, results-short (v ∷ []))
-outcome-short (Committed n) = omega (arith, results-short (n ∷ []))
-outcome-short (Aborted r) = omega (arith, results-short (r ∷ []))
-outcome-short (Installed n c) = omega (arith, results-short (n ∷ c ∷ []))
-outcome-short (Reported n) = omega (arith, results-short (n ∷ []))
-outcome-short (Emitted n c tx) = omega (arith, results-short (n ∷ c ∷ tx ∷ []))
-outcome-short (Standing v n c) = omega (arith, results-short (v ∷ n ∷ c ∷ []))
