@@ -45,7 +45,8 @@ laid-behind {d} {e} {f} {v} {w} {a} {b} {c} x y =
     }
 
 -- A number behind a space, and results behind another.
-pub laid-number : {d e f : List ℕ} {a b c : ℕ} (n : ℕ) → Laid d a (bytesOf " ") e b → Laid e b (decimalOf n) f c → Laid d a (resultsOf (n ∷ [])) f c
+pub laid-number : {d e f : List ℕ} {a b c : ℕ} (n : ℕ) → Laid d a (bytesOf " ") e b → Laid e b (decimalOf n) f c
+    → Laid d a (resultsOf (n ∷ [])) f c
 laid-number n x y = rw (← results-one n) (laid-behind x y)
 
 pub laid-results : {d e f : List ℕ} {a b c : ℕ} (n : ℕ) (l : List ℕ) → Laid d a (resultsOf (n ∷ [])) e b → Laid e b (resultsOf l) f c

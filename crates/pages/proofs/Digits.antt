@@ -16,7 +16,9 @@ use Rattle.pages.specs.Line.{bytesOf, placesOf, decimalOf, resultsOf}
 
 length-digits : (b k n : ℕ) → length (digits b k n) ≡ k
 length-digits b zero n = refl
-length-digits b (suc k) n = length-append (digits b k (n / b)) (glyph (n % b) ∷ []) ∙ (add-one (length (digits b k (n / b))) ∙ ap suc (length-digits b k (n / b)))
+length-digits b (suc k) n =
+    let front = digits b k (n / b) in
+    length-append front (glyph (n % b) ∷ []) ∙ (add-one (length front) ∙ ap suc (length-digits b k (n / b)))
 
 pub decimal-short : (n : ℕ) → length (decimalOf n) ≤ 20
 unfolding decimalOf placesOf

@@ -33,6 +33,6 @@ outcomeOf (no n) = bytesOf " refused" ++ resultsOf (n ∷ [])
 unfoldable pub lineOf : ℕ → Said → List ℕ
 lineOf event said = decimalOf event ++ (outcomeOf said ++ bytesOf "\n")
 
--- a probe's line: numbers more behind the outcome
-unfoldable pub lineWith : ℕ → Said → List ℕ → List ℕ
-lineWith event said more = decimalOf event ++ (outcomeOf said ++ ((bytesOf " ;" ++ resultsOf more) ++ bytesOf "\n"))
+-- a probe's line: four numbers more behind the outcome
+unfoldable pub lineWith : ℕ → Said → ℕ → ℕ → ℕ → ℕ → List ℕ
+lineWith event said a b c d = decimalOf event ++ (outcomeOf said ++ ((bytesOf " ;" ++ resultsOf (a ∷ b ∷ c ∷ d ∷ [])) ++ bytesOf "\n"))

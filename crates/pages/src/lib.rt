@@ -10,7 +10,6 @@ use text::told_three;
 use text::told_two;
 ghost use mathlib.Core.Path.{_≡_};
 ghost use Prim.Native.Nat.{_+_, _≤_};
-ghost use mathlib.Core.List.{[], _∷_};
 ghost use lib.ListN.{length};
 ghost use Rattle.rules.specs.Answers.{isRefused};
 ghost use Rattle.said.specs.Said.{saidOf};
@@ -120,7 +119,7 @@ fn line_with(
     e: u64,
 ) -> usize
     requires { ⌜ used + 256 ≤ length (now page) ⌝ }
-    ensures { λ r. ⌜ Laid (now (page .entry)) used (lineWith event (saidOf a) (b ∷ c ∷ d ∷ e ∷ [])) (now (page .exit)) r ⌝ }
+    ensures { λ r. ⌜ Laid (now (page .entry)) used (lineWith event (saidOf a) b c d e) (now (page .exit)) r ⌝ }
 {
     let next = digits(page, used, event);
     let told = outcome(page, next, a);
@@ -139,7 +138,7 @@ pub fn say_with(
     d: u64,
     e: u64,
 ) -> Filled
-    ensures { λ r. ⌜ Laid (now (page .entry)) (lineStart nearly used) (lineWith event (saidOf a) (b ∷ c ∷ d ∷ e ∷ [])) (now (page .exit)) (r .used) ⌝ }
+    ensures { λ r. ⌜ Laid (now (page .entry)) (lineStart nearly used) (lineWith event (saidOf a) b c d e) (now (page .exit)) (r .used) ⌝ }
 {
     if used <= NEARLY {
         return Filled {

@@ -21,7 +21,7 @@ use Rattle.rules.specs.Course.{raise, sendTo, sendAll, quietly, abortStep, comm
 use Rattle.rules.specs.Commit.{isFull, isLost, requestChange, commitChange, commitOf}
 use Rattle.rules.specs.Deliver.{replyCode, spentTo, arrived, passed, spoken, joinAt, takeJoin, takeJoined, takePrepare, passPrepare, gatherChange, takeConc, takeCert, takeVote, takeCommit, takeAbort, takeHeld, takeOther, takeKind, messageAt, messageOf}
 use Rattle.said.specs.Said.{ok, abort, saidOf, unlessNo}
-use Rattle.said.specs.Decided.{replied, alone, listHeard, voteHeard, decidedSaid, castSaid, requestNo, commitNo, requestSaid, commitSaid, arrivalNo, nextNo, heldNo, kindNo, concSaid, voteSaid, takenSaid, messageSaid}
+use Rattle.said.specs.Decided.{replied, alone, listHeard, voteHeard, decidedSaid, castSaid, requestNo, commitNo, requestSaid, acceptedSaid, commitSaid, arrivalNo, nextNo, heldNo, kindNo, concSaid, voteSaid, takenSaid, messageSaid}
 
 -- Decisions.
 decide-says : (t : Turn) → saidOf (decideStep t .answer) ≡ decidedSaid t
@@ -37,9 +37,8 @@ request-says : (s : Site) (place : ℕ) → saidOf (requestChange s place (concu
 unfolding saidOf requestChange requestSaid withRequest turnAt prepareStep sendAll castSaid decidedSaid
 request-says s place = by-test (alone (turnAt s place)) (λ a. rw (a, cast-says, a)) (λ a. rw a)
 
-change-says : (s : Site) (place : ℕ)
-    → saidOf (commitChange s place .answer) ≡ pick (isFull s place) (abort reason.full) (pick (isLost s place) (abort reason.uncertain) (requestSaid s place))
-unfolding saidOf commitChange abortStep sendAll
+change-says : (s : Site) (place : ℕ) → saidOf (commitChange s place .answer) ≡ acceptedSaid s place
+unfolding saidOf commitChange abortStep sendAll acceptedSaid
 change-says s place =
     by-test (isFull s place) (λ f. rw f) (λ f. by-test (isLost s place) (λ l. rw (f, l)) (λ l. rw (f, l, request-says)))
 
@@ -138,6 +137,7 @@ kind-says s h es lists place k =
 pub message-says : (s : Site) (room : ℕ) (lists m : List ℕ) → saidOf (messageOf s room lists m .answer) ≡ messageSaid s room lists m
 unfolding saidOf messageOf messageAt messageSaid
 message-says s room lists m =
+    let h = messageHead m in
     by-test (eqb (arrivalNo s room lists m) 0)
-    (λ e. by-test (eqb (nextNo s (messageHead m)) 0) (λ f. rw (e, f) (kind-says s (messageHead m) (messageEntries m) lists _ _)) (λ f. rw (e, f)))
+    (λ e. by-test (eqb (nextNo s h) 0) (λ f. rw (e, f) (kind-says s h (messageEntries m) lists _ _)) (λ f. rw (e, f)))
     (λ e. rw e)

@@ -56,13 +56,13 @@ requestSaid s place =
     let es = joined (concurrent s place) (entryCount (concurrent s place)) in
     pick (alone (turnAt s place)) (castSaid (turnAt s place) (voteOf s place es (entryCount es))) (ok [])
 
+unfoldable pub acceptedSaid : Site → ℕ → Said
+acceptedSaid s place = pick (isFull s place) (abort reason.full) (pick (isLost s place) (abort reason.uncertain) (requestSaid s place))
+
 unfoldable pub commitSaid : Site → ℕ → List ℕ → ℕ → Said
 commitSaid s room lists tx =
     let place = placeOf (s .live) tx in
-    unlessNo (requestNo s room (eqb (length lists) sizes.lists) tx)
-    (unlessNo (commitNo s place)
-    (pick (isFull s place) (abort reason.full)
-    (pick (isLost s place) (abort reason.uncertain) (requestSaid s place))))
+    unlessNo (requestNo s room (eqb (length lists) sizes.lists) tx) (unlessNo (commitNo s place) (acceptedSaid s place))
 
 -- A message: its causes of refusal, first by its words and channel, then by its kind.
 abbrev pub arrivalNo : Site → ℕ → List ℕ → List ℕ → ℕ

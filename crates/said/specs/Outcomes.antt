@@ -83,7 +83,9 @@ unfoldable pub abandonSaid : Site → ℕ → ℕ → Said
 abandonSaid s room tx = unlessNo (requestNo s room true tx) (unlessNo (abandonNo s (placeOf (s .live) tx)) (abort reason.abandoned))
 
 abbrev pub installNo : Site → ℕ → List Value → ℕ
-installNo s room base = installCode (siteOk s) room (length base) (queue.isDue (s .live) (leastQueued (s .live) sizes.live)) (s .counters .installs)
+installNo s room base =
+    let place = leastQueued (s .live) sizes.live in
+    installCode (siteOk s) room (length base) (queue.isDue (s .live) place) (s .counters .installs)
 
 unfoldable pub installSaid : Site → ℕ → List Value → Said
 installSaid s room base =
