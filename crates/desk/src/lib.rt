@@ -27,7 +27,11 @@ use spool::First;
 use spool::ITEM;
 use spool::QUEUES;
 use spool::STORE;
+ghost use mathlib.Core.Path.{_≡_};
 ghost use Prim.Native.Nat.{_<_};
+ghost use Rattle.said.specs.Said.{saidOf};
+ghost use Rattle.pages.specs.Laid.{Laid, lineStart, full};
+ghost use Rattle.pages.specs.Line.{lineOf};
 
 // Why a script ends, where `found` of its input does not say it: the temporary file or the output fails.
 pub const LOST: u64 = 4;
@@ -53,14 +57,18 @@ pub struct Ask {
     pub next: u64,
 }
 
-pub fn ended(d: Desk, state: u64) -> Desk {
+pub fn ended(d: Desk, state: u64) -> Desk
+    ensures { λ r. ⌜ r .used ≡ d .used ⌝ }
+{
     let mut e = d;
     e.state = state;
     e
 }
 
 // Prints a line's outcome.
-pub fn answered(d: Desk, page: &mut [u8; PAGE], a: Answer) -> Desk {
+pub fn answered(d: Desk, page: &mut [u8; PAGE], a: Answer) -> Desk
+    ensures { λ r. ⌜ Laid (now (page .entry)) (lineStart full (d .used)) (lineOf (d .event) (saidOf a)) (now (page .exit)) (r .used) ⌝ }
+{
     let said = say(page, d.used, d.event, a);
     let mut e = d;
     e.used = said.used;

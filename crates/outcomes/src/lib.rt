@@ -12,8 +12,8 @@ use kinds::sizes::LISTS;
 use kinds::sizes::OUTGOING;
 use kinds::sizes::QUEUES;
 use kinds::sizes::SITES;
+use pages::Filled;
 use pages::PAGE;
-use pages::Said;
 use pages::is_refused;
 use pages::say;
 use pages::say_with;
@@ -128,7 +128,7 @@ pub fn read_line(w: Work, text: &mut [u8; TEXT]) -> Work {
     v
 }
 
-fn after(w: Work, said: Said) -> Work {
+fn after(w: Work, said: Filled) -> Work {
     let mut v = w;
     v.used = said.used;
     if said.ok {

@@ -13,11 +13,11 @@ use Rattle.kinds.specs.declared.Answer.{Answer}
 use Rattle.rules.specs.House.{siteOf, maskOf, wholeHouse}
 use Rattle.rules.specs.Keys.{dependent}
 use Rattle.rules.specs.Queue.{leastQueued, isDue, stateNumber}
-use Rattle.rules.specs.Effect.{Said, ok, abort, no, saidOf}
 use Rattle.rules.specs.Begin.{beginOf}
 use Rattle.rules.specs.Access.{accessCode, readOf, writeOf}
 use Rattle.rules.specs.Install.{freshSite, installCode}
 use Rattle.rules.specs.Merger.{emitOf}
+use Rattle.said.specs.Said.{Said, ok, abort, no, saidOf}
 use Rattle.points.specs.States.{queued, queueOf, wrote, read, versions, merging, headWords}
 
 -- the numbers of an answer: 0 and what follows `ok`, 1 and the reason of an abort, 2 and the cause of a refusal

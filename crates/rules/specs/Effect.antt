@@ -2,7 +2,7 @@
 -- call of a site: the lent table is the gathered lists of a commit or message, the base values of an install, and empty for the
 -- others. A refusal alters nothing.
 use Prim.Native.Nat.{ℕ}
-use mathlib.Core.List.{List, [], _∷_}
+use mathlib.Core.List.{List, []}
 use lib.ListN.{set, length}
 use lib.Dec.{eqb}
 use Rattle.laws.specs.Choice.{pick}
@@ -11,7 +11,7 @@ use Rattle.kinds.specs.declared.Taken.{Taken}
 use Rattle.kinds.specs.declared.Site.{Site}
 use Rattle.kinds.specs.declared.Out.{Out}
 use Rattle.kinds.specs.declared.Answer.{Answer}
-use Rattle.kinds.specs.declared.Answer.the-variants.{Refused, Done, Begun, Found, Committed, Aborted, Installed, Reported, Emitted, Standing}
+use Rattle.kinds.specs.declared.Answer.the-variants.{Refused}
 use Rattle.kinds.specs.State.{subAt}
 
 pub record Change : Type 0 where
@@ -53,21 +53,3 @@ refused n s lent = record { answer = Refused n; words = []; site = s; lent = len
 -- the effect e where no cause of refusal holds
 abbrev pub unless : ℕ → Site → List ℕ → Effect → Effect
 unless code s lent e = pick (eqb code 0) e (refused code s lent)
-
--- 01's numbers for an answer: those printed after `ok`, `ok abort` or `refused`
-pub data Said : Type 0 where
-  ok : List ℕ → Said
-  abort : ℕ → Said
-  no : ℕ → Said
-
-unfoldable pub saidOf : Answer → Said
-saidOf (Refused n) = no n
-saidOf Done = ok []
-saidOf (Begun tx) = ok (tx ∷ [])
-saidOf (Found v) = ok (v ∷ [])
-saidOf (Committed n) = ok (n ∷ [])
-saidOf (Aborted r) = abort r
-saidOf (Installed n c) = ok (n ∷ c ∷ [])
-saidOf (Reported n) = ok (n ∷ [])
-saidOf (Emitted n c tx) = ok (n ∷ c ∷ tx ∷ [])
-saidOf (Standing v n c) = ok (v ∷ n ∷ c ∷ [])

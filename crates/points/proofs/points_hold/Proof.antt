@@ -14,7 +14,7 @@ use Rattle.rules.specs.History.{remembered, forgotten, isForgotten, within, bac
 use Rattle.rules.specs.Queue.{queuedBefore, comesFirst, betterPlace, leastQueued, isDue, stateBound, stateNumber}
 use Rattle.rules.specs.Valid.{courseOk, subOk, countersOk, liveOk, historyOk, siteOk, heldOk}
 use Rattle.rules.specs.Valid as valids
-use Rattle.rules.specs.Effect.{takenOf, outOf, turnAt, settle, settledOf, saidOf}
+use Rattle.rules.specs.Effect.{takenOf, outOf, turnAt, settle, settledOf}
 use Rattle.rules.specs.Course.{newSub, raise, headOf, channelSpent, sendTo, sendAll, quietly, withParticipant, enlistStep, isOutstanding, withReply, abortStep, withDecision, commitStep, decideStep, withMark, castStep, withRequest, prepareStep, voteDecides, voteStep, withStage, preparedStep, certifiedStep}
 use Rattle.rules.specs.Begin.{nextTx, beginCode, begun, beginOf}
 use Rattle.rules.specs.Access.{accessCode, readCode, readVersion, readAt, readOf, writeCode, writeCodeAt, written, writeAt, writeOf}
@@ -23,6 +23,7 @@ use Rattle.rules.specs.Merger.{mergerOutOf, placeWords, queuedPart, queuedOk, s
 use Rattle.rules.specs.Merger as mergers
 use Rattle.rules.specs.MergerWords.{HeadFits, HeadsFit}
 use Rattle.rules.specs.Send.{isRecipient, headTo, wordsTo, messagesTo, stepRecipients, countsLow}
+use Rattle.said.specs.Said.{saidOf}
 use Rattle.points.specs.States.{queued, queueOf, wrote, read, installed, versions, merging, headWords}
 use Rattle.points.specs.Points.{numbersOf, points, PointsHold}
 use lib.Count.{ones, onesIn}

@@ -1,0 +1,4 @@
+-- An outcome as a printed line.
+pub mod Line
+pub mod Laid
+pub mod Points

@@ -1,0 +1,28 @@
+-- 01, "Fixed points": the numbers of an answer, those printed after `ok`, `ok abort` or `refused`.
+use Prim.Native.Nat.{ℕ}
+use mathlib.Core.List.{List, [], _∷_}
+use lib.Dec.{eqb}
+use Rattle.laws.specs.Choice.{pick}
+use Rattle.kinds.specs.declared.Answer.{Answer}
+use Rattle.kinds.specs.declared.Answer.the-variants.{Refused, Done, Begun, Found, Committed, Aborted, Installed, Reported, Emitted, Standing}
+
+pub data Said : Type 0 where
+  ok : List ℕ → Said
+  abort : ℕ → Said
+  no : ℕ → Said
+
+unfoldable pub saidOf : Answer → Said
+saidOf (Refused n) = no n
+saidOf Done = ok []
+saidOf (Begun tx) = ok (tx ∷ [])
+saidOf (Found v) = ok (v ∷ [])
+saidOf (Committed n) = ok (n ∷ [])
+saidOf (Aborted r) = abort r
+saidOf (Installed n c) = ok (n ∷ c ∷ [])
+saidOf (Reported n) = ok (n ∷ [])
+saidOf (Emitted n c tx) = ok (n ∷ c ∷ tx ∷ [])
+saidOf (Standing v n c) = ok (v ∷ n ∷ c ∷ [])
+
+-- a call's refusal, else what it says
+abbrev pub unlessNo : ℕ → Said → Said
+unlessNo code said = pick (eqb code 0) said (no code)
