@@ -89,11 +89,11 @@ only-by : (l : List Cause) (s : Site) (lent : List ℕ) (e : Effect) → isRefus
 only-by l s lent e f = alone-by l (e .answer) _ f (λ z. rw z) (λ n. rw (ne-eqb _ 0 n))
 
 -- Begin, read, write, enlist.
-begin-by : (s : Site) → ByFirst (beginOf s .answer) (beginHas s)
+pub begin-by : (s : Site) → ByFirst (beginOf s .answer) (beginHas s)
 unfolding beginOf beginCode begun beginHas order
 begin-by s = by-first _ (beginHas s) refl (only-by (beginHas s) s [] _ refl)
 
-read-by : (s : Site) (base : List Value) (tx k : ℕ) → ByFirst (readOf s base tx k .answer) (readHas s base tx k)
+pub read-by : (s : Site) (base : List Value) (tx k : ℕ) → ByFirst (readOf s base tx k .answer) (readHas s base tx k)
 unfolding readOf accessCode readAt readVersion readCode readHas accessHas order
 read-by s base tx k =
     let place = placeOf (s .live) tx in
@@ -104,7 +104,7 @@ read-by s base tx k =
     (λ t. rw t (by-first _ (accessHas s (length base) tx k ++ more) refl
     (unless-by (accessHas s (length base) tx k) more s [] _ refl (only-by more s [] (readVersion s base place k) refl))))
 
-write-by : (s : Site) (tx k : ℕ) (v : Value) → ByFirst (writeOf s tx k v .answer) (writeHas s tx k)
+pub write-by : (s : Site) (tx k : ℕ) (v : Value) → ByFirst (writeOf s tx k v .answer) (writeHas s tx k)
 unfolding writeOf accessCode writeAt written quietly writeCodeAt writeCode writeHas accessHas order
 write-by s tx k v =
     let place = placeOf (s .live) tx in
@@ -116,7 +116,7 @@ write-by s tx k v =
     (λ t. rw t (by-first _ (accessHas s sizes.keys tx k ++ more) refl
     (unless-by (accessHas s sizes.keys tx k) more s [] _ refl (only-by more s [] (written s place k v) refl))))
 
-enlist-by : (s : Site) (room tx site : ℕ) → ByFirst (enlistOf s room tx site .answer) (enlistHas s room tx site)
+pub enlist-by : (s : Site) (room tx site : ℕ) → ByFirst (enlistOf s room tx site .answer) (enlistHas s room tx site)
 unfolding enlistOf enlistCode enlistAt joinerCode enlistHas order
 enlist-by s room tx site =
     let place = placeOf (s .live) tx in
@@ -127,7 +127,7 @@ enlist-by s room tx site =
     (unless-by first more s [] _ refl (only-by more s [] (changed s place (enlistStep (turnAt s place) site) []) (enlist-speaks (turnAt s place) site .accepts)))
 
 -- Commit and abandon.
-commit-by : (s : Site) (room : ℕ) (lists : List ℕ) (tx : ℕ) → ByFirst (commitOf s room lists tx .answer) (commitHas s room lists tx)
+pub commit-by : (s : Site) (room : ℕ) (lists : List ℕ) (tx : ℕ) → ByFirst (commitOf s room lists tx .answer) (commitHas s room lists tx)
 unfolding commitOf requestCode commitCode commitHas order
 commit-by s room lists tx =
     let place = placeOf (s .live) tx in
@@ -139,7 +139,7 @@ commit-by s room lists tx =
     (unless-by first more s lists _ refl
     (only-by more s lists (changed s place (commitChange s place) (commitLists s lists place)) (commit-speaks s place .accepts)))
 
-abandon-by : (s : Site) (room tx : ℕ) → ByFirst (abandonOf s room tx .answer) (abandonHas s room tx)
+pub abandon-by : (s : Site) (room tx : ℕ) → ByFirst (abandonOf s room tx .answer) (abandonHas s room tx)
 unfolding abandonOf requestCode abandonCode abandonHas order
 abandon-by s room tx =
     let place = placeOf (s .live) tx in
@@ -151,11 +151,11 @@ abandon-by s room tx =
     (only-by more s [] (changed s place (abortStep (turnAt s place) reason.abandoned) []) (abort-speaks (turnAt s place) reason.abandoned .accepts)))
 
 -- Install and report.
-install-by : (s : Site) (room : ℕ) (base : List Value) → ByFirst (installOf s room base .answer) (installHas s room base)
+pub install-by : (s : Site) (room : ℕ) (base : List Value) → ByFirst (installOf s room base .answer) (installHas s room base)
 unfolding installOf installCode installedAt installHas order
 install-by s room base = by-first _ (installHas s room base) refl (only-by (installHas s room base) s base _ refl)
 
-report-by : (s : Site) (room : ℕ) → ByFirst (reportOf s room .answer) (reportCauses (siteOk s) room)
+pub report-by : (s : Site) (room : ℕ) → ByFirst (reportOf s room .answer) (reportCauses (siteOk s) room)
 unfolding reportOf reportCode order
 report-by s room = by-first _ (reportCauses (siteOk s) room) refl (only-by (reportCauses (siteOk s) room) s [] _ refl)
 
@@ -219,7 +219,7 @@ module _ (s : Site) (h : MessageHead) (lists : List ℕ) where
       (λ a. rw a (join-by place))
       (λ a. by-test (ltb place sizes.live) (λ b. rw (a, b) (held-by k place es)) (λ b. rw (a, b) (other-by k)))
 
-message-by : (s : Site) (room : ℕ) (lists m : List ℕ) → ByFirst (messageOf s room lists m .answer) (messageHas s room lists m)
+pub message-by : (s : Site) (room : ℕ) (lists m : List ℕ) → ByFirst (messageOf s room lists m .answer) (messageHas s room lists m)
 unfolding messageOf arrivalCode messageAt nextCode messageHas order
 message-by s room lists m =
     by-first _ (first ++ (next ++ last)) (in-order (x .form))
@@ -245,7 +245,7 @@ message-by s room lists m =
     in-order (inr (turn, spent, e)) = rw e refl
 
 -- The merger and the copies.
-merge-by : (g : Merger) (queues m : List ℕ) → ByFirst (mergeOf g queues m .answer) (mergeHas g queues m)
+pub merge-by : (g : Merger) (queues m : List ℕ) → ByFirst (mergeOf g queues m .answer) (mergeHas g queues m)
 unfolding mergeOf mergeCode mergePart mergePartCode mergeState mergeStateCode mergeHas order
 merge-by g queues m =
     let r = recordHead m in
@@ -257,7 +257,7 @@ merge-by g queues m =
     (λ t. rw t (by-first _ (first ++ mergeStateCauses c r) refl
     (merger-by first (mergeStateCauses c r) g queues _ refl (alone-by (mergeStateCauses c r) Done _ refl (λ z. rw z) (λ n. rw (ne-eqb _ 0 n))))))
 
-emit-by : (g : Merger) (room : ℕ) (queues : List ℕ) → ByFirst (emitOf g room queues .answer) (emitHas g room queues)
+pub emit-by : (g : Merger) (room : ℕ) (queues : List ℕ) → ByFirst (emitOf g room queues .answer) (emitHas g room queues)
 unfolding emitOf emitCode emitDue dueCode emitHas order
 emit-by g room queues =
     let heads = headsOf queues (g .house .sites) in
@@ -267,14 +267,14 @@ emit-by g room queues =
     (merger-by (emitCauses g queues room) more g queues _ refl
     (alone-by more (Emitted (r .number) (r .coordinator) (r .tx)) _ refl (λ z. rw z) (λ n. rw (ne-eqb _ 0 n))))
 
-replay-by : (copy m : List ℕ) → ByFirst (replayOf copy m .answer) (replayCauses copy m)
+pub replay-by : (copy m : List ℕ) → ByFirst (replayOf copy m .answer) (replayCauses copy m)
 unfolding replayOf replayCode order
 replay-by copy m =
     let r = recordHead m in
     by-first _ (replayCauses copy m) refl
     (alone-by (replayCauses copy m) (Installed (r .number) (r .coordinator)) _ refl (λ z. rw z) (λ n. rw (ne-eqb _ 0 n)))
 
-value-by : (copy : List ℕ) (k : ℕ) → ByFirst (valueOf copy k) (valueCauses copy k)
+pub value-by : (copy : List ℕ) (k : ℕ) → ByFirst (valueOf copy k) (valueCauses copy k)
 unfolding valueOf valueCode order
 value-by copy k =
     by-first _ (valueCauses copy k) refl
@@ -297,19 +297,19 @@ call-by w (world.replay c m) = replay-by (w .copy c) m
 call-by w (world.value c key) = value-by (w .copy c) key
 
 -- The starts.
-start-by : (sites own base lists : ℕ) → ByFirst (startOf sites own base lists .answer) (startCauses sites own base lists)
+pub start-by : (sites own base lists : ℕ) → ByFirst (startOf sites own base lists .answer) (startCauses sites own base lists)
 unfolding startOf startCode order
 start-by sites own base lists =
     let l = startCauses sites own base lists in
     by-first _ l refl (alone-by l Done _ refl (λ z. rw z) (λ n. rw (ne-eqb _ 0 n)))
 
-merger-start-by : (sites : ℕ) (queues : List ℕ) → ByFirst (mergerStartOf sites queues .answer) (mergerStartCauses sites (length queues))
+pub merger-start-by : (sites : ℕ) (queues : List ℕ) → ByFirst (mergerStartOf sites queues .answer) (mergerStartCauses sites (length queues))
 unfolding mergerStartOf mergerStartCode order
 merger-start-by sites queues =
     let l = mergerStartCauses sites (length queues) in
     by-first _ l refl (alone-by l Done _ refl (λ z. rw z) (λ n. rw (ne-eqb _ 0 n)))
 
-copy-start-by : (copy : List ℕ) → ByFirst (copyStartOf copy .answer) (copyStartCauses copy)
+pub copy-start-by : (copy : List ℕ) → ByFirst (copyStartOf copy .answer) (copyStartCauses copy)
 unfolding copyStartOf order
 copy-start-by copy =
     by-test (eqb (length copy) sizes.copy)

@@ -1,134 +1,150 @@
--- Each call says what is defined for it: a refusal its number, and what it answers otherwise is there in the rule.
+-- Each call says what is defined for it: its first cause of refusal, and what it answers otherwise.
 use Prim.Native.Nat.{ℕ, _-_}
-use mathlib.Core.Path.{_≡_}
-use mathlib.Core.Bool.{true}
-use mathlib.Core.List.{List}
+use mathlib.Core.Path.{_≡_, refl}
+use mathlib.Core.List.{List, [], _∷_}
 use lib.ListN.{length}
 use lib.Dec.{eqb}
-use Rattle.laws.specs.Choice.{by-test}
+use Rattle.laws.specs.Choice.{by-test, set-not}
 use Rattle.kinds.specs.Sizes as sizes
 use Rattle.kinds.specs.Kind as kind
+use Rattle.kinds.specs.Reason as reason
 use Rattle.kinds.specs.State.{Value, subAt}
 use Rattle.kinds.specs.declared.Site.{Site}
 use Rattle.kinds.specs.declared.Merger.{Merger}
 use Rattle.rules.specs.Record.{recordHead}
-use Rattle.rules.specs.Keys.{wroteKey}
-use Rattle.rules.specs.Live.{placeOf}
-use Rattle.rules.specs.Course.{sendTo, sendAll, quietly, enlistStep, abortStep}
-use Rattle.rules.specs.Begin.{begun, beginOf}
-use Rattle.rules.specs.Access.{readVersion, readAt, readOf, writeCodeAt, written, writeAt, writeOf}
-use Rattle.rules.specs.Enlist.{enlistAt, enlistOf}
-use Rattle.rules.specs.Commit.{abandonOf}
-use Rattle.rules.specs.Install.{installedAt, installOf, reportOf, startCode, startOf}
-use Rattle.rules.specs.Merger.{sourceAt, mergerStartCode, mergerStartOf, mergeCode, mergePartCode, mergePart, mergeStateCode, mergeState, mergeOf, headsOf, leastSite, emitCode, dueCode, emitDue, emitOf}
+use Rattle.rules.specs.House.{isSite, inMask}
+use Rattle.rules.specs.Send.{countsLow}
+use Rattle.rules.specs.Keys.{wroteKey, readKey}
+use Rattle.rules.specs.History.{isForgotten}
+use Rattle.rules.specs.Queue.{leastQueued, isDue}
+use Rattle.rules.specs.Valid.{siteOk}
+use Rattle.rules.specs.Live.{placeOf, freePlace, stageAt}
+use Rattle.rules.specs.Course.{channelSpent, sendTo, sendAll, quietly, enlistStep, abortStep}
+use Rattle.rules.specs.Begin.{beginCode, nextTx, begun, beginOf}
+use Rattle.rules.specs.Access.{accessCode, readCode, writeCodeAt, readVersion, readAt, readOf, written, writeAt, writeOf}
+use Rattle.rules.specs.Enlist.{isMine, enlistCode, joinerCode, enlistAt, enlistOf}
+use Rattle.rules.specs.Commit.{requestCode, abandonCode, abandonOf}
+use Rattle.rules.specs.Install.{installCode, reportCode, installedAt, installOf, reportOf, startCode, startOf}
+use Rattle.rules.specs.Merger.{sourceAt, headsOf, leastSite, mergeCode, mergePartCode, mergeStateCode, emitCode, dueCode, mergerStartCode, mergerStartOf, mergePart, mergeState, mergeOf, emitDue, emitOf}
 use Rattle.rules.specs.Copy.{copyStartOf, replayCode, replayOf, valueCode, valueOf}
-use Rattle.said.specs.Said.{saidOf}
-use Rattle.said.specs.Decided.{requestNo}
-use Rattle.said.specs.Outcomes.{startSaid, beginNo, beginSaid, enlistNo, joinerNo, enlistSaid, accessNo, readNo, readSaid, writeSaid, abandonNo, abandonSaid, installNo, installSaid, reportNo, reportSaid, mergerStartSaid, mergeSaid, emitSaid, copyStartSaid, replaySaid, valueSaid, Says}
-use Rattle.said.proofs.Decisions.{commit-says, message-says}
+use Rattle.rules.proofs.FirstCause.{begin-by, read-by, write-by, enlist-by, commit-by, abandon-by, install-by, report-by, message-by}
+use Rattle.rules.proofs.FirstCause.{merge-by, emit-by, replay-by, value-by, start-by, merger-start-by, copy-start-by}
+use Rattle.said.specs.Said.{ok, abort, saidOf}
+use Rattle.said.specs.Outcomes.{readSaid, installSaid, reportSaid, emitSaid, replaySaid, valueSaid, Says}
+use Rattle.said.proofs.Taken.{Taken, says, Takes, past, MergerTakes, past-merger}
+use Rattle.said.proofs.Decisions.{commit-taken, message-taken}
 
 -- A site.
-start-says : (sites own base lists : ℕ) → saidOf (startOf sites own base lists .answer) ≡ startSaid sites own base lists
-unfolding saidOf startOf startSaid
-start-says sites own base lists = by-test (eqb (startCode sites own base lists) 0) (λ e. rw e) (λ e. rw e)
+start-taken : (sites own base lists : ℕ) → Taken (startOf sites own base lists .answer) (ok [])
+unfolding saidOf startOf
+start-taken sites own base lists =
+    by-test (eqb (startCode sites own base lists) 0) (λ e. rw e (λ f. refl)) (λ e. rw e (λ f. absurd (set-not _ refl f)))
 
-begin-says : (s : Site) → saidOf (beginOf s .answer) ≡ beginSaid s
-unfolding saidOf beginOf begun beginSaid
-begin-says s = by-test (eqb (beginNo s) 0) (λ e. rw e) (λ e. rw e)
+begin-taken : (s : Site) → Takes (beginOf s) (ok (nextTx (s .counters) ∷ []))
+unfolding saidOf beginOf begun
+begin-taken s = past (beginCode (siteOk s) (s .counters) (freePlace (s .live))) s [] _ _ (record { said = λ r. refl })
 
-enlist-says : (s : Site) (room tx site : ℕ) → saidOf (enlistOf s room tx site .answer) ≡ enlistSaid s room tx site
-unfolding saidOf enlistOf enlistAt enlistStep sendTo enlistSaid
-enlist-says s room tx site =
-    by-test (eqb (enlistNo s room tx site) 0)
-    (λ e. by-test (eqb (joinerNo s (placeOf (s .live) tx) site) 0) (λ f. rw (e, f)) (λ f. rw (e, f)))
-    (λ e. rw e)
-
-read-says : (s : Site) (base : List Value) (tx k : ℕ) → saidOf (readOf s base tx k .answer) ≡ readSaid s base tx k
-unfolding saidOf readOf readAt readVersion readSaid
-read-says s base tx k =
-    let b = subAt s (placeOf (s .live) tx) in
-    by-test (eqb (accessNo s (length base) tx k) 0)
-    (λ e. by-test (wroteKey (b .keys) k) (λ w. rw (e, w)) (λ w. by-test (eqb (readNo s b k) 0) (λ f. rw (e, w, f)) (λ f. rw (e, w, f))))
-    (λ e. rw e)
-
-write-says : (s : Site) (tx k : ℕ) (v : Value) → saidOf (writeOf s tx k v .answer) ≡ writeSaid s tx k
-unfolding saidOf writeOf writeAt written quietly writeSaid
-write-says s tx k v =
+enlist-taken : (s : Site) (room tx site : ℕ) → Takes (enlistOf s room tx site) (ok [])
+unfolding saidOf enlistOf enlistAt enlistStep sendTo
+enlist-taken s room tx site =
     let place = placeOf (s .live) tx in
-    by-test (eqb (accessNo s sizes.keys tx k) 0)
-    (λ e. by-test (wroteKey (subAt s place .keys) k)
-    (λ w. rw (e, w))
-    (λ w. by-test (eqb (writeCodeAt s place k) 0) (λ f. rw (e, w, f)) (λ f. rw (e, w, f))))
-    (λ e. rw e)
+    let c = subAt s place .course in
+    past (enlistCode (siteOk s) room (isSite (s .house) site) place (isMine s tx)) s [] _ _
+    (past (joinerCode (c .stage) (eqb site (s .counters .own)) (inMask (c .mask) site) (channelSpent (s .channels) site)) s [] _ _
+    (record { said = λ r. refl }))
 
-abandon-says : (s : Site) (room tx : ℕ) → saidOf (abandonOf s room tx .answer) ≡ abandonSaid s room tx
-unfolding saidOf abandonOf abortStep sendAll abandonSaid
-abandon-says s room tx =
-    by-test (eqb (requestNo s room true tx) 0)
-    (λ e. by-test (eqb (abandonNo s (placeOf (s .live) tx)) 0) (λ f. rw (e, f)) (λ f. rw (e, f)))
-    (λ e. rw e)
+-- reads and writes have their first causes in common
+abbrev accessNo : Site → ℕ → ℕ → ℕ → ℕ
+accessNo s room tx k =
+    let place = placeOf (s .live) tx in
+    accessCode (siteOk s) room (s .house) (s .counters .own) k place (stageAt (s .live) place)
 
-install-says : (s : Site) (room : ℕ) (base : List Value) → saidOf (installOf s room base .answer) ≡ installSaid s room base
+read-taken : (s : Site) (base : List Value) (tx k : ℕ) → Takes (readOf s base tx k) (readSaid s base tx k)
+unfolding saidOf readOf readAt readVersion readSaid
+read-taken s base tx k =
+    let b = subAt s (placeOf (s .live) tx) in
+    let late = readCode (isForgotten (s .counters .installs) (b .snapshot)) (readKey (b .keys) k) (b .keys .read) in
+    by-test (wroteKey (b .keys) k)
+    (λ w. rw w (past (accessNo s (length base) tx k) s [] _ _ (record { said = λ r. refl })))
+    (λ w. rw w (past (accessNo s (length base) tx k) s [] _ _ (past late s [] _ _ (record { said = λ r. refl }))))
+
+write-taken : (s : Site) (tx k : ℕ) (v : Value) → Takes (writeOf s tx k v) (ok [])
+unfolding saidOf writeOf writeAt written quietly
+write-taken s tx k v =
+    let place = placeOf (s .live) tx in
+    by-test (wroteKey (subAt s place .keys) k)
+    (λ w. rw w (past (accessNo s sizes.keys tx k) s [] _ _ (record { said = λ r. refl })))
+    (λ w. rw w (past (accessNo s sizes.keys tx k) s [] _ _ (past (writeCodeAt s place k) s [] _ _ (record { said = λ r. refl }))))
+
+abandon-taken : (s : Site) (room tx : ℕ) → Takes (abandonOf s room tx) (abort reason.abandoned)
+unfolding saidOf abandonOf abortStep sendAll
+abandon-taken s room tx =
+    let place = placeOf (s .live) tx in
+    let c = subAt s place .course in
+    past (requestCode (siteOk s) room place (isMine s tx)) s [] _ _
+    (past (abandonCode (c .stage) (countsLow (s .channels .sent) (c .mask) (s .counters .own))) s [] _ _ (record { said = λ r. refl }))
+
+install-taken : (s : Site) (room : ℕ) (base : List Value) → Takes (installOf s room base) (installSaid s)
 unfolding saidOf installOf installedAt installSaid
-install-says s room base = by-test (eqb (installNo s room base) 0) (λ e. rw e) (λ e. rw e)
+install-taken s room base =
+    let place = leastQueued (s .live) sizes.live in
+    past (installCode (siteOk s) room (length base) (isDue (s .live) place) (s .counters .installs)) s base _ _ (record { said = λ r. refl })
 
-report-says : (s : Site) (room : ℕ) → saidOf (reportOf s room .answer) ≡ reportSaid s room
+report-taken : (s : Site) (room : ℕ) → Takes (reportOf s room) (reportSaid s)
 unfolding saidOf reportOf reportSaid
-report-says s room = by-test (eqb (reportNo s room) 0) (λ e. rw e) (λ e. rw e)
+report-taken s room = past (reportCode (siteOk s) room) s [] _ _ (record { said = λ r. refl })
 
 -- The merger.
-merger-start-says : (sites : ℕ) (queues : List ℕ) → saidOf (mergerStartOf sites queues .answer) ≡ mergerStartSaid sites queues
-unfolding saidOf mergerStartOf mergerStartSaid
-merger-start-says sites queues = by-test (eqb (mergerStartCode sites (length queues)) 0) (λ e. rw e) (λ e. rw e)
+merger-start-taken : (sites : ℕ) (queues : List ℕ) → Taken (mergerStartOf sites queues .answer) (ok [])
+unfolding saidOf mergerStartOf
+merger-start-taken sites queues =
+    by-test (eqb (mergerStartCode sites (length queues)) 0) (λ e. rw e (λ f. refl)) (λ e. rw e (λ f. absurd (set-not _ refl f)))
 
-merge-says : (g : Merger) (queues m : List ℕ) → saidOf (mergeOf g queues m .answer) ≡ mergeSaid g queues m
-unfolding saidOf mergeOf mergePart mergeState mergeSaid
-merge-says g queues m =
+merge-taken : (g : Merger) (queues m : List ℕ) → MergerTakes (mergeOf g queues m) (ok [])
+unfolding saidOf mergeOf mergePart mergeState
+merge-taken g queues m =
     let r = recordHead m in
     let c = sourceAt g (r .site - 1) in
-    by-test (eqb (mergeCode g queues m) 0)
-    (λ e. by-test (eqb (r .kind) kind.part)
-    (λ p. by-test (eqb (mergePartCode c r) 0) (λ f. rw (e, p, f)) (λ f. rw (e, p, f)))
-    (λ p. by-test (eqb (mergeStateCode c r) 0) (λ f. rw (e, p, f)) (λ f. rw (e, p, f))))
-    (λ e. rw e)
+    by-test (eqb (r .kind) kind.part)
+    (λ p. rw p (past-merger (mergeCode g queues m) g queues _ _ (past-merger (mergePartCode c r) g queues _ _ (record { said = λ r. refl }))))
+    (λ p. rw p (past-merger (mergeCode g queues m) g queues _ _ (past-merger (mergeStateCode c r) g queues _ _ (record { said = λ r. refl }))))
 
-emit-says : (g : Merger) (room : ℕ) (queues : List ℕ) → saidOf (emitOf g room queues .answer) ≡ emitSaid g room queues
+emit-taken : (g : Merger) (room : ℕ) (queues : List ℕ) → MergerTakes (emitOf g room queues) (emitSaid g queues)
 unfolding saidOf emitOf emitDue emitSaid
-emit-says g room queues =
-    by-test (eqb (emitCode g queues room) 0)
-    (λ e. by-test (eqb (dueCode g (headsOf queues (g .house .sites)) (leastSite g queues)) 0) (λ f. rw (e, f)) (λ f. rw (e, f)))
-    (λ e. rw e)
+emit-taken g room queues =
+    past-merger (emitCode g queues room) g queues _ _
+    (past-merger (dueCode g (headsOf queues (g .house .sites)) (leastSite g queues)) g queues _ _ (record { said = λ r. refl }))
 
 -- A copy.
-copy-start-says : (copy : List ℕ) → saidOf (copyStartOf copy .answer) ≡ copyStartSaid copy
-unfolding saidOf copyStartOf copyStartSaid
-copy-start-says copy = by-test (eqb (length copy) sizes.copy) (λ e. rw e) (λ e. rw e)
+copy-start-taken : (copy : List ℕ) → Taken (copyStartOf copy .answer) (ok [])
+unfolding saidOf copyStartOf
+copy-start-taken copy = by-test (eqb (length copy) sizes.copy) (λ e. rw e (λ f. refl)) (λ e. rw e (λ f. absurd (set-not _ refl f)))
 
-replay-says : (copy m : List ℕ) → saidOf (replayOf copy m .answer) ≡ replaySaid copy m
+replay-taken : (copy m : List ℕ) → Taken (replayOf copy m .answer) (replaySaid m)
 unfolding saidOf replayOf replaySaid
-replay-says copy m = by-test (eqb (replayCode copy m) 0) (λ e. rw e) (λ e. rw e)
+replay-taken copy m = by-test (eqb (replayCode copy m) 0) (λ e. rw e (λ f. refl)) (λ e. rw e (λ f. absurd (set-not _ refl f)))
 
-value-says : (copy : List ℕ) (k : ℕ) → saidOf (valueOf copy k) ≡ valueSaid copy k
+value-taken : (copy : List ℕ) (k : ℕ) → Taken (valueOf copy k) (valueSaid copy k)
 unfolding saidOf valueOf valueSaid
-value-says copy k = by-test (eqb (valueCode copy k) 0) (λ e. rw e) (λ e. rw e)
+value-taken copy k = by-test (eqb (valueCode copy k) 0) (λ e. rw e (λ f. refl)) (λ e. rw e (λ f. absurd (set-not _ refl f)))
 
 pub calls-say : Says
 calls-say =
     record {
-      site-starts = start-says;
-      begins = begin-says;
-      enlists = enlist-says;
-      reads = read-says;
-      writes = write-says;
-      commits = commit-says;
-      abandons = abandon-says;
-      takes = message-says;
-      installs = install-says;
-      reports = report-says;
-      merger-starts = merger-start-says;
-      merges = merge-says;
-      emits = emit-says;
-      copy-starts = copy-start-says;
-      replays = replay-says;
-      values = value-says;
+      site-starts = λ n o b l. says _ _ _ (start-by n o b l) (start-taken n o b l);
+      begins = λ s. says _ _ _ (begin-by s) (begin-taken s .said);
+      enlists = λ s r t n. says _ _ _ (enlist-by s r t n) (enlist-taken s r t n .said);
+      reads = λ s b t k. says _ _ _ (read-by s b t k) (read-taken s b t k .said);
+      writes = λ s t k v. says _ _ _ (write-by s t k v) (write-taken s t k v .said);
+      commits = λ s r l t. says _ _ _ (commit-by s r l t) (commit-taken s r l t .said);
+      abandons = λ s r t. says _ _ _ (abandon-by s r t) (abandon-taken s r t .said);
+      takes = λ s r l m. says _ _ _ (message-by s r l m) (message-taken s r l m .said);
+      installs = λ s r b. says _ _ _ (install-by s r b) (install-taken s r b .said);
+      reports = λ s r. says _ _ _ (report-by s r) (report-taken s r .said);
+      merger-starts = λ n q. says _ _ _ (merger-start-by n q) (merger-start-taken n q);
+      merges = λ g q m. says _ _ _ (merge-by g q m) (merge-taken g q m .said);
+      emits = λ g r q. says _ _ _ (emit-by g r q) (emit-taken g r q .said);
+      copy-starts = λ c. says _ _ _ (copy-start-by c) (copy-start-taken c);
+      replays = λ c m. says _ _ _ (replay-by c m) (replay-taken c m);
+      values = λ c k. says _ _ _ (value-by c k) (value-taken c k);
     }

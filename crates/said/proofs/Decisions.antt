@@ -1,27 +1,34 @@
--- What a commit request and a message say: their steps answer a decision or nothing, and a refusal is its number.
-use Prim.Native.Nat.{ℕ}
-use mathlib.Core.Path.{_≡_}
-use mathlib.Core.List.{List, []}
+-- What a commit request and a message say where they are taken: their steps answer a decision or nothing.
+use Prim.Native.Nat.{ℕ, _-_}
+use mathlib.Core.Path.{_≡_, refl}
+use mathlib.Core.List.{List, [], _∷_}
 use mathlib.Core.Bool.{Bool, true, false}
 use borrow.Author.Tests.{eqb-true}
-use lib.ListN.{length}
 use lib.Dec.{ltb, leb, eqb}
-use Rattle.laws.specs.Choice.{pick, pick-same, by-test}
+use lib.ListN.{getD}
+use Rattle.laws.specs.Choice.{every, pick-same, by-test}
 use Rattle.kinds.specs.Sizes as sizes
 use Rattle.kinds.specs.Kind as kind
-use Rattle.kinds.specs.Reason as reason
 use Rattle.kinds.specs.declared.MessageHead.{MessageHead}
 use Rattle.kinds.specs.declared.Site.{Site}
 use Rattle.kinds.specs.declared.Turn.{Turn}
-use Rattle.rules.specs.Message.{messageHead, messageEntries}
-use Rattle.rules.specs.Live.{placeOf, freePlace}
+use Rattle.kinds.specs.State.{subAt}
+use Rattle.rules.specs.Message.{messageOk, messageHead, messageEntries}
+use Rattle.rules.specs.Send.{countsLow}
+use Rattle.rules.specs.Valid.{handedOk}
+use Rattle.rules.specs.Enlist.{isMine}
+use Rattle.rules.specs.Live.{placeOf, freePlace, allHeard}
 use Rattle.rules.specs.Certify.{concurrent}
 use Rattle.rules.specs.Effect.{turnAt}
-use Rattle.rules.specs.Course.{raise, sendTo, sendAll, quietly, abortStep, commitStep, decideStep, castStep, withMark, withRequest, prepareStep, voteStep, preparedStep, certifiedStep}
-use Rattle.rules.specs.Commit.{isFull, isLost, requestChange, commitChange, commitOf}
-use Rattle.rules.specs.Deliver.{replyCode, spentTo, arrived, passed, spoken, joinAt, takeJoin, takeJoined, takePrepare, passPrepare, gatherChange, takeConc, takeCert, takeVote, takeCommit, takeAbort, takeHeld, takeOther, takeKind, messageAt, messageOf}
-use Rattle.said.specs.Said.{ok, abort, saidOf, unlessNo}
-use Rattle.said.specs.Decided.{replied, alone, listHeard, voteHeard, decidedSaid, castSaid, requestNo, commitNo, requestSaid, acceptedSaid, commitSaid, arrivalNo, nextNo, heldNo, kindNo, concSaid, voteSaid, takenSaid, messageSaid}
+use Rattle.rules.specs.Course.{raise, sendTo, sendAll, quietly, abortStep, commitStep, decideStep, castStep, withMark, withRequest, prepareStep}
+use Rattle.rules.specs.Course.{withReply, voteStep, preparedStep, certifiedStep}
+use Rattle.rules.specs.Commit.{requestCode, commitCode, isFull, isLost, requestChange, commitChange, commitOf}
+use Rattle.rules.specs.Deliver.{arrivalCode, nextCode, replyCode, spentTo, spentToAll, concInTurn, gatherLists, keeping, arrived, passed, spoken, joinAt, takeJoin, takeJoined, takePrepare, passPrepare, gatherChange, takeConc}
+use Rattle.rules.specs.Deliver.{takeCert, takeVote, takeCommit, takeAbort, takeHeld, takeOther, takeKind, messageAt, messageOf}
+use Rattle.said.specs.Said.{ok, saidOf}
+use Rattle.said.specs.Decided.{replied, alone, listHeard, voteHeard, decidedSaid, castSaid, requestSaid, commitSaid, concSaid, voteSaid}
+use Rattle.said.specs.Decided.{takenSaid, messageSaid}
+use Rattle.said.proofs.Taken.{Takes, past, step-takes}
 
 -- Decisions.
 decide-says : (t : Turn) → saidOf (decideStep t .answer) ≡ decidedSaid t
@@ -37,23 +44,26 @@ request-says : (s : Site) (place : ℕ) → saidOf (requestChange s place (concu
 unfolding saidOf requestChange requestSaid withRequest turnAt prepareStep sendAll castSaid decidedSaid
 request-says s place = by-test (alone (turnAt s place)) (λ a. rw (a, cast-says, a)) (λ a. rw a)
 
-change-says : (s : Site) (place : ℕ) → saidOf (commitChange s place .answer) ≡ acceptedSaid s place
-unfolding saidOf commitChange abortStep sendAll acceptedSaid
-change-says s place =
+change-says : (s : Site) (tx : ℕ) → saidOf (commitChange s (placeOf (s .live) tx) .answer) ≡ commitSaid s tx
+unfolding saidOf commitChange abortStep sendAll commitSaid
+change-says s tx =
+    let place = placeOf (s .live) tx in
     by-test (isFull s place) (λ f. rw f) (λ f. by-test (isLost s place) (λ l. rw (f, l)) (λ l. rw (f, l, request-says)))
 
-pub commit-says : (s : Site) (room : ℕ) (lists : List ℕ) (tx : ℕ) → saidOf (commitOf s room lists tx .answer) ≡ commitSaid s room lists tx
-unfolding saidOf commitOf commitSaid turnAt
-commit-says s room lists tx =
+pub commit-taken : (s : Site) (room : ℕ) (lists : List ℕ) (tx : ℕ) → Takes (commitOf s room lists tx) (commitSaid s tx)
+unfolding commitOf
+commit-taken s room lists tx =
     let place = placeOf (s .live) tx in
-    by-test (eqb (requestNo s room (eqb (length lists) sizes.lists) tx) 0)
-    (λ e. by-test (eqb (commitNo s place) 0) (λ f. rw (e, f, change-says)) (λ f. rw (e, f)))
-    (λ e. rw e)
+    let c = subAt s place .course in
+    let own = s .counters .own in
+    past (requestCode (handedOk s lists) room place (isMine s tx)) s lists _ _
+    (past (commitCode (c .stage) (allHeard own (c .heard) (c .mask)) (countsLow (s .channels .sent) (c .mask) own)) s lists _ _
+    (record { said = λ r. change-says s tx }))
 
 -- A message, by its kind.
 module _ (s : Site) (h : MessageHead) (place : ℕ) where
   conc-says : (lists : List ℕ) → saidOf (gatherChange s h place lists .answer) ≡ concSaid s h lists place
-  unfolding saidOf gatherChange concSaid quietly
+  unfolding saidOf gatherChange concSaid quietly arrived
   conc-says lists = by-test (replied (listHeard s h place)) (λ a. rw (a, cast-says)) (λ a. rw a)
 
   vote-says : saidOf (voteStep (raise (arrived s place (h .from)) (h .clock)) (h .from) (h .argument) .answer) ≡ voteSaid s h place
@@ -71,73 +81,66 @@ certified-says : (t : Turn) (to v : ℕ) → saidOf (certifiedStep t to v .answe
 unfolding saidOf certifiedStep sendTo
 certified-says t to v = by-test (eqb v 0) (λ e. rw e) (λ e. rw e)
 
-abbrev Kind : Site → MessageHead → List ℕ → List ℕ → ℕ → ℕ → Type 0
-Kind s h es lists place k = saidOf (takeKind k s h es lists place .answer) ≡ unlessNo (kindNo k s h place) (takenSaid k s h es lists place)
+quiet-says : (t : Turn) → saidOf (quietly t .answer) ≡ ok []
+unfolding saidOf quietly
+quiet-says t = refl
 
 module _ (s : Site) (h : MessageHead) (es lists : List ℕ) (place : ℕ) where
-  join-says : Kind s h es lists place kind.join
-  unfolding saidOf takeKind takeJoin joinAt spoken sendTo kindNo takenSaid
-  join-says =
-      by-test (eqb (kindNo kind.join s h place) 0)
-      (λ e. by-test (ltb (freePlace (s .live)) sizes.live) (λ f. rw (e, f)) (λ f. rw (e, f)))
-      (λ e. rw e)
+  abbrev Kind : ℕ → Type 0
+  Kind k = Takes (takeKind k s h es lists place) (takenSaid k s h es lists place)
 
-module _ (s : Site) (h : MessageHead) (es lists : List ℕ) (place : ℕ) (l : ltb place sizes.live ≡ true) where
-  held-joined : Kind s h es lists place kind.joined
-  unfolding saidOf takeKind takeHeld kindNo heldNo takenSaid takeJoined arrived quietly
-  held-joined = by-test (eqb (heldNo kind.joined s h place) 0) (λ e. rw (l, e)) (λ e. rw (l, e))
+  join-taken : Takes (keeping lists (takeJoin s h place)) (ok [])
+  unfolding saidOf takeJoin joinAt spoken sendTo
+  join-taken =
+      let code = replyCode (leb sizes.live place) (spentTo s (h .from)) in
+      by-test (ltb (freePlace (s .live)) sizes.live)
+      (λ f. rw f (record { said = past code s [] _ (ok []) (record { said = λ r. refl }) .said }))
+      (λ f. rw f (record { said = past code s [] _ (ok []) (record { said = λ r. refl }) .said }))
 
-  held-prepare : Kind s h es lists place kind.prepare
-  unfolding saidOf takeKind takeHeld kindNo heldNo takenSaid takePrepare arrived raise
-  held-prepare = by-test (eqb (heldNo kind.prepare s h place) 0) (λ e. rw (l, e, prepared-says)) (λ e. rw (l, e))
+  gathers : Takes (takeConc s h es lists place) (concSaid s h (gatherLists s place es lists) place)
+  unfolding takeConc
+  gathers =
+      let c = subAt s place .course in
+      let all = allHeard (s .counters .own) (withReply c (h .from) 0 (h .count) .heard) (withReply c (h .from) 0 (h .count) .mask) in
+      past (replyCode (concInTurn c (h .from)) (every (all ∷ spentToAll s (c .mask) ∷ []))) s lists _ _
+      (record { said = λ r. conc-says s h place (gatherLists s place es lists) })
 
-  held-conc : Kind s h es lists place kind.conc
-  unfolding saidOf takeKind takeHeld kindNo heldNo takenSaid takeConc
-  held-conc = by-test (eqb (heldNo kind.conc s h place) 0) (λ e. rw (l, e, conc-says)) (λ e. rw (l, e))
+  held-taken : ltb place sizes.live ≡ true → (k : ℕ) → eqb k kind.join ≡ false → Kind k
+  unfolding takeKind takeHeld takenSaid takeJoined takePrepare takeCert takeVote takeCommit takeAbort
+  held-taken l k j =
+      by-test (eqb k kind.conc)
+      (λ c. rw (eqb-true k kind.conc c, l) gathers)
+      (λ c. by-test (eqb k kind.vote)
+      (λ e. rw (eqb-true k kind.vote e, l) (step-takes _ _ s place _ lists _ (vote-says s h place)))
+      (λ e. by-test (eqb k kind.joined)
+      (λ a. rw (j, l, c, e, a) (step-takes _ _ s place _ lists _ (quiet-says _)))
+      (λ a. by-test (eqb k kind.prepare)
+      (λ b. rw (j, l, c, e, a, b) (step-takes _ _ s place _ lists _ (prepared-says _ _ _ _ _)))
+      (λ b. by-test (eqb k kind.cert)
+      (λ d. rw (j, l, c, e, a, b, d) (step-takes _ _ s place _ lists _ (certified-says _ _ _)))
+      (λ d. by-test (eqb k kind.commit)
+      (λ f. rw (j, l, c, e, a, b, d, f) (step-takes _ _ s place _ lists _ (quiet-says _)))
+      (λ f. rw (j, l, c, e, a, b, d, f) (step-takes _ _ s place _ lists _ (quiet-says _))))))))
 
-  held-cert : Kind s h es lists place kind.cert
-  unfolding saidOf takeKind takeHeld kindNo heldNo takenSaid takeCert arrived
-  held-cert = by-test (eqb (heldNo kind.cert s h place) 0) (λ e. rw (l, e, certified-says)) (λ e. rw (l, e))
+  other-taken : ltb place sizes.live ≡ false → (k : ℕ) → eqb k kind.join ≡ false → Kind k
+  unfolding saidOf takeKind takeOther passPrepare passed spoken sendTo takenSaid
+  other-taken l k j =
+      let code = replyCode true (spentTo s (h .from)) in
+      by-test (eqb k kind.prepare)
+      (λ e. rw (eqb-true k kind.prepare e, l) (record { said = past code s [] _ (ok []) (record { said = λ r. refl }) .said }))
+      (λ e. rw (j, l, e, pick-same, pick-same) (record { said = λ r. refl }))
 
-  held-vote : Kind s h es lists place kind.vote
-  unfolding saidOf takeKind takeHeld kindNo heldNo takenSaid takeVote arrived raise
-  held-vote = by-test (eqb (heldNo kind.vote s h place) 0) (λ e. rw (l, e, vote-says)) (λ e. rw (l, e))
+  kind-taken : (k : ℕ) → Kind k
+  unfolding takeKind takenSaid
+  kind-taken k =
+      by-test (eqb k kind.join)
+      (λ e. rw (eqb-true k kind.join e) join-taken)
+      (λ e. by-test (ltb place sizes.live) (λ l. held-taken l k e) (λ l. other-taken l k e))
 
-  held-commit : Kind s h es lists place kind.commit
-  unfolding saidOf takeKind takeHeld kindNo heldNo takenSaid takeCommit arrived raise quietly
-  held-commit = by-test (eqb (heldNo kind.commit s h place) 0) (λ e. rw (l, e)) (λ e. rw (l, e))
-
-  held-says : (k : ℕ) → eqb k kind.join ≡ false → Kind s h es lists place k
-  unfolding saidOf takeKind takeHeld kindNo heldNo takenSaid takeAbort arrived quietly
-  held-says k j =
-      by-test (eqb k kind.joined) (λ e. rw (eqb-true k kind.joined e) held-joined) (λ a.
-      by-test (eqb k kind.prepare) (λ e. rw (eqb-true k kind.prepare e) held-prepare) (λ b.
-      by-test (eqb k kind.conc) (λ e. rw (eqb-true k kind.conc e) held-conc) (λ c.
-      by-test (eqb k kind.cert) (λ e. rw (eqb-true k kind.cert e) held-cert) (λ d.
-      by-test (eqb k kind.vote) (λ e. rw (eqb-true k kind.vote e) held-vote) (λ f.
-      by-test (eqb k kind.commit) (λ e. rw (eqb-true k kind.commit e) held-commit) (λ g.
-      by-test (eqb (heldNo kind.abort s h place) 0) (λ e. rw (j, l, a, b, c, d, f, g, e)) (λ e. rw (j, l, a, b, c, d, f, g, e))))))))
-
-module _ (s : Site) (h : MessageHead) (es lists : List ℕ) (place : ℕ) (l : ltb place sizes.live ≡ false) where
-  other-prepare : Kind s h es lists place kind.prepare
-  unfolding saidOf takeKind takeOther passPrepare spoken sendTo kindNo takenSaid
-  other-prepare = by-test (eqb (replyCode true (spentTo s (h .from))) 0) (λ e. rw (l, e)) (λ e. rw (l, e))
-
-  other-says : (k : ℕ) → eqb k kind.join ≡ false → Kind s h es lists place k
-  unfolding saidOf takeKind takeOther passed kindNo takenSaid
-  other-says k j =
-      by-test (eqb k kind.prepare) (λ e. rw (eqb-true k kind.prepare e) other-prepare) (λ e. rw (j, l, e, pick-same, pick-same))
-
-kind-says : (s : Site) (h : MessageHead) (es lists : List ℕ) (place k : ℕ) → Kind s h es lists place k
-kind-says s h es lists place k =
-    by-test (eqb k kind.join)
-    (λ e. rw (eqb-true k kind.join e) (join-says s h es lists place))
-    (λ e. by-test (ltb place sizes.live) (λ l. held-says s h es lists place l k e) (λ l. other-says s h es lists place l k e))
-
-pub message-says : (s : Site) (room : ℕ) (lists m : List ℕ) → saidOf (messageOf s room lists m .answer) ≡ messageSaid s room lists m
-unfolding saidOf messageOf messageAt messageSaid
-message-says s room lists m =
+pub message-taken : (s : Site) (room : ℕ) (lists m : List ℕ) → Takes (messageOf s room lists m) (messageSaid s lists m)
+unfolding messageOf messageAt messageSaid
+message-taken s room lists m =
     let h = messageHead m in
-    by-test (eqb (arrivalNo s room lists m) 0)
-    (λ e. by-test (eqb (nextNo s h) 0) (λ f. rw (e, f) (kind-says s h (messageEntries m) lists _ _)) (λ f. rw (e, f)))
-    (λ e. rw e)
+    past (arrivalCode (handedOk s lists) room (messageOk (s .house) m)) s lists _ _
+    (past (nextCode (h .to) (s .counters .own) (h .channel) (getD (s .channels .taken) (h .from - 1) 0)) s lists _ _
+    (kind-taken s h (messageEntries m) lists (placeOf (s .live) (h .tx)) (h .kind)))

@@ -1,2 +1,3 @@
+pub mod Taken
 pub mod Decisions
 pub mod Calls

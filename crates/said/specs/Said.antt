@@ -3,6 +3,8 @@ use Prim.Native.Nat.{ℕ}
 use mathlib.Core.List.{List, [], _∷_}
 use lib.Dec.{eqb}
 use Rattle.laws.specs.Choice.{pick}
+use Rattle.laws.specs.Cause.{Cause, firstIn}
+use Rattle.rules.specs.Refusals.{order}
 use Rattle.kinds.specs.declared.Answer.{Answer}
 use Rattle.kinds.specs.declared.Answer.the-variants.{Refused, Done, Begun, Found, Committed, Aborted, Installed, Reported, Emitted, Standing}
 
@@ -23,6 +25,6 @@ saidOf (Reported n) = ok (n ∷ [])
 saidOf (Emitted n c tx) = ok (n ∷ c ∷ tx ∷ [])
 saidOf (Standing v n c) = ok (v ∷ n ∷ c ∷ [])
 
--- a call's refusal, else what it says
-abbrev pub unlessNo : ℕ → Said → Said
-unlessNo code said = pick (eqb code 0) said (no code)
+-- a call of these causes says the number of the first that holds, and where none holds what it says once it is taken
+unfoldable pub unlessFirst : List Cause → Said → Said
+unlessFirst l said = pick (eqb (firstIn order l) 0) said (no (firstIn order l))
