@@ -10,15 +10,16 @@ use Rattle.laws.specs.Pair.{precedes}
 use Rattle.kinds.specs.Sizes as sizes
 use Rattle.kinds.specs.Stage as stage
 use Rattle.kinds.specs.declared.Answer.{Answer}
+use Rattle.kinds.specs.declared.Sub.{Sub}
+use Rattle.kinds.specs.State.{noSub}
 use Rattle.rules.specs.House.{siteOf, maskOf, wholeHouse}
 use Rattle.rules.specs.Keys.{dependent}
-use Rattle.rules.specs.Queue.{leastQueued, isDue, stateNumber}
 use Rattle.rules.specs.Begin.{beginOf}
-use Rattle.rules.specs.Access.{accessCode, readOf, writeOf}
-use Rattle.rules.specs.Install.{freshSite, installCode}
+use Rattle.rules.specs.Access.{readOf, writeOf}
+use Rattle.rules.specs.Install.{freshSite, installOf, reportOf}
 use Rattle.rules.specs.Merger.{emitOf}
 use Rattle.said.specs.Said.{Said, ok, abort, no, saidOf}
-use Rattle.points.specs.States.{queued, queueOf, wrote, read, versions, merging, headWords}
+use Rattle.points.specs.States.{queued, queueOf, queueing, wrote, read, versions, merging, headWords}
 
 -- the numbers of an answer: 0 and what follows `ok`, 1 and the reason of an abort, 2 and the cause of a refusal
 unfoldable pub numbersOf : Said → List ℕ
@@ -39,24 +40,23 @@ pub record Point : Type 0 where
 abbrev point : List ℕ → List ℕ → Point
 point a b = record { got = a; want = b }
 
+-- what an install answers at a site with that live table
+abbrev installs : List Sub → List ℕ
+installs live = said (installOf (queueing live) sizes.part (replicate sizes.keys 0) .answer)
+
 unfoldable pub points : List Point
 points =
     point (siteOf wholeHouse 255 ∷ siteOf wholeHouse 256 ∷ siteOf wholeHouse 2047 ∷ []) (1 ∷ 2 ∷ 8 ∷ [])
-    ∷ point (accessCode true sizes.keys wholeHouse 8 2048 0 stage.active ∷ []) (2 ∷ [])
+    ∷ point (said (readOf (freshSite 8 8) (replicate sizes.keys 0) 34359738369 2048 .answer)) (2 ∷ 2 ∷ [])
     ∷ point (said (beginOf (freshSite 2 1) .answer)) (0 ∷ 4294967297 ∷ [])
     ∷ point (said (beginOf (freshSite 2 2) .answer)) (0 ∷ 8589934593 ∷ [])
     ∷ point (yes (precedes 16777216 2 16777217 1)) (1 ∷ [])
     ∷ point (yes (precedes 7 1 7 2)) (1 ∷ [])
     ∷ point (bitOr (maskOf 1) (maskOf 3) ∷ []) (5 ∷ [])
-    ∷ point (leastQueued (queueOf (queued 1 stage.decided 4) (queued 2 stage.queued 4)) sizes.live ∷ []) (0 ∷ [])
-    ∷ point (yes (isDue (queueOf (queued 1 stage.decided 4) (queued 2 stage.queued 4)) 0)) (1 ∷ [])
-    ∷ point
-    (installCode true sizes.part sizes.keys
-    (isDue (queueOf (queued 1 stage.queued 4) (queued 2 stage.decided 4)) (leastQueued (queueOf (queued 1 stage.queued 4) (queued 2 stage.decided 4)) sizes.live))
-    0 ∷ [])
-    (17 ∷ [])
-    ∷ point (stateNumber (replicate sizes.live (queued 1 stage.free 0)) 9 sizes.live ∷ []) (9 ∷ [])
-    ∷ point (stateNumber (queueOf (queued 1 stage.queued 6) (queued 2 stage.decided 6)) 9 sizes.live ∷ []) (5 ∷ [])
+    ∷ point (installs (queueOf (queued 1 stage.decided 4) (queued 2 stage.queued 4))) (0 ∷ 4 ∷ 1 ∷ [])
+    ∷ point (installs (queueOf (queued 1 stage.queued 4) (queued 2 stage.decided 4))) (2 ∷ 17 ∷ [])
+    ∷ point (said (reportOf (queueing (replicate sizes.live noSub)) sizes.part .answer)) (0 ∷ 9 ∷ [])
+    ∷ point (said (reportOf (queueing (queueOf (queued 1 stage.queued 6) (queued 2 stage.decided 6))) sizes.part .answer)) (0 ∷ 5 ∷ [])
     ∷ point (said (readOf versions (replicate sizes.keys 0) 4294967301 5 .answer)) (0 ∷ 70 ∷ [])
     ∷ point (said (writeOf versions 4294967301 5 90 .answer)) (2 ∷ 10 ∷ [])
     ∷ point (said (emitOf (merging 4) sizes.merged (headWords ++ replicate (sizes.queues - length headWords) 0) .answer)) (2 ∷ 17 ∷ [])

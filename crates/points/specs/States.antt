@@ -29,6 +29,17 @@ queued c st number =
 unfoldable pub queueOf : Sub → Sub → List Sub
 queueOf a b = set (set (replicate sizes.live noSub) 0 a) 1 b
 
+-- site 1 of two with such a table, and nothing installed
+unfoldable pub queueing : List Sub → Site
+queueing live =
+    record {
+      house = record { sites = 2 };
+      counters = record { own = 1; clock = 9; serial = 1; installs = 0 };
+      channels = record { sent = replicate sizes.sites 0; taken = replicate sizes.sites 0 };
+      live = live;
+      history = replicate sizes.history noEntry;
+    }
+
 -- one key written
 unfoldable pub wrote : ℕ → ℕ → Keys
 wrote k v = record { read = 0; wrote = 1; reads = replicate sizes.reads 0; writes = set (replicate sizes.writes 0) 0 k; values = set (replicate sizes.writes 0) 0 v }

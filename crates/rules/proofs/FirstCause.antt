@@ -32,18 +32,29 @@ use Rattle.rules.specs.CertifyLaws.{concurrent-whole}
 use Rattle.rules.specs.Effect.{Effect, Change, turnAt, changed, unless}
 use Rattle.rules.specs.Course.{withReply, sendTo, quietly, raise, channelSpent, enlistStep, abortStep}
 use Rattle.rules.specs.Begin.{beginCode, beginOf, begun}
-use Rattle.rules.specs.Access.{readCauses, writeCauses, accessCode, readCode, writeCode, writeCodeAt, readAt, readVersion, readOf, writeAt, written, writeOf}
+use Rattle.rules.specs.Access.{readCauses, writeCauses, accessCode, readCode, writeCode, writeCodeAt, readAt, readVersion, readOf}
+use Rattle.rules.specs.Access.{writeAt, written, writeOf}
 use Rattle.rules.specs.Enlist.{isMine, enlistCauses, joinerCauses, enlistCode, joinerCode, enlistAt, enlistOf}
-use Rattle.rules.specs.Commit.{requestCauses, commitCauses, abandonCauses, commitChange, requestCode, commitCode, abandonCode, commitLists, commitOf, abandonOf}
-use Rattle.rules.specs.Deliver.{arrivalCauses, nextCauses, replyCauses, spentTo, spentToAll, concInTurn, gatherChange, arrivalCode, nextCode, replyCode, arrived, stepUnless, keeping, passed, spoken, joinAt, takeJoin, takeJoined, takePrepare, passPrepare, takeConc, gatherLists, takeCert, takeVote, takeCommit, takeAbort, takeHeld, takeOther, takeKind, messageAt, messageOf}
-use Rattle.rules.specs.Install.{reportCauses, installCode, installedAt, installOf, reportCode, reportOf, startCode, startCauses, startOf}
-use Rattle.rules.specs.Merger.{sourceAt, headsOf, headIn, leastSite, mergeCauses, mergePartCauses, mergeStateCauses, emitCauses, dueCauses, Merging, unlessMerger, mergePartCode, mergePart, mergeStateCode, mergeState, mergeCode, mergeOf, dueCode, emitDue, emitCode, emitOf, mergerStartCode, mergerStartCauses, mergerStartOf}
-use Rattle.rules.specs.Copy.{copyValue, copyNumber, copyCoordinator, replayCode, replayCauses, replayOf, valueCode, valueCauses, valueOf, copyStartCauses, copyStartOf}
+use Rattle.rules.specs.Commit.{requestCauses, commitCauses, abandonCauses, commitChange, requestCode, commitCode, abandonCode}
+use Rattle.rules.specs.Commit.{commitLists, commitOf, abandonOf}
+use Rattle.rules.specs.Deliver.{arrivalCauses, nextCauses, replyCauses, spentTo, spentToAll, concInTurn, gatherChange, arrivalCode}
+use Rattle.rules.specs.Deliver.{nextCode, replyCode, arrived, stepUnless, keeping, passed, spoken, joinAt, takeJoin, takeJoined}
+use Rattle.rules.specs.Deliver.{takePrepare, passPrepare, takeConc, gatherLists, takeCert, takeVote, takeCommit, takeAbort, takeHeld}
+use Rattle.rules.specs.Deliver.{takeOther, takeKind, messageAt, messageOf}
+use Rattle.rules.specs.Install.{reportCauses, installCode, installedAt, installOf, reportCode, reportOf, startCode, startCauses}
+use Rattle.rules.specs.Install.{startOf}
+use Rattle.rules.specs.Merger.{sourceAt, headsOf, headIn, leastSite, mergeCauses, mergePartCauses, mergeStateCauses, emitCauses}
+use Rattle.rules.specs.Merger.{dueCauses, Merging, unlessMerger, mergePartCode, mergePart, mergeStateCode, mergeState, mergeCode}
+use Rattle.rules.specs.Merger.{mergeOf, dueCode, emitDue, emitCode, emitOf, mergerStartCode, mergerStartCauses, mergerStartOf}
+use Rattle.rules.specs.Copy.{copyValue, copyNumber, copyCoordinator, replayCode, replayCauses, replayOf, valueCode, valueCauses}
+use Rattle.rules.specs.Copy.{valueOf, copyStartCauses, copyStartOf}
 use Rattle.rules.specs.Answers.{isRefused}
 use Rattle.rules.specs.World as world
 use Rattle.rules.specs.World.{World, Call, step, siteStep, logStep, mergerStep, mergeStep, copyStep, replayStep}
-use Rattle.rules.specs.Refusals.{order, beginHas, accessHas, readHas, writeHas, enlistHas, commitHas, abandonHas, heldHas, kindHas, messageHas, installHas, mergeHas, emitHas, causesOf, ByFirst, FirstCause}
-use Rattle.rules.proofs.Spoken.{Speaks, enlist-speaks, abort-speaks, quietly-speaks, prepared-speaks, certified-speaks, vote-speaks, vote-known}
+use Rattle.rules.specs.Refusals.{order, beginHas, accessHas, readHas, writeHas, enlistHas, commitHas, abandonHas, heldHas, kindHas}
+use Rattle.rules.specs.Refusals.{messageHas, installHas, mergeHas, emitHas, causesOf, ByFirst, FirstCause}
+use Rattle.rules.proofs.Spoken.{Speaks, enlist-speaks, abort-speaks, quietly-speaks, prepared-speaks, certified-speaks, vote-speaks}
+use Rattle.rules.proofs.Spoken.{vote-known}
 use Rattle.rules.proofs.KnownWords.{commit-speaks}
 use Rattle.rules.proofs.GoesOn.{gather-speaks}
 
@@ -64,7 +75,8 @@ accepted : (a : Answer) → isRefused a ≡ false → By a []
 accepted a f = record { refused = λ n. absurd (n refl); taken = λ z. f }
 
 -- one list looked at, then another
-then-by : (l m : List Cause) (a b : Answer) → numbered l ≡ true → By a m → (codeOf l ≡ 0 → b ≡ a) → ((codeOf l ≡ 0 → ⊥) → b ≡ Refused (codeOf l)) → By b (l ++ m)
+then-by : (l m : List Cause) (a b : Answer) → numbered l ≡ true → By a m → (codeOf l ≡ 0 → b ≡ a)
+    → ((codeOf l ≡ 0 → ⊥) → b ≡ Refused (codeOf l)) → By b (l ++ m)
 then-by l m a b k x f g =
     by-test (eqb (codeOf l) 0)
     (λ t. let z = eqb-true _ _ t in
@@ -74,7 +86,8 @@ then-by l m a b k x f g =
     let e : codeOf (l ++ m) ≡ codeOf l = code-append l m k ∙ rw t in
     record { refused = λ y. g n ∙ ap Refused (sym e); taken = λ y. absurd (n (sym e ∙ y)) })
 
-unless-by : (l m : List Cause) (s : Site) (lent : List ℕ) (e : Effect) → numbered l ≡ true → By (e .answer) m → By (unless (codeOf l) s lent e .answer) (l ++ m)
+unless-by : (l m : List Cause) (s : Site) (lent : List ℕ) (e : Effect) → numbered l ≡ true → By (e .answer) m
+    → By (unless (codeOf l) s lent e .answer) (l ++ m)
 unless-by l m s lent e k x = then-by l m (e .answer) _ k x (λ z. rw z) (λ n. rw (ne-eqb _ 0 n))
 
 merger-by : (l m : List Cause) (g : Merger) (queues : List ℕ) (e : Merging) → numbered l ≡ true → By (e .answer) m
@@ -82,10 +95,12 @@ merger-by : (l m : List Cause) (g : Merger) (queues : List ℕ) (e : Merging) �
 merger-by l m g queues e k x = then-by l m (e .answer) _ k x (λ z. rw z) (λ n. rw (ne-eqb _ 0 n))
 
 -- one list alone
-alone-by : (l : List Cause) (a b : Answer) → isRefused a ≡ false → (codeOf l ≡ 0 → b ≡ a) → ((codeOf l ≡ 0 → ⊥) → b ≡ Refused (codeOf l)) → By b l
+alone-by : (l : List Cause) (a b : Answer) → isRefused a ≡ false → (codeOf l ≡ 0 → b ≡ a) → ((codeOf l ≡ 0 → ⊥) → b ≡ Refused (codeOf l))
+    → By b l
 alone-by l a b f g h = record { refused = h; taken = λ z. rw (g z) f }
 
-only-by : (l : List Cause) (s : Site) (lent : List ℕ) (e : Effect) → isRefused (e .answer) ≡ false → By (unless (codeOf l) s lent e .answer) l
+only-by : (l : List Cause) (s : Site) (lent : List ℕ) (e : Effect) → isRefused (e .answer) ≡ false
+    → By (unless (codeOf l) s lent e .answer) l
 only-by l s lent e f = alone-by l (e .answer) _ f (λ z. rw z) (λ n. rw (ne-eqb _ 0 n))
 
 -- Begin, read, write, enlist.
@@ -100,7 +115,8 @@ read-by s base tx k =
     let b = subAt s place in
     let more = readCauses (isForgotten (s .counters .installs) (b .snapshot)) (readKey (b .keys) k) (b .keys .read) in
     by-test (wroteKey (b .keys) k)
-    (λ t. rw t (by-first _ (accessHas s (length base) tx k ++ []) refl (unless-by (accessHas s (length base) tx k) [] s [] _ refl (accepted _ refl))))
+    (λ t. rw t (by-first _ (accessHas s (length base) tx k ++ []) refl
+    (unless-by (accessHas s (length base) tx k) [] s [] _ refl (accepted _ refl))))
     (λ t. rw t (by-first _ (accessHas s (length base) tx k ++ more) refl
     (unless-by (accessHas s (length base) tx k) more s [] _ refl (only-by more s [] (readVersion s base place k) refl))))
 
@@ -110,9 +126,11 @@ write-by s tx k v =
     let place = placeOf (s .live) tx in
     let b = subAt s place in
     let n = s .counters .installs in
-    let more = writeCauses (isForgotten n (b .snapshot)) (keyHeld (s .live) place k) (isNewer (s .history) n (b .snapshot) k) (b .keys .wrote) in
+    let more = writeCauses (isForgotten n (b .snapshot)) (keyHeld (s .live) place k) (isNewer (s .history) n (b .snapshot) k)
+    (b .keys .wrote) in
     by-test (wroteKey (b .keys) k)
-    (λ t. rw t (by-first _ (accessHas s sizes.keys tx k ++ []) refl (unless-by (accessHas s sizes.keys tx k) [] s [] _ refl (accepted _ refl))))
+    (λ t. rw t (by-first _ (accessHas s sizes.keys tx k ++ []) refl
+    (unless-by (accessHas s sizes.keys tx k) [] s [] _ refl (accepted _ refl))))
     (λ t. rw t (by-first _ (accessHas s sizes.keys tx k ++ more) refl
     (unless-by (accessHas s sizes.keys tx k) more s [] _ refl (only-by more s [] (written s place k v) refl))))
 
@@ -124,7 +142,8 @@ enlist-by s room tx site =
     let first = enlistCauses (siteOk s) room (isSite (s .house) site) place (isMine s tx) in
     let more = joinerCauses (c .stage) (eqb site (s .counters .own)) (inMask (c .mask) site) (channelSpent (s .channels) site) in
     by-first _ (first ++ more) refl
-    (unless-by first more s [] _ refl (only-by more s [] (changed s place (enlistStep (turnAt s place) site) []) (enlist-speaks (turnAt s place) site .accepts)))
+    (unless-by first more s [] _ refl
+    (only-by more s [] (changed s place (enlistStep (turnAt s place) site) []) (enlist-speaks (turnAt s place) site .accepts)))
 
 -- Commit and abandon.
 pub commit-by : (s : Site) (room : ℕ) (lists : List ℕ) (tx : ℕ) → ByFirst (commitOf s room lists tx .answer) (commitHas s room lists tx)
@@ -148,7 +167,8 @@ abandon-by s room tx =
     let more = abandonCauses (c .stage) (countsLow (s .channels .sent) (c .mask) (s .counters .own)) in
     by-first _ (first ++ more) refl
     (unless-by first more s [] _ refl
-    (only-by more s [] (changed s place (abortStep (turnAt s place) reason.abandoned) []) (abort-speaks (turnAt s place) reason.abandoned .accepts)))
+    (only-by more s [] (changed s place (abortStep (turnAt s place) reason.abandoned) [])
+    (abort-speaks (turnAt s place) reason.abandoned .accepts)))
 
 -- Install and report.
 pub install-by : (s : Site) (room : ℕ) (base : List Value) → ByFirst (installOf s room base .answer) (installHas s room base)
@@ -170,7 +190,8 @@ module _ (s : Site) (h : MessageHead) (lists : List ℕ) where
   unfolding replyCode
   reply-by turn spent lent e f = record { by = only-by (replyCauses turn spent) s lent e f; form = inr (turn, spent, refl) }
 
-  step-by : (turn spent : Bool) (place : ℕ) (c : Change) → Speaks c → Last (keeping lists (stepUnless (replyCode turn spent) s place c) .answer) (replyCauses turn spent)
+  step-by : (turn spent : Bool) (place : ℕ) (c : Change) → Speaks c
+      → Last (keeping lists (stepUnless (replyCode turn spent) s place c) .answer) (replyCauses turn spent)
   step-by turn spent place c x = reply-by turn spent [] (changed s place c []) (x .accepts)
 
   conc-by : (place : ℕ) (es : List ℕ) → (let c = subAt s place .course in
@@ -240,7 +261,8 @@ message-by s room lists m =
     x : Last (takeKind (h .kind) s h (messageEntries m) lists (placeOf (s .live) (h .tx)) .answer) last
     x = kind-by s h lists (h .kind) (placeOf (s .live) (h .tx)) (messageEntries m)
 
-    in-order : (last ≡ []) ⊎ ((turn : Bool) × (spent : Bool) × (last ≡ replyCauses turn spent)) → inOrder order (first ++ (next ++ last)) ≡ true
+    in-order : (last ≡ []) ⊎ ((turn : Bool) × (spent : Bool) × (last ≡ replyCauses turn spent))
+        → inOrder order (first ++ (next ++ last)) ≡ true
     in-order (inl e) = rw e refl
     in-order (inr (turn, spent, e)) = rw e refl
 
@@ -253,9 +275,11 @@ merge-by g queues m =
     let first = mergeCauses g queues m in
     by-test (eqb (r .kind) kind.part)
     (λ t. rw t (by-first _ (first ++ mergePartCauses c r) refl
-    (merger-by first (mergePartCauses c r) g queues _ refl (alone-by (mergePartCauses c r) Done _ refl (λ z. rw z) (λ n. rw (ne-eqb _ 0 n))))))
+    (merger-by first (mergePartCauses c r) g queues _ refl
+    (alone-by (mergePartCauses c r) Done _ refl (λ z. rw z) (λ n. rw (ne-eqb _ 0 n))))))
     (λ t. rw t (by-first _ (first ++ mergeStateCauses c r) refl
-    (merger-by first (mergeStateCauses c r) g queues _ refl (alone-by (mergeStateCauses c r) Done _ refl (λ z. rw z) (λ n. rw (ne-eqb _ 0 n))))))
+    (merger-by first (mergeStateCauses c r) g queues _ refl
+    (alone-by (mergeStateCauses c r) Done _ refl (λ z. rw z) (λ n. rw (ne-eqb _ 0 n))))))
 
 pub emit-by : (g : Merger) (room : ℕ) (queues : List ℕ) → ByFirst (emitOf g room queues .answer) (emitHas g room queues)
 unfolding emitOf emitCode emitDue dueCode emitHas order
@@ -278,7 +302,8 @@ pub value-by : (copy : List ℕ) (k : ℕ) → ByFirst (valueOf copy k) (valueCa
 unfolding valueOf valueCode order
 value-by copy k =
     by-first _ (valueCauses copy k) refl
-    (alone-by (valueCauses copy k) (Standing (copyValue copy k) (copyNumber copy) (copyCoordinator copy)) _ refl (λ z. rw z) (λ n. rw (ne-eqb _ 0 n)))
+    (alone-by (valueCauses copy k) (Standing (copyValue copy k) (copyNumber copy) (copyCoordinator copy)) _ refl (λ z. rw z)
+    (λ n. rw (ne-eqb _ 0 n)))
 
 call-by : (w : World) (c : Call) → ByFirst (step w c .answer) (causesOf w c)
 unfolding step siteStep logStep mergerStep mergeStep copyStep replayStep
@@ -313,7 +338,8 @@ pub copy-start-by : (copy : List ℕ) → ByFirst (copyStartOf copy .answer) (co
 unfolding copyStartOf order
 copy-start-by copy =
     by-test (eqb (length copy) sizes.copy)
-    (λ t. rw t (by-first _ (cause false reason.malformed ∷ []) refl (alone-by (cause false reason.malformed ∷ []) Done _ refl (λ z. refl) (λ n. absurd (n refl)))))
+    (λ t. rw t (by-first _ (cause false reason.malformed ∷ []) refl
+    (alone-by (cause false reason.malformed ∷ []) Done _ refl (λ z. refl) (λ n. absurd (n refl)))))
     (λ t. rw t (by-first _ (cause true reason.malformed ∷ []) refl (record { refused = λ n. refl; taken = λ z. absurd (omega arith) })))
 
 pub first-cause : FirstCause

@@ -35,7 +35,8 @@ use Rattle.rules.specs.Commit.{requestCauses, commitCauses, abandonCause
 use Rattle.rules.specs.Deliver.{arrivalCauses, nextCauses, replyCauses, spentTo, spentToAll, joinedInTurn, concInTurn, voteInTurn}
 use Rattle.rules.specs.Install.{installCauses, reportCauses, startCauses, startOf}
 use Rattle.rules.specs.Merger as merger
-use Rattle.rules.specs.Merger.{sourceAt, headsOf, leastSite, mergerStartCauses, mergeCauses, mergePartCauses, mergeStateCauses, emitCauses, dueCauses, mergerStartOf}
+use Rattle.rules.specs.Merger.{sourceAt, headsOf, leastSite, mergerStartCauses, mergeCauses, mergePartCauses, mergeStateCauses}
+use Rattle.rules.specs.Merger.{emitCauses, dueCauses, mergerStartOf}
 use Rattle.rules.specs.Copy.{replayCauses, valueCauses, copyStartCauses, copyStartOf}
 use Rattle.rules.specs.Answers.{isRefused}
 use Rattle.rules.specs.World as world
@@ -110,7 +111,8 @@ unfoldable pub abandonHas : Site → ℕ → ℕ → List Cause
 abandonHas s room tx =
     let place = placeOf (s .live) tx in
     let c = subAt s place .course in
-    requestCauses (siteOk s) room place (isMine s tx) ++ abandonCauses (c .stage) (countsLow (s .channels .sent) (c .mask) (s .counters .own))
+    requestCauses (siteOk s) room place (isMine s tx)
+    ++ abandonCauses (c .stage) (countsLow (s .channels .sent) (c .mask) (s .counters .own))
 
 -- a message of kind k for a part held at `place`: its turn, and the channels that its answer needs
 unfoldable pub heldHas : ℕ → Site → MessageHead → ℕ → List Cause
@@ -124,7 +126,8 @@ heldHas k s h place =
     (pick (eqb k kind.cert) (replyCauses (eqb (c .stage) stage.prepared) (spentTo s (h .from)))
     (pick (eqb k kind.vote)
     (replyCauses (voteInTurn c (h .from) (h .argument)) (every (voteDecides own c (h .from) (h .argument) ∷ spentToAll s (c .mask) ∷ [])))
-    (pick (eqb k kind.commit) (replyCauses (eqb (c .stage) stage.queued) false) (replyCauses (not (eqb (c .stage) stage.decided)) false))))))
+    (pick (eqb k kind.commit) (replyCauses (eqb (c .stage) stage.queued) false)
+    (replyCauses (not (eqb (c .stage) stage.decided)) false))))))
 
 -- for one not held only PREPARE is answered, and JOIN begins it
 unfoldable pub kindHas : ℕ → Site → MessageHead → ℕ → List Cause

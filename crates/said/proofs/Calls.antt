@@ -25,7 +25,8 @@ use Rattle.rules.specs.Access.{accessCode, readCode, writeCodeAt, readVersion, 
 use Rattle.rules.specs.Enlist.{isMine, enlistCode, joinerCode, enlistAt, enlistOf}
 use Rattle.rules.specs.Commit.{requestCode, abandonCode, abandonOf}
 use Rattle.rules.specs.Install.{installCode, reportCode, installedAt, installOf, reportOf, startCode, startOf}
-use Rattle.rules.specs.Merger.{sourceAt, headsOf, leastSite, mergeCode, mergePartCode, mergeStateCode, emitCode, dueCode, mergerStartCode, mergerStartOf, mergePart, mergeState, mergeOf, emitDue, emitOf}
+use Rattle.rules.specs.Merger.{sourceAt, headsOf, leastSite, mergeCode, mergePartCode, mergeStateCode, emitCode, dueCode, mergerStartCode}
+use Rattle.rules.specs.Merger.{mergerStartOf, mergePart, mergeState, mergeOf, emitDue, emitOf}
 use Rattle.rules.specs.Copy.{copyStartOf, replayCode, replayOf, valueCode, valueOf}
 use Rattle.rules.proofs.FirstCause.{begin-by, read-by, write-by, enlist-by, commit-by, abandon-by, install-by, report-by, message-by}
 use Rattle.rules.proofs.FirstCause.{merge-by, emit-by, replay-by, value-by, start-by, merger-start-by, copy-start-by}
@@ -88,7 +89,8 @@ install-taken : (s : Site) (room : ℕ) (base : List Value) → Takes (installOf
 unfolding saidOf installOf installedAt installSaid
 install-taken s room base =
     let place = leastQueued (s .live) sizes.live in
-    past (installCode (siteOk s) room (length base) (isDue (s .live) place) (s .counters .installs)) s base _ _ (record { said = λ r. refl })
+    past (installCode (siteOk s) room (length base) (isDue (s .live) place) (s .counters .installs)) s base _ _
+    (record { said = λ r. refl })
 
 report-taken : (s : Site) (room : ℕ) → Takes (reportOf s room) (reportSaid s)
 unfolding saidOf reportOf reportSaid
@@ -106,8 +108,10 @@ merge-taken g queues m =
     let r = recordHead m in
     let c = sourceAt g (r .site - 1) in
     by-test (eqb (r .kind) kind.part)
-    (λ p. rw p (past-merger (mergeCode g queues m) g queues _ _ (past-merger (mergePartCode c r) g queues _ _ (record { said = λ r. refl }))))
-    (λ p. rw p (past-merger (mergeCode g queues m) g queues _ _ (past-merger (mergeStateCode c r) g queues _ _ (record { said = λ r. refl }))))
+    (λ p. rw p (past-merger (mergeCode g queues m) g queues _ _
+    (past-merger (mergePartCode c r) g queues _ _ (record { said = λ r. refl }))))
+    (λ p. rw p (past-merger (mergeCode g queues m) g queues _ _
+    (past-merger (mergeStateCode c r) g queues _ _ (record { said = λ r. refl }))))
 
 emit-taken : (g : Merger) (room : ℕ) (queues : List ℕ) → MergerTakes (emitOf g room queues) (emitSaid g queues)
 unfolding saidOf emitOf emitDue emitSaid

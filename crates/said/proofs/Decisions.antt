@@ -20,13 +20,16 @@ use Rattle.rules.specs.Enlist.{isMine}
 use Rattle.rules.specs.Live.{placeOf, freePlace, allHeard}
 use Rattle.rules.specs.Certify.{concurrent}
 use Rattle.rules.specs.Effect.{turnAt}
-use Rattle.rules.specs.Course.{raise, sendTo, sendAll, quietly, abortStep, commitStep, decideStep, castStep, withMark, withRequest, prepareStep}
+use Rattle.rules.specs.Course.{raise, sendTo, sendAll, quietly, abortStep, commitStep, decideStep, castStep, withMark, withRequest}
+use Rattle.rules.specs.Course.{prepareStep}
 use Rattle.rules.specs.Course.{withReply, voteStep, preparedStep, certifiedStep}
 use Rattle.rules.specs.Commit.{requestCode, commitCode, isFull, isLost, requestChange, commitChange, commitOf}
-use Rattle.rules.specs.Deliver.{arrivalCode, nextCode, replyCode, spentTo, spentToAll, concInTurn, gatherLists, keeping, arrived, passed, spoken, joinAt, takeJoin, takeJoined, takePrepare, passPrepare, gatherChange, takeConc}
+use Rattle.rules.specs.Deliver.{arrivalCode, nextCode, replyCode, spentTo, spentToAll, concInTurn, gatherLists, keeping, arrived, passed}
+use Rattle.rules.specs.Deliver.{spoken, joinAt, takeJoin, takeJoined, takePrepare, passPrepare, gatherChange, takeConc}
 use Rattle.rules.specs.Deliver.{takeCert, takeVote, takeCommit, takeAbort, takeHeld, takeOther, takeKind, messageAt, messageOf}
 use Rattle.said.specs.Said.{ok, saidOf}
-use Rattle.said.specs.Decided.{replied, alone, listHeard, voteHeard, decidedSaid, castSaid, requestSaid, commitSaid, concSaid, voteSaid}
+use Rattle.said.specs.Decided.{replied, alone, listHeard, voteHeard, decidedSaid, castSaid, requestSaid, commitSaid, concSaid}
+use Rattle.said.specs.Decided.{voteSaid}
 use Rattle.said.specs.Decided.{takenSaid, messageSaid}
 use Rattle.said.proofs.Taken.{Takes, past, step-takes}
 

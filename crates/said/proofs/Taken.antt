@@ -38,7 +38,8 @@ past code s lent e o x = by-test (eqb code 0) (λ t. rw t x) (λ t. rw t (record
 pub record MergerTakes (e : Merging) (o : Said) : Type 0 where
   pub said : Taken (e .answer) o
 
-pub past-merger : (code : ℕ) (g : Merger) (queues : List ℕ) (e : Merging) (o : Said) → MergerTakes e o → MergerTakes (unlessMerger code g queues e) o
+pub past-merger : (code : ℕ) (g : Merger) (queues : List ℕ) (e : Merging) (o : Said) → MergerTakes e o
+    → MergerTakes (unlessMerger code g queues e) o
 past-merger code g queues e o x = by-test (eqb code 0) (λ t. rw t x) (λ t. rw t (record { said = λ r. absurd (set-not _ refl r) }))
 
 -- a step at a place, and its refusal

@@ -24,7 +24,8 @@ use Rattle.rules.specs.Commit.{commitOf, abandonOf}
 use Rattle.rules.specs.Deliver.{messageOf}
 use Rattle.rules.specs.Install.{installOf, reportCauses, reportOf, startCauses, startOf}
 use Rattle.rules.specs.Merger.{mergerStartCauses, mergerStartOf, mergeOf, dueHead, emitOf}
-use Rattle.rules.specs.Copy.{copyNumber, copyCoordinator, copyValue, copyStartCauses, copyStartOf, replayCauses, replayOf, valueCauses, valueOf}
+use Rattle.rules.specs.Copy.{copyNumber, copyCoordinator, copyValue, copyStartCauses, copyStartOf, replayCauses, replayOf, valueCauses}
+use Rattle.rules.specs.Copy.{valueOf}
 use Rattle.rules.specs.Refusals.{beginHas, readHas, writeHas, enlistHas, commitHas, abandonHas, messageHas, installHas, mergeHas, emitHas}
 use Rattle.said.specs.Said.{Said, ok, abort, saidOf, unlessFirst}
 use Rattle.said.specs.Decided.{commitSaid, messageSaid}
@@ -53,22 +54,27 @@ valueSaid copy k = ok (copyValue copy k ∷ copyNumber copy ∷ copyCoordinator 
 
 -- Each call's answer, which its contract gives by the rule cited here, says its first cause of refusal, else just that.
 pub record Says : Type 0 where
-  pub site-starts : (sites own base lists : ℕ) → saidOf (startOf sites own base lists .answer) ≡ unlessFirst (startCauses sites own base lists) (ok [])
+  pub site-starts : (sites own base lists : ℕ)
+      → saidOf (startOf sites own base lists .answer) ≡ unlessFirst (startCauses sites own base lists) (ok [])
   pub begins : (s : Site) → saidOf (beginOf s .answer) ≡ unlessFirst (beginHas s) (ok (nextTx (s .counters) ∷ []))
   pub enlists : (s : Site) (room tx site : ℕ) → saidOf (enlistOf s room tx site .answer) ≡ unlessFirst (enlistHas s room tx site) (ok [])
-  pub reads : (s : Site) (base : List Value) (tx k : ℕ) → saidOf (readOf s base tx k .answer) ≡ unlessFirst (readHas s base tx k) (readSaid s base tx k)
+  pub reads : (s : Site) (base : List Value) (tx k : ℕ)
+      → saidOf (readOf s base tx k .answer) ≡ unlessFirst (readHas s base tx k) (readSaid s base tx k)
   pub writes : (s : Site) (tx k : ℕ) (v : Value) → saidOf (writeOf s tx k v .answer) ≡ unlessFirst (writeHas s tx k) (ok [])
   pub commits : (s : Site) (room : ℕ) (lists : List ℕ) (tx : ℕ)
       → saidOf (commitOf s room lists tx .answer) ≡ unlessFirst (commitHas s room lists tx) (commitSaid s tx)
-  pub abandons : (s : Site) (room tx : ℕ) → saidOf (abandonOf s room tx .answer) ≡ unlessFirst (abandonHas s room tx) (abort reason.abandoned)
+  pub abandons : (s : Site) (room tx : ℕ)
+      → saidOf (abandonOf s room tx .answer) ≡ unlessFirst (abandonHas s room tx) (abort reason.abandoned)
   pub takes : (s : Site) (room : ℕ) (lists m : List ℕ)
       → saidOf (messageOf s room lists m .answer) ≡ unlessFirst (messageHas s room lists m) (messageSaid s lists m)
-  pub installs : (s : Site) (room : ℕ) (base : List Value) → saidOf (installOf s room base .answer) ≡ unlessFirst (installHas s room base) (installSaid s)
+  pub installs : (s : Site) (room : ℕ) (base : List Value)
+      → saidOf (installOf s room base .answer) ≡ unlessFirst (installHas s room base) (installSaid s)
   pub reports : (s : Site) (room : ℕ) → saidOf (reportOf s room .answer) ≡ unlessFirst (reportCauses (siteOk s) room) (reportSaid s)
   pub merger-starts : (sites : ℕ) (queues : List ℕ)
       → saidOf (mergerStartOf sites queues .answer) ≡ unlessFirst (mergerStartCauses sites (length queues)) (ok [])
   pub merges : (g : Merger) (queues m : List ℕ) → saidOf (mergeOf g queues m .answer) ≡ unlessFirst (mergeHas g queues m) (ok [])
-  pub emits : (g : Merger) (room : ℕ) (queues : List ℕ) → saidOf (emitOf g room queues .answer) ≡ unlessFirst (emitHas g room queues) (emitSaid g queues)
+  pub emits : (g : Merger) (room : ℕ) (queues : List ℕ)
+      → saidOf (emitOf g room queues .answer) ≡ unlessFirst (emitHas g room queues) (emitSaid g queues)
   pub copy-starts : (copy : List ℕ) → saidOf (copyStartOf copy .answer) ≡ unlessFirst (copyStartCauses copy) (ok [])
   pub replays : (copy m : List ℕ) → saidOf (replayOf copy m .answer) ≡ unlessFirst (replayCauses copy m) (replaySaid m)
   pub values : (copy : List ℕ) (k : ℕ) → saidOf (valueOf copy k) ≡ unlessFirst (valueCauses copy k) (valueSaid copy k)

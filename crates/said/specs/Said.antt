@@ -6,7 +6,8 @@ use Rattle.laws.specs.Choice.{pick}
 use Rattle.laws.specs.Cause.{Cause, firstIn}
 use Rattle.rules.specs.Refusals.{order}
 use Rattle.kinds.specs.declared.Answer.{Answer}
-use Rattle.kinds.specs.declared.Answer.the-variants.{Refused, Done, Begun, Found, Committed, Aborted, Installed, Reported, Emitted, Standing}
+use Rattle.kinds.specs.declared.Answer.the-variants.{Refused, Done, Begun, Found, Committed, Aborted, Installed, Reported, Emitted}
+use Rattle.kinds.specs.declared.Answer.the-variants.{Standing}
 
 pub data Said : Type 0 where
   ok : List ℕ → Said

@@ -8,7 +8,8 @@ use Rattle.numbers.proofs.replies_wanted.Statement.{statement}
 use Rattle.numbers.proofs.replies_wanted.Tie as tie
 
 -- what is counted
-counted : (c : tie.After-participants) → c .participants .result ≡ participants (bitOr (c .before .before .args .mask) (maskOf (c .before .before .args .own)))
+counted : (c : tie.After-participants)
+    → c .participants .result ≡ participants (bitOr (c .before .before .args .mask) (maskOf (c .before .before .args .own)))
 counted c = rw (← c .before .mask-of .ensures) (c .participants .ensures)
 
 mask-of-requires : tie.Need-mask-of-requires

@@ -8,7 +8,8 @@ use denote.Enum.Declared.{tagOf}
 use types.Run.{OneOf, miss}
 use Rattle.kinds.proofs.Answer.{the-type}
 use Rattle.kinds.specs.declared.Answer.{Answer}
-use Rattle.kinds.specs.declared.Answer.the-variants.{Refused, Done, Begun, Found, Committed, Aborted, Installed, Reported, Emitted, Standing}
+use Rattle.kinds.specs.declared.Answer.the-variants.{Refused, Done, Begun, Found, Committed, Aborted, Installed, Reported, Emitted}
+use Rattle.kinds.specs.declared.Answer.the-variants.{Standing}
 use Rattle.rules.specs.Answers.{isRefused}
 use Rattle.pages.proofs.is_refused.Statement.{statement}
 use Rattle.pages.proofs.is_refused.Tie as tie

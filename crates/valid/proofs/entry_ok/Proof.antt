@@ -46,7 +46,8 @@ is-tx-requires c κs = search needs
 returns-4 : tie.Need-returns-4
 unfolding entryOk
 returns-4 c = let k = c .before .before in
-    simp (mask-good (k .before .before), keys-good k, not-false (start k .args .used) (c .before .if3 .left), ← c .is-tx .ensures) (sym (pick-self (c .is-tx .result)))
+    simp (mask-good (k .before .before), keys-good k, not-false (start k .args .used) (c .before .if3 .left), ← c .is-tx .ensures)
+    (sym (pick-self (c .is-tx .result)))
 
 pub entry-ok-spec : {M : Type 1} → statement M
 entry-ok-spec =

@@ -14,7 +14,8 @@ use Rattle.valid.proofs.history_ok.Statement.{statement}
 use Rattle.valid.proofs.history_ok.Tie as tie
 
 abbrev Inv-loop : tie.InvT-loop
-Inv-loop o own installs history n i₀ i = (i ≤ 32) × EachBelow (λ j. entryOk o own (ltb j (remembered installs)) (getD history j pastEntry)) i
+Inv-loop o own installs history n i₀ i = (i ≤ 32) × EachBelow
+    (λ j. entryOk o own (ltb j (remembered installs)) (getD history j pastEntry)) i
 
 abbrev μ-loop : tie.MeasureT-loop
 μ-loop o own installs history n i₀ i = 32 - i
@@ -36,7 +37,8 @@ entry-ok-requires c κs = let body = c .before .before in body .before .before .
 
 -- what the test of the loop's entry says
 told : (c : tie.After-entry-ok Inv-loop μ-loop) → (let body = c .before .before .before in let start = body .before .before in
-    c .entry-ok .result ≡ entryOk (start .args .o) (start .args .own) (ltb (body .loop .i) (remembered (start .args .installs))) (getD (start .args .t4) (body .loop .i) pastEntry))
+    c .entry-ok .result ≡ entryOk (start .args .o) (start .args .own) (ltb (body .loop .i) (remembered (start .args .installs)))
+    (getD (start .args .t4) (body .loop .i) pastEntry))
 told c = let body = c .before .before .before in rw (body .before .remembered .ensures) at (c .entry-ok .ensures)
 
 returns : tie.Need-returns Inv-loop μ-loop

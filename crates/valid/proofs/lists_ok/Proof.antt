@@ -54,7 +54,8 @@ list-ok-requires c κs =
 
 -- what the test of the loop's list says
 told : (c : tie.After-list-ok Inv-loop μ-loop) → (let place = c .before .before .before in let start = place .before .before .before in
-    c .list-ok .result ≡ gatheredOk (start .args .o) (getD (start .args .t2) (place .before .loop .i) pastSub) (listAt (start .args .lists .now) (place .before .loop .i)))
+    c .list-ok .result ≡ gatheredOk (start .args .o) (getD (start .args .t2) (place .before .loop .i) pastSub)
+    (listAt (start .args .lists .now) (place .before .loop .i)))
 unfolding gatheredOk
 told c =
     let place = c .before .before .before in
@@ -65,7 +66,8 @@ returns : tie.Need-returns Inv-loop μ-loop
 unfolding listsOk
 returns c =
     let place = c .before .before .before in
-    not-all-below _ _ (place .before .before .loop .i) (place .before .loop-test .taken) (sym (told (c .before)) ∙ not-true _ (c .if1 .taken))
+    not-all-below _ _ (place .before .before .loop .i) (place .before .loop-test .taken)
+    (sym (told (c .before)) ∙ not-true _ (c .if1 .taken))
 
 add-i : tie.Need-add-i Inv-loop μ-loop
 add-i c = search needs

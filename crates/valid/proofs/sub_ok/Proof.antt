@@ -13,7 +13,8 @@ use Rattle.valid.proofs.sub_ok.Tie as tie
 course-good : (c : tie.Else1) → (let a = c .before .before .before .before .args in courseOk (a .o) (a .own) (a .b .course) ≡ true)
 course-good c = sym (c .before .course-ok .ensures) ∙ not-false _ (c .if1 .left)
 
-keys-good : (c : tie.Else2) → (let p = c .before .before .before in let a = p .before .before .before .args in keysOk (a .o) (a .own) (a .b .keys) ≡ true)
+keys-good : (c : tie.Else2) →
+    (let p = c .before .before .before in let a = p .before .before .before .args in keysOk (a .o) (a .own) (a .b .keys) ≡ true)
 keys-good c = sym (c .before .keys-ok .ensures) ∙ not-false _ (c .if2 .left)
 
 course-ok-requires : tie.Need-course-ok-requires

@@ -19,13 +19,23 @@ returns-3 : tie.Need-returns-3
 unfolding arrivalCode
 returns-3 c =
     let a = c .before .before .before .args in
-    simp (le-ltb (a .room) sizes.outgoing (c .before .before .if1 .left), not-false (a .ok) (c .before .if2 .left), not-true (a .fine) (c .if3 .taken))
+    simp (
+      le-ltb (a .room) sizes.outgoing (c .before .before .if1 .left),
+      not-false (a .ok) (c .before .if2 .left),
+      not-true (a .fine)
+          (c .if3 .taken),
+    )
 
 returns-4 : tie.Need-returns-4
 unfolding arrivalCode
 returns-4 c =
     let a = c .before .before .before .args in
-    simp (le-ltb (a .room) sizes.outgoing (c .before .before .if1 .left), not-false (a .ok) (c .before .if2 .left), not-false (a .fine) (c .if3 .left))
+    simp (
+      le-ltb (a .room) sizes.outgoing (c .before .before .if1 .left),
+      not-false (a .ok) (c .before .if2 .left),
+      not-false (a .fine)
+          (c .if3 .left),
+    )
 
 pub arrival-code-spec : {M : Type 1} → statement M
 arrival-code-spec = tie.close (tie.spec returns returns-2 returns-3 returns-4)

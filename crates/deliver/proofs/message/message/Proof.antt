@@ -32,7 +32,8 @@ passed c =
     let a = start c .args in
     let look = c .before .before in
     let handed = look .before .before .handed-ok in
-    checked (a .s) (length (a .out .now)) (a .lists .now) (a .m .now) (handed .result) (look .formed .result) (handed .ensures) (look .formed .ensures)
+    checked (a .s) (length (a .out .now)) (a .lists .now) (a .m .now) (handed .result) (look .formed .result) (handed .ensures)
+    (look .formed .ensures)
     (sym (c .before .arrival-code .ensures) ∙ c .if1 .left)
 
 -- the code of the channel is the rule's
@@ -79,7 +80,8 @@ sub-from : tie.Need-sub-from
 sub-from c = rw (c .before .before .before .read-head .ensures) (passed (past c) .from-low)
 
 mul-next-code : tie.Need-mul-next-code
-mul-next-code c = omega (arith, passed (past c) .from-high, ap (λ (h : MessageHead). h .from) (c .before .before .before .read-head .ensures))
+mul-next-code c = omega
+    (arith, passed (past c) .from-high, ap (λ (h : MessageHead). h .from) (c .before .before .before .read-head .ensures))
 
 array-read-next-code : tie.Need-array-read-next-code
 array-read-next-code c =
@@ -100,7 +102,8 @@ unfolding outOf
 returns-2 c =
     let n = next-is (c .before .before) in
     let first = past (c .before .before .before) in
-    rw (message-refused (passed first) (λ z. c .before .if2 .taken (n ∙ z)), ← n) (c .refused2 .ensures, (refl, overlay-none (start first .args .out .now)))
+    rw (message-refused (passed first) (λ z. c .before .if2 .taken (n ∙ z)), ← n)
+    (c .refused2 .ensures, (refl, overlay-none (start first .args .out .now)))
 
 place-of-requires : tie.Need-place-of-requires
 place-of-requires c κs = search needs
@@ -148,7 +151,8 @@ returns-3 c =
     let first = past (counted place) in
     let n = next-is (place .before .before .before) in
     let t = message-taken (passed first) (sym n ∙ place .before .before .if2 .left) in
-    rw (t, ← head .read-head .ensures, ← place .place-of .ensures, ← rest-is (start first .args .m .now) sizes.messageHeader) (call .take-kind .ensures)
+    rw (t, ← head .read-head .ensures, ← place .place-of .ensures, ← rest-is (start first .args .m .now) sizes.messageHeader)
+    (call .take-kind .ensures)
 
 pub message-spec : {M : Type 1} → statement M
 message-spec =

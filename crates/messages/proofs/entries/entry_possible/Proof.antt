@@ -62,12 +62,26 @@ is-mask-requires c κs = search needs
 
 returns-2 : tie.Need-returns-2
 unfolding entryPossible
-returns-2 c = search (← c .before .is-mask .ensures, not-true (c .before .is-mask .result) (c .if2 .taken), tx-is (c .before .before), needs)
+returns-2 c = search (
+  ← c .before .is-mask .ensures,
+  not-true (c .before .is-mask .result) (c .if2 .taken),
+  tx-is
+      (c .before .before),
+  needs,
+)
 
 returns-3 : tie.Need-returns-3
 unfolding entryPossible
 returns-3 c =
-    search (← c .before .is-mask .ensures, not-false (c .before .is-mask .result) (c .if2 .left), tx-is (c .before .before), pick-self, le-leb, needs)
+    search (
+      ← c .before .is-mask .ensures,
+      not-false (c .before .is-mask .result) (c .if2 .left),
+      tx-is
+          (c .before .before),
+      pick-self,
+      le-leb,
+      needs,
+    )
 
 pub entry-possible-spec : {M : Type 1} → statement M
 entry-possible-spec =
