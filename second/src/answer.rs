@@ -1,4 +1,4 @@
-//! Refusals, reasons of abort and decisions (01, "When the store says no").
+//! Refusals, reasons of abort and decisions (N1 to N5).
 
 #[derive(Clone, Copy, PartialEq, Eq, Debug, PartialOrd, Ord)]
 #[repr(u8)]

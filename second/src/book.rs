@@ -1,4 +1,4 @@
-//! The book of demand 3 (01, "Merger and copy"): fed calls, answers and written
+//! The book of demand 3 (B1 to B26): fed calls, answers and written
 //! words, it says what the copies must hold and what transactions may have seen.
 //! It looks into no state but the copies' values, which it checks.
 

@@ -1,4 +1,4 @@
-//! A copy: replays the stream (01, "Merger and copy").
+//! A copy: replays the stream (G5 and G6).
 
 use crate::answer::{require, Pair, Refusal};
 use crate::record;

@@ -1,5 +1,5 @@
 //! The program `house`: obeys script lines, carries messages and records between
-//! sites, merger and copies, and words the outcome (01, "Fixed points").
+//! sites, merger and copies, and words the outcome (H1 to H20).
 
 use std::collections::VecDeque;
 use std::fmt::Write;

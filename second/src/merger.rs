@@ -1,4 +1,4 @@
-//! The merger: parts of every log into one stream (01, "Merger and copy").
+//! The merger: parts of every log into one stream (G1 to G4).
 
 use std::collections::VecDeque;
 

@@ -1,4 +1,4 @@
-//! Messages as words (01, "Message and record words"): the check, the reader, the writer.
+//! Messages as words (M1 to M17): the check, the reader, the writer.
 
 use crate::answer::{reason, require, Refusal};
 use crate::sizes::*;

@@ -1,5 +1,5 @@
 //! Records as words: parts and states of a log, merged records of the stream
-//! (01, "Message and record words").
+//! (R1 to R6).
 
 use crate::answer::{Pair, Refusal};
 use crate::sizes::*;

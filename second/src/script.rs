@@ -1,4 +1,4 @@
-//! Lines of a `house` script (01, "Fixed points", and the reading of lines).
+//! Lines of a `house` script (H1 to H20).
 
 /// A line that has a command's form; whether it can be obeyed is asked later.
 #[derive(Clone, Copy, PartialEq, Eq, Debug)]

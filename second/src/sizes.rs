@@ -1,4 +1,4 @@
-//! Sizes of a house (01, "Sizes of a house"), each a named limit.
+//! Sizes of a house (S1 to S18), each a named limit.
 
 pub const SITES: usize = 8;
 pub const KEYS: u64 = 2_048;

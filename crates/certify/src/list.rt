@@ -1,4 +1,4 @@
-// The transactions concurrent with a part (01, course 5): every other prepared one, and every install after its snapshot.
+// The transactions concurrent with a part (C21 to C29): every other prepared one, and every install after its snapshot.
 use join::write_entry;
 use kinds::Entry;
 use kinds::Keys;

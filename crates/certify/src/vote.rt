@@ -1,4 +1,4 @@
-// A site's vote on a joined list (01, course 7).
+// A site's vote on a joined list (C37 to C41).
 use crate::recorded::is_among;
 use crate::recorded::recorded_txs;
 use kinds::Entry;

@@ -1,4 +1,4 @@
-// A copy (01, "Merger and copy") in lent words: its last pair, then the value of each key.
+// A copy (G5 and G6) in lent words: its last pair, then the value of each key.
 mod values;
 
 use kinds::Answer;
@@ -68,7 +68,7 @@ pub fn replay(copy: &mut [u64], m: &[u64]) -> Answer
     }
 }
 
-// At a copy every key of 01 is good, whatever the house.
+// At a copy every key is good (S2), whatever the house.
 fn value_code(copy: &[u64], key: u64) -> u64
     ensures { λ r. ⌜ r ≡ valueCode (now (copy .entry)) key ⌝ }
 {

@@ -1,4 +1,4 @@
-// The steps of a part's course (01, course 2 to 9), on the part and its site's counters and channels.
+// The steps of a part's course (C3 to C50), on the part and its site's counters and channels.
 pub mod channels;
 pub mod coordinator;
 pub mod participant;

@@ -1,4 +1,4 @@
-// Where a line's call goes (01, "Fixed points"), and the refusals that arise before the store is asked.
+// Where a line's call goes (H1 to H20), and the refusals that arise before the store is asked.
 use crate::post::COPIES;
 use crate::post::channel;
 use crate::post::cursor;

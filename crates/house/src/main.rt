@@ -1,4 +1,4 @@
-// The program `house` (01, "Fixed points"): plays the script on standard input, or each file that is named as a house of its own.
+// The program `house` (H1 to H20): plays the script on standard input, or each file that is named as a house of its own.
 mod run;
 
 use desk::LOST;

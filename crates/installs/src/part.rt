@@ -1,4 +1,4 @@
-// Install: the queue's least, if decided, goes into the history, and its part record into the log (01, course 10).
+// Install: the queue's least, if decided, goes into the history, and its part record into the log (C51 to C55).
 use kinds::Answer;
 use kinds::Entry;
 use kinds::Keys;

@@ -1,4 +1,4 @@
--- 01's causes of refusal and reasons of abort: the numbers of src/reason.rt.
+-- The causes of refusal (N3) and the reasons of abort: the numbers of src/reason.rt.
 use Prim.Native.Nat.{ℕ}
 
 abbrev pub short : ℕ

@@ -1,4 +1,4 @@
--- 01, "Sizes of a house", and what follows from them: the numbers of src/sizes.rt.
+-- S1 to S18, and what follows from them: the numbers of src/sizes.rt.
 use Prim.Native.Nat.{ℕ, _+_, _-_, _*_}
 
 abbrev pub sites : ℕ

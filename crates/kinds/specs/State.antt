@@ -17,7 +17,7 @@ use Rattle.kinds.specs.Stage as stage
 abbrev pub Value : Type 0
 Value = ℕ
 
--- 01: every value starts at 0
+-- S11: every value starts at 0
 abbrev pub fresh : Value
 fresh = 0
 

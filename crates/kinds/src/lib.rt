@@ -11,7 +11,7 @@ use sizes::READS;
 use sizes::SITES;
 use sizes::WRITES;
 
-// 01's keys are below 2,048.
+// Keys are below 2,048 (S2).
 pub type Key = u16;
 
 // A stored offset.

@@ -1,42 +1,62 @@
-// 01's numbers: causes of refusal, and reasons of abort (FULL, SPENT, UNKNOWN are both).
+// Numbers of the causes of refusal (N3), and of the reasons of abort. UNKNOWN, FULL and SPENT are both.
+// The outgoing buffer is too short.
 pub const SHORT: u64 = 1;
 
+// A site, key, count or layout is impossible.
 pub const MALFORMED: u64 = 2;
 
+// The key or the message is for another site.
 pub const ELSEWHERE: u64 = 3;
 
+// The message is not the next on its channel.
 pub const NOT_NEXT: u64 = 4;
 
+// The transaction is not held here. In a VOTE: a PREPARE came for a transaction not held.
 pub const UNKNOWN: u64 = 5;
-// The two causes that 01 gives one number: the call belongs to the coordinator, and the stage does not allow it.
+
+// The two causes of one number: the call belongs to the coordinator, and the stage does not allow it.
 pub const NOT_COORDINATOR: u64 = 6;
 
 pub const STAGE: u64 = 6;
 
+// The commit request comes while a JOINED is outstanding.
 pub const OUTSTANDING: u64 = 7;
 
+// An install after the snapshot is forgotten.
 pub const FORGOTTEN: u64 = 8;
 
+// The key is held by another transaction.
 pub const HELD: u64 = 9;
 
+// The key has a version newer than the snapshot.
 pub const NEWER: u64 = 10;
 
+// The key would be the 17th distinct key.
 pub const TOO_MANY: u64 = 11;
 
+// The site has 16 live subtransactions. As a reason: a JOINED said so.
 pub const FULL: u64 = 12;
 
+// A serial, a channel count or an install count is at its end. As a reason: the clock is.
 pub const SPENT: u64 = 13;
 
+// The record is not above the last one taken.
 pub const BEHIND: u64 = 14;
 
+// The part would be the 17th queued part.
 pub const QUEUE_FULL: u64 = 15;
 
+// The due record lacks a part, or its parts disagree.
 pub const NOT_WHOLE: u64 = 16;
 
+// There is nothing to install, merge, emit or replay.
 pub const NOTHING: u64 = 17;
 
+// Reason: a listed transaction is installed within the snapshot, and is marked or dependent (C37).
 pub const CONFLICT: u64 = 18;
 
+// Reason: what the list or the vote needs is forgotten (C29, C39).
 pub const UNCERTAIN: u64 = 19;
 
+// Reason: the transaction is abandoned (C48).
 pub const ABANDONED: u64 = 20;

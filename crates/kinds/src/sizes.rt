@@ -1,4 +1,4 @@
-// Every size of a house (01, "Sizes of a house"), and what follows from them.
+// Every size of a house (S1 to S18), and what follows from them.
 
 // Sites of the largest house.
 pub const SITES: usize = 8;

@@ -1,4 +1,4 @@
--- A line of a script (01, "Fixed points"): a verb and up to four decimal numbers below 2^64, with one space between; anything else is Bad.
+-- A line of a script (H1 to H20): a verb and up to four decimal numbers below 2^64, with one space between; anything else is Bad.
 use Prim.Native.Nat.{ℕ, zero, suc, _+_, _-_, _*_, _≤_, _<_}
 use mathlib.Core.Path.{_≡_, refl, ap, sym, _∙_}
 use mathlib.Core.List.{List, [], _∷_}

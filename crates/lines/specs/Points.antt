@@ -1,4 +1,4 @@
--- Lines of 01's example, and some that are none.
+-- Lines of the example H2, and some that are none.
 use mathlib.Core.Path.{_≡_, refl}
 use mathlib.Core.List.{List, [], _∷_}
 use Rattle.laws.specs.Scan.{foldBelow}

@@ -1,4 +1,4 @@
-// Lines of a script (01, "Fixed points"): a verb and up to four numbers, with one space between two words. A line is read byte by
+// Lines of a script (H1 to H20): a verb and up to four numbers, with one space between two words. A line is read byte by
 // byte, so none is too long, whatever zeros stand before a number.
 mod verb;
 

@@ -1,4 +1,4 @@
--- 01, "House rules for code": the head order goes in and comes back as one value. What its methods hand back, by the rules' definitions.
+-- F7 and F8: the head order goes in and comes back as one value. What its methods hand back, by the rules' definitions.
 use Prim.Native.Nat.{ℕ, _+_}
 use mathlib.Core.Path.{_≡_, refl, ap, sym, _∙_}
 use mathlib.Core.List.{List}

@@ -1,4 +1,4 @@
-// The merger (01, "Merger and copy"): queues each site's parts, and emits the due record.
+// The merger (G1 to G4): queues each site's parts, and emits the due record.
 mod heads;
 
 use heads::Heads;

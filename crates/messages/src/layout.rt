@@ -62,7 +62,7 @@ fn shape_ok(m: &[u64]) -> bool
     offset == place
 }
 
-// Whether the words are those of some message of the house (01, cause 2).
+// Whether the words are those of some message of the house (M17).
 pub fn message_ok(o: House, m: &[u64]) -> bool
     requires { ⌜ o .sites ≤ sizes.sites ⌝ }
     ensures { λ r. ⌜ r ≡ messageOk o (now (m .entry)) ⌝ }

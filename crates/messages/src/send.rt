@@ -34,7 +34,7 @@ fn count_low(sent: [u64; SITES], mask: u64, sender: u64, i: usize) -> bool
     true
 }
 
-// Whether a further message to each recipient can be counted (01, cause 13).
+// Whether a further message to each recipient can be counted (cause 13).
 pub fn counts_low(sent: [u64; SITES], mask: u64, sender: u64) -> bool
     ensures { λ r. ⌜ r ≡ countsLow sent mask sender ⌝ }
 {

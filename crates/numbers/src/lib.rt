@@ -1,4 +1,4 @@
-// Sites, keys, transaction numbers, masks and pairs, as 01 numbers them.
+// Sites, keys, transaction numbers, masks and pairs, as S1 to S6 number them.
 use kinds::House;
 use kinds::sizes::SERIALS;
 use kinds::sizes::SITE_KEYS;

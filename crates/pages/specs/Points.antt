@@ -1,4 +1,4 @@
--- 01, "Fixed points": the ten lines that its script prints.
+-- H2: the ten lines that the worked script prints.
 use Prim.Native.Nat.{ℕ}
 use mathlib.Core.Path.{_≡_, refl}
 use mathlib.Core.List.{List, [], _∷_, _++_}

@@ -1,4 +1,4 @@
-// A line's outcome in words (01, "Fixed points"), gathered in a page.
+// A line's outcome in words (H1 to H20), gathered in a page.
 mod text;
 
 use kinds::Answer;

@@ -1,4 +1,4 @@
--- 01's worked script: one site, one transaction, which ends in a copy. (01's merge before the install hands in no record.)
+-- The worked script H2: one site, one transaction, which ends in a copy. (Its merge before the install hands in no record.)
 use mathlib.Core.List.{List, [], _∷_}
 use Rattle.kinds.specs.declared.Answer.the-variants.{Done, Begun, Committed, Installed, Emitted, Standing}
 use Rattle.rules.specs.World.{Call}

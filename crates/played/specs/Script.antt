@@ -1,4 +1,4 @@
--- Scripts as 01's `house` has them: a line is a call. Where it hands in words they are named: a message by its channel and its
+-- Scripts as `house` has them (H1 to H20): a line is a call. Where it hands in words they are named: a message by its channel and its
 -- number there, a record by its place in its site's log, a merged one by its place in the stream, all from 1.
 use Prim.Native.Nat.{ℕ, _-_}
 use mathlib.Core.Bool.{Bool}

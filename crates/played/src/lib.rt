@@ -11,7 +11,7 @@ ghost use Rattle.played.specs.First.{firstScript, firstCalls};
 ghost use Rattle.played.specs.Second.{secondScript, secondCalls, secondMail, secondBook, spanning, halfSeeing, later};
 ghost use Rattle.played.specs.Seen.{SawBoth, SawHalf};
 
-// 01's worked script.
+// The worked script H2.
 pub fn first_script_plays()
     ensures { λ _. ⌜ Lawful (freshWorld 1) firstCalls
         × (answersFrom (freshWorld 1) firstCalls ≡ answersOf firstScript)

@@ -1,3 +1,3 @@
--- 01, "Fixed points": those marked P.
+-- The fixed points P1 to P14.
 pub mod States
 pub mod Points

@@ -1,4 +1,4 @@
--- One list of what the rules give and what 01 says, and one statement: they are the same.
+-- One list of what the rules give and what the requirements say, and one statement: they are the same.
 use Prim.Native.Nat.{ℕ, _-_}
 use mathlib.Core.Path.{_≡_}
 use mathlib.Core.Bool.{Bool, true}

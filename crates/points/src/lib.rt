@@ -1,7 +1,7 @@
-// 01's fixed points marked P, as one proved statement.
+// The fixed points P1 to P14, as one proved statement.
 ghost use Rattle.points.specs.Points.{PointsHold};
 
-// Each point gives what 01 says.
+// Each point gives what the requirements say.
 pub fn points_hold()
     ensures { λ _. ⌜ PointsHold ⌝ }
 {}

@@ -1,4 +1,4 @@
-// Whether a handed merger and its queues are possible (01, cause 2): one pass over the places in use.
+// Whether a handed merger and its queues are possible (S19): one pass over the places in use.
 use crate::place::place_words;
 use crate::place::queued_part;
 use kinds::House;

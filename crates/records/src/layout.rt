@@ -64,7 +64,7 @@ fn shape_ok(m: &[u64]) -> bool
     offset == place
 }
 
-// Whether the words are those of some part record of the house (01, cause 2).
+// Whether the words are those of some part record of the house (cause 2).
 pub fn part_ok(o: House, m: &[u64]) -> bool
     requires { ⌜ o .sites ≤ sizes.sites ⌝ }
     ensures { λ r. ⌜ r ≡ partOk o (now (m .entry)) ⌝ }

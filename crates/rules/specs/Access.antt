@@ -1,4 +1,4 @@
--- 01, course 3: read and write. Nobody waits: the first writer of a key wins.
+-- C8 to C14: read and write. Nobody waits: the first writer of a key wins.
 use Prim.Native.Nat.{ℕ}
 use mathlib.Core.List.{List, [], _∷_}
 use mathlib.Core.Bool.{Bool, not}

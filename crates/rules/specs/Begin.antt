@@ -1,4 +1,4 @@
--- 01, course 1: begin makes the site coordinator; the snapshot is the number of installs so far.
+-- C1 and C2: begin makes the site coordinator; the snapshot is the number of installs so far.
 use Prim.Native.Nat.{ℕ, _+_, _<_}
 use mathlib.Core.Path.{_≡_, refl}
 use mathlib.Core.List.{List, [], _∷_}

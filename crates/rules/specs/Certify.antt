@@ -1,4 +1,4 @@
--- 01, course 5 to 8: the list of concurrent transactions that a site makes, and its vote on a joined list.
+-- C21 to C29, and C37 to C41: the list of concurrent transactions that a site makes, and its vote on a joined list.
 use Prim.Native.Nat.{ℕ, _+_, _-_}
 use mathlib.Core.List.{List, [], _∷_, _++_}
 use mathlib.Core.Bool.{Bool, not}

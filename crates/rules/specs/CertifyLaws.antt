@@ -1,4 +1,4 @@
--- 01, course 5 to 7: a part's list has every other prepared part and every remembered install after its snapshot, with their
+-- C21 to C41: a part's list has every other prepared part and every remembered install after its snapshot, with their
 -- participants, marked where dependent; it ascends and has at most 47 entries. And what a vote of yes says of each entry.
 use Prim.Native.Nat.{ℕ, zero, suc, _+_, _-_, _*_, _≤_, _<_}
 use mathlib.Core.Path.{_≡_, refl, ap, sym, _∙_}

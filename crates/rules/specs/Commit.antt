@@ -1,4 +1,4 @@
--- 01, course 4 to 9, at the coordinator: the commit request and abandon.
+-- C15 to C20, C34 and C48, at the coordinator: the commit request and abandon.
 use Prim.Native.Nat.{ℕ, _*_}
 use mathlib.Core.List.{List, [], _∷_}
 use mathlib.Core.Bool.{Bool, not}

@@ -1,4 +1,4 @@
--- 01, "Merger and copy": a copy is words: its last number, its last coordinator, then the value of each key.
+-- G5 and G6: a copy is words: its last number, its last coordinator, then the value of each key.
 use Prim.Native.Nat.{ℕ, _+_}
 use mathlib.Core.List.{List, [], _∷_}
 use mathlib.Core.Bool.{not}

@@ -1,4 +1,4 @@
--- 01, "Merger and copy", at a copy: what a call that is not refused says, by name; and one write more.
+-- G5 and G6: what a call that is not refused says, by name; and one write more.
 use Prim.Native.Nat.{ℕ, _+_, _≤_, _<_}
 use mathlib.Core.Path.{_≡_, refl}
 use mathlib.Core.Bool.{true, not}

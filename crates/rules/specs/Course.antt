@@ -1,4 +1,4 @@
--- 01, course 2 to 9: the steps of a part's course, on the part and its site's counters and channels.
+-- C3 to C50: the steps of a part's course, on the part and its site's counters and channels.
 use Prim.Native.Nat.{ℕ, _+_, _-_, _*_, _≤_, _<_, max}
 use mathlib.Core.Path.{_≡_}
 use mathlib.Core.List.{List, [], _∷_}

@@ -1,4 +1,4 @@
--- 01, "Message and record words" and course 2 to 9: a message taken, by its kind.
+-- M18 to M30, and C3 to C50: a message taken, by its kind.
 use Prim.Native.Nat.{ℕ, _+_, _-_, _*_, _≤_, _<_}
 use mathlib.Core.List.{List, [], _∷_}
 use mathlib.Core.Bool.{Bool, true, false, not}

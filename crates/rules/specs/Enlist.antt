@@ -1,4 +1,4 @@
--- 01, course 2: enlist, at the coordinator, adds a site and sends JOIN.
+-- C3, C6 and C7: enlist, at the coordinator, adds a site and sends JOIN.
 use Prim.Native.Nat.{ℕ}
 use mathlib.Core.List.{List, [], _∷_}
 use mathlib.Core.Bool.{Bool, not}

@@ -1,4 +1,4 @@
--- Laws of words that are entries: gathered step by step, laid one list behind another, and joined (01, course 5 and 6).
+-- Laws of words that are entries: gathered step by step, laid one list behind another, and joined (C21 to C33).
 use Prim.Native.Nat.{ℕ, zero, suc, _+_, _-_, _*_, _≤_, _<_}
 use mathlib.Core.Path.{_≡_, refl, ap, sym, _∙_}
 use mathlib.Core.List.{List, [], _++_}

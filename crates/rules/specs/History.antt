@@ -1,4 +1,4 @@
--- 01, course 3, 5, 7, 10: the history of the 32 last installed parts, what is forgotten, and the version that a snapshot sees.
+-- S9, C9, C23, C29, C37, C39 and C54: the history of the 32 last installed parts, what is forgotten, and the version that a snapshot sees.
 use Prim.Native.Nat.{ℕ, _+_, _-_, _%_, min}
 use mathlib.Core.List.{List}
 use mathlib.Core.Bool.{Bool, false}

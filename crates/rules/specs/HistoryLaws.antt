@@ -1,4 +1,4 @@
--- 01, course 3, 5 and 10: the version that a snapshot sees is the last one within it, and what is forgotten is what came before the
+-- C9, C23 and C54: the version that a snapshot sees is the last one within it, and what is forgotten is what came before the
 -- last 32.
 use Prim.Native.Nat.{ℕ, _+_, _-_, _≤_, _<_}
 use mathlib.Core.Path.{_≡_, refl, _∙_}

@@ -1,4 +1,4 @@
--- 01, "Sizes of a house": where a key lives, transaction numbers, masks of participants.
+-- S1 to S6, and F11: where a key lives, transaction numbers, masks of participants.
 use Prim.Native.Nat.{ℕ, _+_, _-_, _*_, _/_, _%_, _^_, _<_}
 use mathlib.Core.Path.{_≡_}
 use mathlib.Core.Bool.{Bool}

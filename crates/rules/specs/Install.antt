@@ -1,4 +1,4 @@
--- 01, course 10, and the state number: install and report, which write the site's log. And a fresh site.
+-- C51 to C59: install and report, which write the site's log. And a fresh site.
 use Prim.Native.Nat.{ℕ, _+_}
 use mathlib.Core.List.{List, [], _∷_}
 use mathlib.Core.Bool.{Bool, not}

@@ -1,4 +1,4 @@
--- 01, course 10: what is installed is decided and stands first; the records that install and report write pass their checks.
+-- C51 to C59: what is installed is decided and stands first; the records that install and report write pass their checks.
 use Prim.Native.Nat.{ℕ, _+_, _-_, _≤_, _<_}
 use mathlib.Core.Path.{_≡_, refl, ap, sym, _∙_}
 use mathlib.Core.List.{List, [], _∷_}

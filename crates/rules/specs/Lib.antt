@@ -1,4 +1,4 @@
--- The rules of 01: sizes and words,
+-- The requirements as definitions: sizes and words,
 pub mod House
 pub mod Message
 pub mod Record

@@ -1,4 +1,4 @@
--- 01, course 5: a part's list has nothing but the other prepared parts and the remembered installs after its snapshot.
+-- C21 to C27: a part's list has nothing but the other prepared parts and the remembered installs after its snapshot.
 use Prim.Native.Nat.{ℕ, suc, _+_, _-_, _*_, _≤_, _<_}
 use mathlib.Core.Path.{_≡_, refl, ap, sym, _∙_}
 use mathlib.Core.List.{List, _++_}

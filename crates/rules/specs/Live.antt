@@ -1,4 +1,4 @@
--- 01, "A transaction's course": the live table, a part's place in it, and who holds a key.
+-- S7, C12, C24 and C25: the live table, a part's place in it, and who holds a key.
 use Prim.Native.Nat.{ℕ}
 use mathlib.Core.List.{List, [], _∷_}
 use mathlib.Core.Bool.{Bool, true, not}

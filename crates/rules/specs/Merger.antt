@@ -1,4 +1,4 @@
--- 01, "Merger and copy": the merger queues each site's parts and emits the due record.
+-- S13 and G1 to G4: the merger queues each site's parts and emits the due record.
 use Prim.Native.Nat.{ℕ, _+_, _-_, _*_, _/_}
 use mathlib.Core.List.{List, [], _∷_, _++_}
 use mathlib.Core.Bool.{Bool, true, not}

@@ -1,4 +1,4 @@
--- 01, "Sizes of a house", at the merger: what a state and a record that are not refused say, by name.
+-- S19, at the merger: what a state and a record that are not refused say, by name.
 use Prim.Native.Nat.{_+_, _<_, _≤_, ℕ}
 use borrow.Author.Tests.{eq-eqb, eqb-true, le-leb, leb-false, leb-true, ltb-true, ltb-false, not-false}
 use lib.Dec.{eqb, leb, ltb}

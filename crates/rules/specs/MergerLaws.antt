@@ -1,4 +1,4 @@
--- 01, "Merger and copy": the least head, what is due and what is whole, in 01's words.
+-- G2, G3 and cause 16: the least head, what is due and what is whole, in the words of the requirements.
 use Prim.Native.Nat.{_+_, _-_, _<_, _≤_, suc, zero, ℕ}
 use borrow.Author.Tests.{eq-eqb, eqb-true, le-leb, le-ltb, leb-true, lt-ltb, ltb-false, ltb-true, not-true}
 use lib.Dec.{eqb, ltb}

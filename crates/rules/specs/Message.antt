@@ -1,4 +1,4 @@
--- 01, "Message and record words": messages. One layout gives what is written, what is read and what is refused.
+-- M1 to M17: messages. One layout gives what is written, what is read and what is refused.
 use Prim.Native.Nat.{ℕ, _+_, _-_, _*_, _/_}
 use mathlib.Core.Path.{_≡_}
 use mathlib.Core.List.{List, [], _∷_, _++_}

@@ -19,7 +19,7 @@ use Rattle.rules.specs.Merger.{mergerOk}
 use Rattle.rules.specs.World as world
 use Rattle.rules.specs.World.{Call, World, Is, Lawful, freshWorld, step, run}
 
--- 01, cause 2: what is handed in is impossible by itself, whatever state the list left
+-- Cause 2: what is handed in is impossible by itself, whatever state the list left
 abbrev pub Impossible : House → Call → Type 0
 Impossible o (world.begin s) = isSite o s ≡ false
 Impossible o (world.enlist s out tx site) = (isSite o s ≡ false) ⊎ (isSite o site ≡ false)

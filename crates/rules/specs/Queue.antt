@@ -1,4 +1,4 @@
--- 01, course 10, and the state number: the queue's least entry, and what a site has finished.
+-- C51, C52, C57 and C58: the queue's least entry, and what a site has finished.
 use Prim.Native.Nat.{ℕ, _-_, min}
 use mathlib.Core.List.{List, [], _∷_}
 use mathlib.Core.Bool.{Bool}

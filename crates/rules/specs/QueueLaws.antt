@@ -1,4 +1,4 @@
--- 01, course 10, and the state number: the queue's least is before every other, and the state number is the least of the clock, the
+-- C51, C52, C57 and C58: the queue's least is before every other, and the state number is the least of the clock, the
 -- open marks and the decided numbers less 1.
 use Prim.Native.Nat.{ℕ, zero, suc, _+_, _-_, _/_, _≤_, _<_, min}
 use mathlib.Core.Path.{_≡_, refl, ap, sym, _∙_}

@@ -1,4 +1,4 @@
--- 01, "When the store says no": which number a call is refused with, and that a refused call leaves all as it was. Both are said of
+-- N1 to N4: which number a call is refused with, and that a refused call leaves all as it was. Both are said of
 -- any state, and not only of those that a list leaves.
 use Prim.Native.Nat.{ℕ, _-_}
 use mathlib.Core.Path.{_≡_}

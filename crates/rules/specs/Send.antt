@@ -1,4 +1,4 @@
--- 01, "Message and record words": outgoing messages, each directly behind the one before it, by destination ascending.
+-- M8, M9 and M21: outgoing messages, each directly behind the one before it, by destination ascending.
 -- Each ordered pair of sites counts its messages from 1.
 use Prim.Native.Nat.{ℕ, _+_, _<_}
 use mathlib.Core.List.{List, [], _∷_, _++_}

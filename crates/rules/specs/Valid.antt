@@ -1,4 +1,4 @@
--- 01, "Sizes of a house": a handed state whose counts, keys or masks are past these sizes gives 2. A number that is no transaction of
+-- S19: a handed state whose counts, keys or masks are past these sizes gives 2. A number that is no transaction of
 -- the house counts with them: it goes out in messages that every receiver refuses 2.
 use Prim.Native.Nat.{ℕ, _+_, _*_}
 use mathlib.Core.List.{List, [], _∷_}

@@ -1,4 +1,4 @@
-// What a reader must believe: the rules of 01 as definitions (specs), and what holds of these very definitions after any list of calls.
+// What a reader must believe: the requirements as definitions (specs), and what holds of these very definitions after any list of calls.
 ghost use Rattle.rules.specs.Claim.{Demand3};
 ghost use Rattle.rules.specs.Progress.{MessagesProgress, RecordsProgress};
 ghost use Rattle.rules.specs.Possible.{Possible};

@@ -1,4 +1,4 @@
--- 01, course 4 to 9: what a commit request and a message say once they are taken. The call in which a decision falls says it: the
+-- C15 to C50: what a commit request and a message say once they are taken. The call in which a decision falls says it: the
 -- commit number, or the reason of the abort. Only a commit request, a CONC and a VOTE can bring one.
 use Prim.Native.Nat.{ℕ, _+_, _*_}
 use mathlib.Core.List.{List, [], _∷_}

@@ -1,4 +1,4 @@
--- What each call says in 01's numbers.
+-- What each call says, in the numbers of the requirements.
 pub mod Said
 pub mod Decided
 pub mod Outcomes

@@ -1,4 +1,4 @@
--- 01, "Fixed points": what each of the sixteen calls says, in any state and for any arguments. After `ok`: begin, transaction; commit,
+-- A5, F20 and H5 to H20: what each of the sixteen calls says, in any state and for any arguments. After `ok`: begin, transaction; commit,
 -- number; install and replay, number and coordinator; emit also transaction; value, value and pair; read, value; report, state.
 use Prim.Native.Nat.{ℕ}
 use mathlib.Core.Path.{_≡_}

@@ -1,4 +1,4 @@
--- 01, "Fixed points": the numbers of an answer, those printed after `ok`, `ok abort` or `refused`.
+-- F19 and H1: the numbers of an answer, those printed after `ok`, `ok abort` or `refused`.
 use Prim.Native.Nat.{ℕ}
 use mathlib.Core.List.{List, [], _∷_}
 use lib.Dec.{eqb}

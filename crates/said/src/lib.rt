@@ -1,4 +1,4 @@
-// What each call says in 01's numbers (specs/Outcomes.antt), as one proved statement.
+// What each call says, in the numbers of the requirements (specs/Outcomes.antt), as one proved statement.
 ghost use Rattle.said.specs.Outcomes.{Says};
 
 // Each of the sixteen calls, in any state and for any arguments.

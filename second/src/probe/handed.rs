@@ -63,7 +63,7 @@ impl Handed {
         }
     }
 
-    /// 01, "Sizes of a house": counts, keys and masks. What goes out in a CONC is
+    /// S19: counts, keys and masks. What goes out in a CONC is
     /// a transaction of the house: the numbers of parts and of remembered ones.
     pub fn is_within_sizes(&self) -> bool {
         let site = &self.site;

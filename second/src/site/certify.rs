@@ -1,5 +1,5 @@
 //! Certification: concurrent transactions, votes and decisions
-//! (01, "A transaction's course", 5 to 9).
+//! (C21 to C50).
 
 use super::{Part, Site, Stage};
 use crate::answer::{reason, Decision};

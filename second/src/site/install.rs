@@ -1,4 +1,4 @@
-//! The queue of a site: install and report (01, "A transaction's course", 10).
+//! The queue of a site: install and report (C51 to C59).
 
 use super::{Installed, Site, Stage};
 use crate::answer::{require, Pair, Refusal};

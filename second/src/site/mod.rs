@@ -1,4 +1,4 @@
-//! A site: its state and the calls of clients (01, "A transaction's course").
+//! A site: its state and the calls of clients (C1 to C59).
 //!
 //! Every call first finds the lowest refusal that applies, then alters.
 
@@ -114,7 +114,7 @@ impl Site {
         Ok(())
     }
 
-    /// 01, course 4.
+    /// C15 to C20.
     pub fn commit(&mut self, transaction: u64, out: &mut [u64]) -> Result<Sent, Refusal> {
         let mut out = Outbox::new(out)?;
         let place = self.find(transaction).ok_or(Refusal::NotHeld)?;

@@ -63,7 +63,7 @@ impl Footprint {
         Some(self.values[place].1)
     }
 
-    /// 01, course 5: one wrote a key the other read or wrote.
+    /// C28: one wrote a key the other read or wrote.
     pub fn depends(&self, other: &Footprint) -> bool {
         self.writes.meets(&other.writes)
             || self.writes.meets(&other.reads)
@@ -123,7 +123,7 @@ impl Part {
         self.participants & !site_bit(own) & !self.heard
     }
 
-    /// 01, course 5: PREPARE taken, or commit requested; a no included.
+    /// C24: PREPARE taken, or commit requested; a no included.
     pub fn is_prepared(&self) -> bool {
         !self.is_active()
     }

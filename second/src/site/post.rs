@@ -1,5 +1,5 @@
 //! Messages: what a site does on taking one, and how it sends
-//! (01, "Message and record words", turns).
+//! (M18 to M30).
 
 use super::{Part, Site, Stage};
 use crate::answer::{reason, require, Decision, Refusal, Sent};

@@ -1,4 +1,4 @@
--- Each point computes to what 01 says.
+-- Each point computes to what the requirements say.
 use mathlib.Core.Path.{refl}
 use Rattle.laws.specs.Scan.{firstBelow, allBelow, anyBelow, foldBelow}
 use Rattle.laws.specs.Pair.{precedes}
