@@ -57,7 +57,7 @@ pub fn take_join(s: Site, h: MessageHead, place: usize, out: &mut [u64]) -> Out
         return spoken(s, a);
     }
     let a = course::send::send_to(t, JOINED, h.from, 0, 0, &none, out);
-    // Into the table that was scanned, and not by `settled`: one that is only scanned is copied place by place, and with it the site.
+    // Not `settled`: writing into the scanned copy avoids a copy of the live table, place by place (docs/DESIGN.md, Speed).
     let answer = a.answer;
     let u = a.turn;
     let c = u.counters;

@@ -86,8 +86,8 @@ fn play_files(count: usize, spare: i32) {
     }
 }
 
-// A file that is opened takes the number of a standard one that is closed. Standard error's is left to it: a script is played
-// where no message can be read.
+// The system opens a file under the lowest free descriptor. If standard error is closed, the temporary file would become descriptor
+// 2; it is opened again, so that no error message is written into it.
 fn open_spare() -> i32 {
     let fd = spool::open();
     if fd == STDERR_FILENO {

@@ -1,5 +1,6 @@
--- The protocol on plain tables: what an accepted call does, as moves. Nothing here knows of words, buffers, refusals or array lengths.
--- The move `passes` drops any message: a transaction that loses one at most never commits, and no claim says that it does.
+-- The protocol on plain tables: what an accepted call does, as moves. Buffers, refusals and array lengths do not occur here, and words
+-- only as the entries of a list. The move `passes` may drop any message. That is sound: losing one can only keep a transaction from
+-- committing, and no claim promises a commit.
 use Prim.Native.Nat.{ℕ, _+_, _-_, _*_, _≤_, _<_, max}
 use mathlib.Core.Path.{_≡_}
 use mathlib.Core.Bool.{Bool, true, false, not}
@@ -205,7 +206,7 @@ Certified p s t es =
 abbrev pub Within : List ℕ → List ℕ → Type 0
 Within es fs = (j : ℕ) → j < entryCount es → 0 < entryTx es j → Listed fs (entryTx es j) (entryMask es j) (eqb (entryMark es j) 1)
 
--- s is not behind any other queued part
+-- the part of t at s is not behind any other queued part there
 abbrev pub LeastQueued : Protocol → ℕ → ℕ → Type 0
 LeastQueued p s t = (u : ℕ) → isQueued (p .live s u) ≡ true → queuedBefore (p .live s u) (p .live s t) ≡ false
 

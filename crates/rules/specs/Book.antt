@@ -44,7 +44,7 @@ uses tx key = onFound [] (λ v. used tx key ∷ [])
 abbrev pub writes : ℕ → ℕ → Value → Answer → List Fact
 writes tx key v = onDone [] (used tx key ∷ wrote tx key v ∷ [])
 
--- an install that returns the pair installs the transaction at that site; a replay that does moves its copy there
+-- An install that answers a pair installs that transaction at site s. A replay that answers a pair moves its copy to that pair.
 abbrev pub installs : ℕ → Answer → List Fact
 installs s = onInstalled [] (λ n c. installed s n c ∷ [])
 

@@ -76,17 +76,19 @@ WritersInOrder o b =
     (tx ux key n c m d : ℕ) → Committed b tx n c → Committed b ux m d → Wrote b tx key → Wrote b ux key → precedes n c m d ≡ true
     → Before (installed (siteOf o key) n c) (began (siteOf o key) ux) b
 
--- at a site where both have parts, tx saw ux if ux was installed there before tx's part began, else missed it
+-- both have parts at site s
 abbrev pub Parts : List Fact → ℕ → ℕ → ℕ → Type 0
 Parts b s tx ux = Is (began s tx) b × Is (began s ux) b
 
+-- tx saw ux at s if ux was installed there before tx's part began; where both have parts, it else missed it
 abbrev pub Saw : List Fact → ℕ → ℕ → ℕ → Type 0
 Saw b s tx ux = (n : ℕ) × (c : ℕ) × Committed b ux n c × Before (installed s n c) (began s tx) b
 
--- (C) no committed transaction saw, at one site, another that wrote a key it used, or used a key it wrote, and missed it at a second
+-- one of them wrote a key that the other used
 abbrev pub Dependent : List Fact → ℕ → ℕ → Type 0
 Dependent b tx ux = (key : ℕ) × ((Used b tx key × Wrote b ux key) ⊎ (Wrote b tx key × Used b ux key))
 
+-- (C) no committed transaction saw, at one site, another that wrote a key it used, or used a key it wrote, and missed it at a second
 abbrev pub NoneHalfSeen : List Fact → Type 0
 NoneHalfSeen b =
     (tx ux n c s r : ℕ) → (tx ≡ ux → ⊥) → Committed b tx n c → Dependent b tx ux

@@ -148,7 +148,7 @@ sameWords [] (y ∷ ys) = false
 sameWords (x ∷ xs) [] = false
 sameWords (x ∷ xs) (y ∷ ys) = pick (eqb x y) (sameWords xs ys) false
 
--- one more taken of a list of records, where m is taken and is the next
+-- The number of records taken after m is handed in: one more if m was accepted and is the next record, else unchanged.
 unfoldable pub stepTaken : Answer → List (List ℕ) → ℕ → List ℕ → ℕ
 stepTaken a records n m = pick (isRefused a) n (pick (every (ltb n (length records) ∷ sameWords (getD records n []) m ∷ [])) (n + 1) n)
 
@@ -249,7 +249,7 @@ Handed w (report s out) = Unit {0}
 Handed w (emit out) = Unit {0}
 Handed w (value c key) = Unit {0}
 
--- a list of calls that are handed no more than this
+-- A list in which every message and record handed in was written by an earlier call, with logs and stream delivered without gaps.
 abbrev pub Lawful : World → List Call → Type 0
 Lawful w [] = Unit {0}
 Lawful w (c ∷ cs) = Handed w c × Lawful (step w c .world) cs
