@@ -37,12 +37,33 @@ impl Kind {
             .find(|&kind| kind as u64 == word)
     }
 
+    pub fn name(self) -> &'static str {
+        match self {
+            Kind::Join => "JOIN",
+            Kind::Joined => "JOINED",
+            Kind::Prepare => "PREPARE",
+            Kind::Conc => "CONC",
+            Kind::Cert => "CERT",
+            Kind::Vote => "VOTE",
+            Kind::Commit => "COMMIT",
+            Kind::Abort => "ABORT",
+        }
+    }
+
     fn comes_from_coordinator(self) -> bool {
         !matches!(self, Kind::Joined | Kind::Conc | Kind::Vote)
     }
 
-    fn carries_clock(self) -> bool {
+    pub fn carries_clock(self) -> bool {
         matches!(self, Kind::Prepare | Kind::Vote | Kind::Commit)
+    }
+
+    pub fn carries_argument(self) -> bool {
+        matches!(self, Kind::Joined | Kind::Prepare | Kind::Vote)
+    }
+
+    pub fn carries_entries(self) -> bool {
+        self.most_entries() > 0
     }
 
     fn most_entries(self) -> usize {
