@@ -9,6 +9,7 @@ use kinds::sizes::OUTGOING;
 use kinds::sizes::SITES;
 use lines::Command;
 use pages::PAGE;
+use pages::flush;
 use pages::is_refused;
 use pages::say;
 pub use post::COPIES;
@@ -73,6 +74,24 @@ pub fn answered(d: Desk, page: &mut [u8; PAGE], a: Answer) -> Desk
     let mut e = d;
     e.used = said.used;
     if !said.ok {
+        return ended(e, UNWRITTEN);
+    }
+    e
+}
+
+// Writes out the answers so far where the next line has to be read from the input, so that a terminal shows them.
+pub fn shown(d: Desk, page: &[u8; PAGE]) -> Desk {
+    let input = d.input;
+    if input.at < input.end {
+        return d;
+    }
+    if d.used == 0 {
+        return d;
+    }
+    let ok = flush(page, d.used);
+    let mut e = d;
+    e.used = 0;
+    if !ok {
         return ended(e, UNWRITTEN);
     }
     e
@@ -144,16 +163,17 @@ pub fn next_ask(
     item: &mut [u64; ITEM],
     page: &mut [u8; PAGE],
 ) -> Ask {
-    if d.state != LINE {
-        return idle(d);
+    let s = shown(d, page);
+    if s.state != LINE {
+        return idle(s);
     }
-    let before = d.input;
+    let before = s.input;
     let line = next_line(text, before);
     let input = line.input;
     let c = line.command;
-    let mut e = d;
+    let mut e = s;
     e.input = input;
-    e.event = std::num::wrapping_add_u64(d.event, 1);
+    e.event = std::num::wrapping_add_u64(s.event, 1);
     if line.found != LINE {
         return idle(ended(e, line.found));
     }

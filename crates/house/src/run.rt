@@ -9,6 +9,7 @@ use desk::answered;
 use desk::ended;
 use desk::idle;
 use desk::settled;
+use desk::shown;
 use kinds::Answer;
 use kinds::House;
 use kinds::reason::MALFORMED;
@@ -43,13 +44,17 @@ fn opened(d: Desk, c: Command, page: &mut [u8; PAGE]) -> Desk {
 }
 
 fn opening(d: Desk, text: &mut [u8; TEXT], page: &mut [u8; PAGE]) -> Desk {
-    let before = d.input;
+    let s = shown(d, page);
+    if s.state != LINE {
+        return s;
+    }
+    let before = s.input;
     let line = next_line(text, before);
     let input = line.input;
     let c = line.command;
-    let mut e = d;
+    let mut e = s;
     e.input = input;
-    e.event = std::num::wrapping_add_u64(d.event, 1);
+    e.event = std::num::wrapping_add_u64(s.event, 1);
     if line.found != LINE {
         return ended(e, line.found);
     }
