@@ -1,7 +1,7 @@
 -- One list of what the rules give and what the requirements say, and one statement: they are the same.
 use Prim.Native.Nat.{ℕ, _-_}
 use mathlib.Core.Path.{_≡_}
-use mathlib.Core.Bool.{Bool, true}
+use mathlib.Core.Bool.{Bool}
 use mathlib.Core.List.{List, [], _∷_, _++_, map}
 use lib.Bits.{bitOr}
 use lib.ListN.{replicate, length}

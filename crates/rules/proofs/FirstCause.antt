@@ -1,7 +1,7 @@
 -- Why the first cause is returned: each call looks at its causes list by list, and one behind the other they stand in the table's order.
 use Prim.Native.Nat.{ℕ, _-_}
 use mathlib.Core.Path.{_≡_, refl, sym, ap, _∙_}
-use mathlib.Core.Bool.{Bool, true, false, not}
+use mathlib.Core.Bool.{Bool, true, false}
 use mathlib.Core.Logic.{_⊎_, inl, inr}
 use mathlib.Core.List.{List, [], _∷_, _++_}
 use native.Mathlib.Omega.{arith}
@@ -9,7 +9,7 @@ use borrow.Author.Tests.{eqb-true, eqb-false, ne-eqb}
 use lib.Dec.{eqb, ltb, leb}
 use lib.ListN.{length, getD}
 use Rattle.laws.specs.Choice.{pick, every, by-test}
-use Rattle.laws.specs.Cause.{Cause, cause, codeOf, numbered, code-append, inOrder, firstIn, first-in}
+use Rattle.laws.specs.Cause.{Cause, cause, codeOf, numbered, code-append, inOrder, first-in}
 use Rattle.kinds.specs.Sizes as sizes
 use Rattle.kinds.specs.Reason as reason
 use Rattle.kinds.specs.Kind as kind
@@ -27,7 +27,7 @@ use Rattle.rules.specs.Keys.{wroteKey, readKey}
 use Rattle.rules.specs.History.{isForgotten, isNewer}
 use Rattle.rules.specs.Valid.{siteOk, handedOk}
 use Rattle.rules.specs.Live.{placeOf, freePlace, keyHeld, allHeard}
-use Rattle.rules.specs.Certify.{concurrent, voteOf}
+use Rattle.rules.specs.Certify.{concurrent}
 use Rattle.rules.specs.CertifyLaws.{concurrent-whole}
 use Rattle.rules.specs.Effect.{Effect, Change, turnAt, changed, unless}
 use Rattle.rules.specs.Course.{withReply, sendTo, quietly, raise, channelSpent, enlistStep, abortStep}

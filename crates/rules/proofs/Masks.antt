@@ -1,17 +1,17 @@
 -- Masks of participants: who is in one, who is in a joined one, and that a full round has heard every other participant.
-use Prim.Native.Nat.{ℕ, zero, suc, _+_, _-_, _/_, _%_, _^_, _≤_, _<_, max}
+use Prim.Native.Nat.{ℕ, _-_, _%_, _^_, _≤_, _<_, max}
 use mathlib.Core.Path.{_≡_, refl, sym, ap, _∙_}
 use mathlib.Core.Bool.{true, false, not}
 use mathlib.Core.Logic.{_⊎_, inl, inr}
 use mathlib.Core.List.{[], _∷_}
-use native.Mathlib.Nat.{div-eq-of-lt, zero-div}
+use native.Mathlib.Nat.{zero-div}
 use native.Mathlib.Omega.{arith}
-use borrow.Author.Tests.{eqb-true, eqb-false, ne-eqb, leb-true, leb-false, not-true}
+use borrow.Author.Tests.{eqb-true, eqb-false, leb-true, leb-false, not-true}
 use lib.Bits.{bitOr, or-lt}
 use lib.Dec.{eqb, leb}
-use lib.Pow.{pow-pos, pow-lt, pow-mono}
-use Rattle.laws.specs.Choice.{pick, by-test, every-at, set-not}
-use Rattle.laws.specs.Digits.{digit, digit-le, digit-or, onesBelow, digit-half}
+use lib.Pow.{pow-lt, pow-mono}
+use Rattle.laws.specs.Choice.{by-test, every-at}
+use Rattle.laws.specs.Digits.{digit, digit-le, digit-or}
 use Rattle.kinds.specs.Sizes as sizes
 use Rattle.kinds.specs.declared.Course.{Course}
 use Rattle.rules.specs.EntryLaws.{in-digit, digit-in}

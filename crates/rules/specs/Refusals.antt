@@ -2,12 +2,12 @@
 -- any state, and not only of those that a list leaves.
 use Prim.Native.Nat.{ℕ, _-_}
 use mathlib.Core.Path.{_≡_}
-use mathlib.Core.Bool.{Bool, true, false, not}
+use mathlib.Core.Bool.{true, false, not}
 use mathlib.Core.List.{List, [], _∷_, _++_}
 use lib.Dec.{eqb, leb, ltb}
 use lib.ListN.{length, getD}
 use Rattle.laws.specs.Choice.{pick, every}
-use Rattle.laws.specs.Cause.{Cause, cause, firstIn}
+use Rattle.laws.specs.Cause.{Cause, firstIn}
 use Rattle.kinds.specs.Sizes as sizes
 use Rattle.kinds.specs.Stage as stage
 use Rattle.kinds.specs.Reason as reason
@@ -34,7 +34,6 @@ use Rattle.rules.specs.Enlist.{isMine, enlistCauses, joinerCauses}
 use Rattle.rules.specs.Commit.{requestCauses, commitCauses, abandonCauses}
 use Rattle.rules.specs.Deliver.{arrivalCauses, nextCauses, replyCauses, spentTo, spentToAll, joinedInTurn, concInTurn, voteInTurn}
 use Rattle.rules.specs.Install.{installCauses, reportCauses, startCauses, startOf}
-use Rattle.rules.specs.Merger as merger
 use Rattle.rules.specs.Merger.{sourceAt, headsOf, leastSite, mergerStartCauses, mergeCauses, mergePartCauses, mergeStateCauses}
 use Rattle.rules.specs.Merger.{emitCauses, dueCauses, mergerStartOf}
 use Rattle.rules.specs.Copy.{replayCauses, valueCauses, copyStartCauses, copyStartOf}

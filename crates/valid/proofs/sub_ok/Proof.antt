@@ -10,7 +10,7 @@ use Rattle.valid.proofs.sub_ok.Statement.{statement}
 use Rattle.valid.proofs.sub_ok.Tie as tie
 
 -- what each test that was passed says
-course-good : (c : tie.Else1) → (let a = c .before .before .before .before .args in courseOk (a .o) (a .own) (a .b .course) ≡ true)
+course-good : (c : tie.Else1) → (let call = c .before in let a = call .before .before .before .args in courseOk (a .o) (a .own) (a .b .course) ≡ true)
 course-good c = sym (c .before .course-ok .ensures) ∙ not-false _ (c .if1 .left)
 
 keys-good : (c : tie.Else2) →
