@@ -1,99 +1,158 @@
 // A line as a call of a site, which is in a place: its number less 1.
+mod own;
+
 use deliver::message::message;
-use kinds::Answer;
-use kinds::Out;
-use kinds::Site;
-use kinds::reason::MALFORMED;
+use kinds::Core;
+use kinds::Reply;
+use kinds::sizes::HISTORY_WORDS;
 use kinds::sizes::KEYS;
 use kinds::sizes::LISTS;
+use kinds::sizes::LIVE_WORDS;
 use kinds::sizes::OUTGOING;
 use kinds::sizes::SITES;
 use lines::Command;
+use own::own_call;
 use parts::front;
+use parts::part;
+use parts::part_mut;
 use spool::ITEM;
 ghost use mathlib.Core.Path.{_≡_};
 ghost use Prim.Native.Nat.{_+_, _<_};
+ghost use lib.Dec.{eqb};
 ghost use lib.ListN.{length};
-ghost use Rattle.rules.specs.Install.{startOf};
+ghost use Rattle.laws.specs.Choice.{pick};
+ghost use Rattle.kinds.specs.Sizes as sizes;
+ghost use Rattle.rules.specs.Install.{startCode};
+ghost use Rattle.lent.specs.Fresh.{freshCore};
+ghost use Rattle.calls.specs.Tables.{Tables};
 
-// Base values, and gathered lists, of all sites, one behind the other.
+// Live parts, histories, base values and gathered lists of all sites, each one behind the other.
+pub const LIVES: usize = SITES * LIVE_WORDS;
+
+pub const HISTORIES: usize = SITES * HISTORY_WORDS;
+
 pub const BASES: usize = SITES * KEYS;
 
 pub const GATHERINGS: usize = SITES * LISTS;
 
-// A call of the site in a place, but for `take`.
-pub fn at_site(
-    s: Site,
+// A call of the site in a place, but for `take`, with the words of all sites.
+fn in_place(
+    p: Core,
     c: Command,
     place: usize,
+    live: &mut [u64],
+    history: &mut [u64],
     base: &mut [u64],
     lists: &mut [u64],
-    out: &mut [u64; OUTGOING],
-) -> Out
-    requires { ⌜ (place < 8) × (length (now base) ≡ 16384) × (length (now lists) ≡ 144384) ⌝ }
+    out: &mut [u64],
+) -> Reply
+    requires { ⌜ place < sizes.sites ⌝ }
 {
-    let a = place * KEYS;
-    let b = place * LISTS;
-    match c {
-        Command::Begin(_) => site::begin::begin(s),
-        Command::Enlist(tx, to) => site::enlist::enlist(s, tx, to, out),
-        Command::Read(_, tx, key) => site::access::read(s, &base[a..a + KEYS], tx, key),
-        Command::Write(_, tx, key, value) => site::access::write(s, tx, key, value),
-        Command::Commit(tx) => saves::commit::commit(s, tx, &mut lists[b..b + LISTS], out),
-        Command::Abandon(tx) => saves::abandon::abandon(s, tx, out),
-        Command::Install(_) => installs::install(s, &mut base[a..a + KEYS], out),
-        Command::Report(_) => installs::report(s, out),
-        _ => Out {
-            answer: Answer::Refused(MALFORMED),
-            words: 0,
-            site: s,
-        },
-    }
+    let w = part_mut(live, place * LIVE_WORDS, LIVE_WORDS);
+    let h = part_mut(history, place * HISTORY_WORDS, HISTORY_WORDS);
+    let b = part_mut(base, place * KEYS, KEYS);
+    let l = part_mut(lists, place * LISTS, LISTS);
+    own_call(p, c, w, h, b, l, out)
+}
+
+// A line's call of the site in a place, but for `take`.
+pub fn at_site(
+    p: Core,
+    c: Command,
+    place: usize,
+    live: &mut [u64; LIVES],
+    history: &mut [u64; HISTORIES],
+    base: &mut [u64; BASES],
+    lists: &mut [u64; GATHERINGS],
+    out: &mut [u64; OUTGOING],
+) -> Reply
+    requires { ⌜ place < sizes.sites ⌝ }
+{
+    in_place(p, c, place, live, history, base, lists, out)
+}
+
+fn take_in_place(
+    p: Core,
+    place: usize,
+    live: &mut [u64],
+    history: &[u64],
+    lists: &mut [u64],
+    m: &[u64],
+    out: &mut [u64],
+) -> Reply
+    requires { ⌜ place < sizes.sites ⌝ }
+{
+    message(
+        p,
+        part_mut(live, place * LIVE_WORDS, LIVE_WORDS),
+        part(history, place * HISTORY_WORDS, HISTORY_WORDS),
+        m,
+        part_mut(lists, place * LISTS, LISTS),
+        out,
+    )
 }
 
 // The site in a place takes the message that is the first n words of m.
 pub fn take_at(
-    s: Site,
+    p: Core,
     place: usize,
-    lists: &mut [u64],
+    live: &mut [u64; LIVES],
+    history: &[u64; HISTORIES],
+    lists: &mut [u64; GATHERINGS],
     m: &[u64; ITEM],
     n: usize,
     out: &mut [u64; OUTGOING],
-) -> Out
-    requires { ⌜ (place < 8) × (length (now lists) ≡ 144384) ⌝ }
+) -> Reply
+    requires { ⌜ place < sizes.sites ⌝ }
 {
-    let b = place * LISTS;
-    message(s, front(m, n), &mut lists[b..b + LISTS], out)
+    take_in_place(p, place, live, history, lists, front(m, n), out)
 }
 
 // A fresh site of a house of n.
-fn start_at(n: u64, place: usize, base: &mut [u64], lists: &mut [u64]) -> Site
-    requires { ⌜ (place < 8) × (length (now base) ≡ 16384) × (length (now lists) ≡ 144384) ⌝ }
-    ensures { λ r. ⌜ r ≡ startOf n (place + 1) 2048 18048 .site ⌝ }
+fn start_at(
+    n: u64,
+    place: usize,
+    live: &mut [u64],
+    history: &mut [u64],
+    base: &mut [u64],
+    lists: &mut [u64],
+) -> Core
+    requires { ⌜ (place < sizes.sites) × Tables (now live) (now history) (now base) (now lists) ⌝ }
+    ensures { λ r. ⌜ r ≡ pick (eqb (startCode n (place + 1) sizes.keys sizes.lists) 0) (freshCore n (place + 1)) (freshCore 0 0) ⌝ }
 {
     let a = place * KEYS;
     let b = place * LISTS;
+    let x = place * LIVE_WORDS;
+    let y = place * HISTORY_WORDS;
     let o = site::start::start(
         n,
         place as u64 + 1,
+        &mut live[x..x + LIVE_WORDS],
+        &mut history[y..y + HISTORY_WORDS],
         &mut base[a..a + KEYS],
         &mut lists[b..b + LISTS],
     );
-    let s = o.site;
-    s
+    let p = o.core;
+    p
 }
 
 // Every site of a house of n. A place that the house lacks holds what a refused start hands back; no line goes there.
-pub fn start_sites(n: u64, base: &mut [u64], lists: &mut [u64]) -> [Site; SITES]
-    requires { ⌜ (length (now base) ≡ 16384) × (length (now lists) ≡ 144384) ⌝ }
-    ensures { λ r. ⌜ length r ≡ 8 ⌝ }
+pub fn start_sites(
+    n: u64,
+    live: &mut [u64],
+    history: &mut [u64],
+    base: &mut [u64],
+    lists: &mut [u64],
+) -> [Core; SITES]
+    requires { ⌜ Tables (now live) (now history) (now base) (now lists) ⌝ }
+    ensures { λ r. ⌜ length r ≡ sizes.sites ⌝ }
 {
-    let first = start_at(n, 0, base, lists);
+    let first = start_at(n, 0, live, history, base, lists);
     let mut sites = [first; SITES];
     let mut i: usize = 1;
     while i < SITES {
-        let s = start_at(n, i, base, lists);
-        sites[i] = s;
+        let p = start_at(n, i, live, history, base, lists);
+        sites[i] = p;
         i += 1;
     }
     sites

@@ -1,2 +1,3 @@
--- What the leaves of certify ask of their callers and promise them, and the laws that their proofs cite.
 pub mod Leaves
+pub mod Asks
+pub mod Gather

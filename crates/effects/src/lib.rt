@@ -14,9 +14,11 @@ pub use streams::at_copy;
 pub use streams::at_merger;
 use verbs::verb;
 
-// Lengths lent: the outgoing buffer, the base values, the gathered lists, the merger's queues, a copy.
+// Lengths lent: the outgoing buffer, the live parts, the history, the base values, the gathered lists, the merger's queues, a copy.
 pub struct Lent {
     pub room: usize,
+    pub live: usize,
+    pub history: usize,
     pub base: usize,
     pub lists: usize,
     pub queues: usize,

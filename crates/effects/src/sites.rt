@@ -4,111 +4,152 @@ use crate::Lent;
 use crate::buffer_of;
 use crate::pattern;
 use kinds::Answer;
-use kinds::Out;
-use kinds::Site;
+use kinds::Core;
+use kinds::Reply;
+use kinds::sizes::HISTORY_WORDS;
 use kinds::sizes::KEYS;
+use kinds::sizes::LIVE_WORDS;
 use pages::is_refused;
 use parts::front;
 use parts::front_mut;
-use pokes::poke_list;
 use pokes::poke_site;
 use verbs::Line;
 use verbs::verb;
 
 pub struct SiteDone {
     pub done: Done,
-    pub site: Site,
+    pub core: Core,
 }
 
-fn start(s: Site, sites: u64, own: u64, base: &mut [u64], lists: &mut [u64]) -> Out {
-    let o = site::start::start(sites, own, base, lists);
+// A refused start leaves the site as it was.
+fn start(
+    p: Core,
+    l: Line,
+    live: &mut [u64],
+    history: &mut [u64],
+    base: &mut [u64],
+    lists: &mut [u64],
+) -> Reply {
+    let o = site::start::start(l.b, l.c, live, history, base, lists);
     let answer = o.answer;
     if is_refused(answer) {
-        return Out {
+        return Reply {
             answer,
             words: 0,
-            site: s,
+            core: p,
         };
     }
     o
 }
 
 // The call, with exactly the words that it is lent.
-fn call(s: Site, l: Line, m: &[u64], base: &mut [u64], lists: &mut [u64], out: &mut [u64]) -> Out {
-    let v = l.verb;
-    match v {
-        verb::BEGIN => site::begin::begin(s),
-        verb::ENLIST => site::enlist::enlist(s, l.b, l.c, out),
-        verb::READ => site::access::read(s, base, l.b, l.c),
-        verb::WRITE => site::access::write(s, l.b, l.c, l.d),
-        verb::COMMIT => saves::commit::commit(s, l.b, lists, out),
-        verb::ABANDON => saves::abandon::abandon(s, l.b, out),
-        verb::MESSAGE => deliver::message::message(s, m, lists, out),
-        verb::INSTALL => installs::install(s, base, out),
-        verb::REPORT => installs::report(s, out),
-        verb::START => start(s, l.b, l.c, base, lists),
-        _ => poke_site(s, l),
-    }
-}
-
-// A call is lent as much of the tables as is asked for; a list is poked in the whole of them.
-fn obeyed(
-    s: Site,
+fn call(
+    p: Core,
     l: Line,
-    lent: Lent,
     m: &[u64],
+    live: &mut [u64],
+    history: &mut [u64],
     base: &mut [u64],
     lists: &mut [u64],
     out: &mut [u64],
-) -> Out {
-    if l.verb == verb::LIST {
-        return poke_list(s, lists, l.b, l.c, l.d);
+) -> Reply {
+    let v = l.verb;
+    match v {
+        verb::BEGIN => site::begin::begin(p, live, history),
+        verb::ENLIST => site::enlist::enlist(p, live, history, l.b, l.c, out),
+        verb::READ => site::access::read(p, live, history, base, l.b, l.c),
+        verb::WRITE => site::access::write(p, live, history, l.b, l.c, l.d),
+        verb::COMMIT => saves::commit::commit(p, live, history, l.b, lists, out),
+        verb::ABANDON => saves::abandon::abandon(p, live, history, l.b, out),
+        verb::MESSAGE => deliver::message::message(p, live, history, m, lists, out),
+        verb::INSTALL => installs::install(p, live, history, base, out),
+        verb::REPORT => installs::report(p, live, history, out),
+        _ => start(p, l, live, history, base, lists),
+    }
+}
+
+fn is_poke(v: u64) -> bool {
+    match v {
+        verb::SITE => true,
+        verb::LIVE => true,
+        verb::PAST => true,
+        verb::LIST => true,
+        _ => false,
+    }
+}
+
+// A call is lent as much of the tables as is asked for; a poke is lent the whole of them.
+fn obeyed(
+    p: Core,
+    l: Line,
+    lent: Lent,
+    m: &[u64],
+    live: &mut [u64],
+    history: &mut [u64],
+    base: &mut [u64],
+    lists: &mut [u64],
+    out: &mut [u64],
+) -> Reply {
+    if is_poke(l.verb) {
+        return poke_site(p, live, history, lists, l);
     }
     call(
-        s,
+        p,
         l,
         m,
+        front_mut(live, lent.live),
+        front_mut(history, lent.history),
         front_mut(base, lent.base),
         front_mut(lists, lent.lists),
         out,
     )
 }
 
-fn whole(s: Site, base: &[u64], lists: &[u64]) -> u64 {
-    sums::of_words(sums::of_words(sums::whole::site(s), base), lists)
+// The checksum of a core and all of its words.
+fn whole(p: Core, live: &[u64], history: &[u64], base: &[u64], lists: &[u64]) -> u64 {
+    let a = sums::of_words(sums::whole::core(p), live);
+    let b = sums::of_words(a, history);
+    sums::of_words(sums::of_words(b, base), lists)
 }
 
-fn state_of(a: Answer, s: Site, base: &[u64]) -> u64 {
+fn state_of(a: Answer, p: Core, live: &[u64], history: &[u64], base: &[u64]) -> u64 {
     if is_refused(a) {
         return 0;
     }
-    sums::seen::site(s, front(base, KEYS))
+    sums::seen::site(
+        p,
+        front(live, LIVE_WORDS),
+        front(history, HISTORY_WORDS),
+        front(base, KEYS),
+    )
 }
 
 // Calls a site with its tables, and compares it before and after.
 pub fn at_site(
-    s: Site,
+    p: Core,
     l: Line,
     lent: Lent,
     m: &[u64],
+    live: &mut [u64],
+    history: &mut [u64],
     base: &mut [u64],
     lists: &mut [u64],
     out: &mut [u64],
 ) -> SiteDone {
-    let before = whole(s, base, lists);
+    let before = whole(p, live, history, base, lists);
     pattern(out);
-    let o = obeyed(s, l, lent, m, base, lists, out);
-    let t = o.site;
+    let o = obeyed(p, l, lent, m, live, history, base, lists, out);
+    let q = o.core;
     let answer = o.answer;
-    let after = whole(t, base, lists);
+    let after = whole(q, live, history, base, lists);
     SiteDone {
         done: Done {
             answer,
             words: o.words,
             buffer: buffer_of(l.verb, out),
             same: before == after,
-            state: state_of(answer, t, base),
+            state: state_of(answer, q, live, history, base),
         },
-        site: t,
+        core: q,
     }
 }

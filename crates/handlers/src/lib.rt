@@ -3,4 +3,3 @@ pub mod codes;
 pub mod coordinator;
 pub mod gather;
 pub mod participant;
-pub mod settle;

@@ -1,13 +1,8 @@
 // Messages to a participant: JOIN, PREPARE, CERT, COMMIT, ABORT.
 use crate::codes::reply_code;
-use crate::settle::arrived;
-use crate::settle::join_turn;
-use crate::settle::refused;
-use crate::settle::settled;
-use crate::settle::spoken;
+use kinds::Core;
 use kinds::MessageHead;
-use kinds::Out;
-use kinds::Site;
+use kinds::Reply;
 use kinds::Taken;
 use kinds::Turn;
 use kinds::kind::JOINED;
@@ -23,7 +18,6 @@ use kinds::stage::PREPARED;
 use kinds::stage::QUEUED;
 ghost use mathlib.Core.Path.{_≡_};
 ghost use mathlib.Core.Bool.{true};
-ghost use mathlib.Core.List.{[]};
 ghost use Prim.Native.Nat.{_*_, _≤_, _<_};
 ghost use lib.ListN.{length};
 ghost use Rattle.laws.specs.Overlay.{overlay};
@@ -31,144 +25,174 @@ ghost use Rattle.kinds.specs.Sizes as sizes;
 ghost use Rattle.rules.specs.Valid.{siteOk};
 ghost use Rattle.rules.specs.History.{isForgotten};
 ghost use Rattle.rules.specs.Certify.{concurrent};
-ghost use Rattle.rules.specs.Effect.{outOf, takenOf};
+ghost use Rattle.rules.specs.Effect.{takenOf};
 ghost use Rattle.rules.specs.Course.{CanSendTo, preparedStep};
-ghost use Rattle.rules.specs.Deliver.{Arriving, takeJoin, takePrepare, passPrepare, takeCert, takeCommit, takeAbort};
+ghost use Rattle.rules.specs.Deliver.{takeJoin, takePrepare, passPrepare, takeCert, takeCommit, takeAbort};
+ghost use Rattle.lent.specs.Lent.{siteOf, Replied};
+ghost use Rattle.handlers.specs.Held.{Held, Reached};
 
 // The words of a site's own list: all other live and all remembered.
 const LIST: usize = ENTRY * (LIVE + HISTORY);
 
-pub fn take_join(s: Site, h: MessageHead, place: usize, out: &mut [u64]) -> Out
-    requires { ⌜ Arriving s (h .from) × (sizes.outgoing ≤ length (now out)) ⌝ }
-    ensures { λ r. ⌜ r ≡ outOf (takeJoin s h place) ⌝ }
-    ensures { λ _. ⌜ now (out .exit) ≡ overlay (now (out .entry)) (takeJoin s h place .words) ⌝ }
+pub fn take_join(
+    p: Core,
+    live: &mut [u64],
+    history: &[u64],
+    h: MessageHead,
+    place: usize,
+    out: &mut [u64],
+) -> Reply
+    requires { ⌜ Reached p (now live) (now history) (h .from) × (sizes.outgoing ≤ length (now out)) ⌝ }
+    ensures { λ r. ⌜ Replied p (now (live .entry)) (now (history .entry)) r (now (live .exit)) (now (history .exit)) (takeJoin (siteOf p (now (live .entry)) (now (history .entry))) h place) ⌝ }
+    ensures { λ _. ⌜ now (out .exit) ≡ overlay (now (out .entry)) (takeJoin (siteOf p (now (live .entry)) (now (history .entry))) h place .words) ⌝ }
 {
-    let spent = course::turn::channel_spent(s.channels, h.from);
+    let spent = course::turn::channel_spent(p.channels, h.from);
     let code = reply_code(LIVE <= place, spent);
     if code != 0 {
-        return refused(s, code);
+        return shell::refused(p, code);
     }
-    let t = join_turn(s, h);
-    let mut live = s.live;
-    let free = live::free_place(live);
+    let t = shell::join_turn(p, h);
+    let seats = p.seats;
+    let free = live::free_place(seats);
     let none = [0u64; 0];
     if LIVE <= free {
         let a = course::send::send_to(t, JOINED, h.from, 0, FULL, &none, out);
-        return spoken(s, a);
+        return shell::spoken(p, a);
     }
     let a = course::send::send_to(t, JOINED, h.from, 0, 0, &none, out);
-    // Not `settled`: writing into the scanned copy avoids a copy of the live table, place by place (docs/DESIGN.md, Speed).
-    let answer = a.answer;
-    let u = a.turn;
-    let c = u.counters;
-    let d = u.channels;
-    let b = u.sub;
-    live[free] = b;
-    let mut v = s;
-    v.counters = c;
-    v.channels = d;
-    v.live = live;
-    Out {
-        answer,
-        words: a.words,
-        site: v,
-    }
+    shell::settled(p, live, free, a)
 }
 
 // Its list, or a vote of 19.
-fn prepare_taken(s: Site, h: MessageHead, place: usize, t: Turn, out: &mut [u64]) -> Taken
-    requires { ⌜ (siteOk s ≡ true) × ((place < sizes.live) × CanSendTo t (h .from) (length (now out))) ⌝ }
-    ensures { λ r. ⌜ r ≡ takenOf (preparedStep t (h .from) (h .argument) (isForgotten (s .counters .installs) (t .sub .snapshot)) (concurrent s place)) ⌝ }
-    ensures { λ _. ⌜ now (out .exit) ≡ overlay (now (out .entry)) (preparedStep t (h .from) (h .argument) (isForgotten (s .counters .installs) (t .sub .snapshot)) (concurrent s place) .words) ⌝ }
+fn prepare_taken(
+    p: Core,
+    live: &[u64],
+    history: &[u64],
+    h: MessageHead,
+    place: usize,
+    t: Turn,
+    out: &mut [u64],
+) -> Taken
+    requires { ⌜ (siteOk (siteOf p (now live) (now history)) ≡ true) × (place < sizes.live) ⌝ }
+    requires { ⌜ CanSendTo t (h .from) (length (now out)) ⌝ }
+    ensures { λ r. ⌜ r ≡ takenOf (preparedStep t (h .from) (h .argument) (isForgotten (p .counters .installs) (t .sub .snapshot)) (concurrent (siteOf p (now (live .entry)) (now (history .entry))) place)) ⌝ }
+    ensures { λ _. ⌜ now (out .exit) ≡ overlay (now (out .entry)) (preparedStep t (h .from) (h .argument) (isForgotten (p .counters .installs) (t .sub .snapshot)) (concurrent (siteOf p (now (live .entry)) (now (history .entry))) place) .words) ⌝ }
 {
-    let lost = history::is_forgotten(s.counters.installs, t.sub.snapshot);
+    let lost = history::is_forgotten(p.counters.installs, t.sub.snapshot);
     let mut list = [0u64; LIST];
-    let n = certify::concurrent(&mut list, s, place);
+    let n = certify::concurrent(&mut list, p, live, history, place);
     let e = ENTRY * n;
     course::participant::prepared_step(t, h.from, h.argument, lost, &list[..e], out)
 }
 
-pub fn take_prepare(s: Site, h: MessageHead, place: usize, out: &mut [u64]) -> Out
-    requires { ⌜ (siteOk s ≡ true) × ((place < sizes.live) × (Arriving s (h .from) × (sizes.outgoing ≤ length (now out)))) ⌝ }
-    ensures { λ r. ⌜ r ≡ outOf (takePrepare s h place) ⌝ }
-    ensures { λ _. ⌜ now (out .exit) ≡ overlay (now (out .entry)) (takePrepare s h place .words) ⌝ }
+pub fn take_prepare(
+    p: Core,
+    live: &mut [u64],
+    history: &[u64],
+    h: MessageHead,
+    place: usize,
+    out: &mut [u64],
+) -> Reply
+    requires { ⌜ Held p (now live) (now history) place (h .from) × (sizes.outgoing ≤ length (now out)) ⌝ }
+    ensures { λ r. ⌜ Replied p (now (live .entry)) (now (history .entry)) r (now (live .exit)) (now (history .exit)) (takePrepare (siteOf p (now (live .entry)) (now (history .entry))) h place) ⌝ }
+    ensures { λ _. ⌜ now (out .exit) ≡ overlay (now (out .entry)) (takePrepare (siteOf p (now (live .entry)) (now (history .entry))) h place .words) ⌝ }
 {
-    let first = arrived(s, place, h.from);
+    let first = shell::arrived(p, live, place, h.from);
     let t = course::turn::raise(first, h.clock);
-    let spent = course::turn::channel_spent(s.channels, h.from);
+    let spent = course::turn::channel_spent(p.channels, h.from);
     let code = reply_code(t.sub.course.stage == ACTIVE, spent);
     if code != 0 {
-        return refused(s, code);
+        return shell::refused(p, code);
     }
-    let a = prepare_taken(s, h, place, t, out);
-    settled(s, place, a)
+    let a = prepare_taken(p, live, history, h, place, t, out);
+    shell::settled(p, live, place, a)
 }
 
 // PREPARE of a transaction that is not held raises the clock and is voted 5.
-pub fn pass_prepare(s: Site, h: MessageHead, out: &mut [u64]) -> Out
-    requires { ⌜ Arriving s (h .from) × (sizes.outgoing ≤ length (now out)) ⌝ }
-    ensures { λ r. ⌜ r ≡ outOf (passPrepare s h) ⌝ }
-    ensures { λ _. ⌜ now (out .exit) ≡ overlay (now (out .entry)) (passPrepare s h .words) ⌝ }
+pub fn pass_prepare(
+    p: Core,
+    live: &[u64],
+    history: &[u64],
+    h: MessageHead,
+    out: &mut [u64],
+) -> Reply
+    requires { ⌜ Reached p (now live) (now history) (h .from) × (sizes.outgoing ≤ length (now out)) ⌝ }
+    ensures { λ r. ⌜ Replied p (now (live .entry)) (now (history .entry)) r (now (live .exit)) (now (history .exit)) (passPrepare (siteOf p (now (live .entry)) (now (history .entry))) h) ⌝ }
+    ensures { λ _. ⌜ now (out .exit) ≡ overlay (now (out .entry)) (passPrepare (siteOf p (now (live .entry)) (now (history .entry))) h .words) ⌝ }
 {
-    let spent = course::turn::channel_spent(s.channels, h.from);
+    let spent = course::turn::channel_spent(p.channels, h.from);
     let code = reply_code(true, spent);
     if code != 0 {
-        return refused(s, code);
+        return shell::refused(p, code);
     }
-    let first = join_turn(s, h);
+    let first = shell::join_turn(p, h);
     let t = course::turn::raise(first, h.clock);
     let clock = t.counters.clock;
     let none = [0u64; 0];
     let a = course::send::send_to(t, VOTE, h.from, clock, UNKNOWN, &none, out);
-    spoken(s, a)
+    shell::spoken(p, a)
 }
 
-pub fn take_cert(s: Site, h: MessageHead, es: &[u64], place: usize, out: &mut [u64]) -> Out
-    requires { ⌜ (siteOk s ≡ true) × ((place < sizes.live) × (Arriving s (h .from) × (sizes.outgoing ≤ length (now out)))) ⌝ }
+pub fn take_cert(
+    p: Core,
+    live: &mut [u64],
+    history: &[u64],
+    h: MessageHead,
+    es: &[u64],
+    place: usize,
+    out: &mut [u64],
+) -> Reply
+    requires { ⌜ Held p (now live) (now history) place (h .from) × (sizes.outgoing ≤ length (now out)) ⌝ }
     requires { ⌜ (h .count ≤ sizes.certEntries) × (sizes.entry * h .count ≤ length (now es)) ⌝ }
-    ensures { λ r. ⌜ r ≡ outOf (takeCert s h (now (es .entry)) place) ⌝ }
-    ensures { λ _. ⌜ now (out .exit) ≡ overlay (now (out .entry)) (takeCert s h (now (es .entry)) place .words) ⌝ }
+    ensures { λ r. ⌜ Replied p (now (live .entry)) (now (history .entry)) r (now (live .exit)) (now (history .exit)) (takeCert (siteOf p (now (live .entry)) (now (history .entry))) h (now (es .entry)) place) ⌝ }
+    ensures { λ _. ⌜ now (out .exit) ≡ overlay (now (out .entry)) (takeCert (siteOf p (now (live .entry)) (now (history .entry))) h (now (es .entry)) place .words) ⌝ }
 {
-    let t = arrived(s, place, h.from);
-    let spent = course::turn::channel_spent(s.channels, h.from);
+    let t = shell::arrived(p, live, place, h.from);
+    let spent = course::turn::channel_spent(p.channels, h.from);
     let code = reply_code(t.sub.course.stage == PREPARED, spent);
     if code != 0 {
-        return refused(s, code);
+        return shell::refused(p, code);
     }
     let n = h.count as usize;
-    let v = certify::vote_of(s, place, es, n);
+    let v = certify::vote_of(p, live, history, place, es, n);
     let a = course::participant::certified_step(t, h.from, v, out);
-    settled(s, place, a)
+    shell::settled(p, live, place, a)
 }
 
-pub fn take_commit(s: Site, h: MessageHead, place: usize) -> Out
-    requires { ⌜ (place < sizes.live) × Arriving s (h .from) ⌝ }
-    ensures { λ r. ⌜ r ≡ outOf (takeCommit s h place) ⌝ }
+pub fn take_commit(
+    p: Core,
+    live: &mut [u64],
+    history: &[u64],
+    h: MessageHead,
+    place: usize,
+) -> Reply
+    requires { ⌜ Held p (now live) (now history) place (h .from) ⌝ }
+    ensures { λ r. ⌜ Replied p (now (live .entry)) (now (history .entry)) r (now (live .exit)) (now (history .exit)) (takeCommit (siteOf p (now (live .entry)) (now (history .entry))) h place) ⌝ }
 {
-    let first = arrived(s, place, h.from);
+    let first = shell::arrived(p, live, place, h.from);
     let t = course::turn::raise(first, h.clock);
     let c = t.sub.course;
     let code = reply_code(c.stage == QUEUED, false);
     if code != 0 {
-        return refused(s, code);
+        return shell::refused(p, code);
     }
     let d = course::turn::with_decision(c, h.clock);
     let u = course::turn::with_course(t, d);
     let a = course::turn::quietly(u);
-    settled(s, place, a)
+    shell::settled(p, live, place, a)
 }
 
-pub fn take_abort(s: Site, h: MessageHead, place: usize) -> Out
-    requires { ⌜ (place < sizes.live) × Arriving s (h .from) ⌝ }
-    ensures { λ r. ⌜ r ≡ outOf (takeAbort s h place) ⌝ }
+pub fn take_abort(p: Core, live: &mut [u64], history: &[u64], h: MessageHead, place: usize) -> Reply
+    requires { ⌜ Held p (now live) (now history) place (h .from) ⌝ }
+    ensures { λ r. ⌜ Replied p (now (live .entry)) (now (history .entry)) r (now (live .exit)) (now (history .exit)) (takeAbort (siteOf p (now (live .entry)) (now (history .entry))) h place) ⌝ }
 {
-    let t = arrived(s, place, h.from);
+    let t = shell::arrived(p, live, place, h.from);
     let code = reply_code(t.sub.course.stage != DECIDED, false);
     if code != 0 {
-        return refused(s, code);
+        return shell::refused(p, code);
     }
     let free = course::turn::no_sub();
     let u = course::turn::with_sub(t, free);
     let a = course::turn::quietly(u);
-    settled(s, place, a)
+    shell::settled(p, live, place, a)
 }

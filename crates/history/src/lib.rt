@@ -1,17 +1,21 @@
 // The history of the last installed parts: what is remembered, and the version that a snapshot sees.
-use keys::wrote_key;
-use keys::wrote_value;
-use kinds::Entry;
+use keys::wrote_key_in;
+use keys::wrote_value_in;
 use kinds::Key;
 use kinds::Keys;
 use kinds::Snapshot;
 use kinds::Value;
 use kinds::sizes::HISTORY;
+use kinds::sizes::SLOT;
+use kinds::word::SLOT_KEYS;
 ghost use mathlib.Core.Path.{_≡_};
 ghost use Prim.Native.Nat.{ℕ, _+_, _≤_, _<_};
 ghost use lib.ListN.{length, getD};
-ghost use Rattle.kinds.specs.State.{pastEntry};
-ghost use Rattle.rules.specs.History.{remembered as rememberedOf, forgotten as forgottenOf, slotOf, isForgotten, within as withinOf, versionOf, isNewer, recallPlace, forgetInto};
+ghost use Rattle.kinds.specs.Sizes as sizes;
+ghost use Rattle.rules.specs.History.{remembered as rememberedOf, forgotten as forgottenOf, slotOf, isForgotten, within as withinOf};
+ghost use Rattle.rules.specs.History.{versionOf, isNewer, forgetInto};
+ghost use Rattle.lent.specs.Layout.{historyOf};
+ghost use Rattle.lent.specs.Read.{Slots};
 
 // How many installs are remembered.
 pub fn remembered(installs: u64) -> usize
@@ -35,7 +39,7 @@ pub fn forgotten(installs: u64) -> u64
 
 // The slot of the `i`-th remembered install, oldest first.
 pub fn recall_slot(installs: u64, i: usize) -> usize
-    requires { ⌜ i ≤ 32 ⌝ }
+    requires { ⌜ i ≤ sizes.history ⌝ }
     ensures { λ r. ⌜ r ≡ slotOf (forgottenOf installs + i) ⌝ }
 {
     let first = forgotten(installs);
@@ -66,24 +70,17 @@ pub fn within(installs: u64, p: Snapshot) -> usize
 }
 
 // The newest version of `k` within the snapshot, else its base value.
-pub fn version_of(
-    history: [Entry; HISTORY],
-    installs: u64,
-    base: &[u64],
-    p: Snapshot,
-    k: Key,
-) -> Value
-    requires { ⌜ (k < length (now base)) × ((i : ℕ) → i < 32 → getD history i pastEntry .keys .wrote ≤ 16) ⌝ }
-    ensures { λ r. ⌜ r ≡ versionOf history installs (now (base .entry)) p k ⌝ }
+pub fn version_of(h: &[u64], installs: u64, base: &[u64], p: Snapshot, k: Key) -> Value
+    requires { ⌜ Slots (now h) × (k < length (now base)) ⌝ }
+    ensures { λ r. ⌜ r ≡ versionOf (historyOf (now (h .entry))) installs (now (base .entry)) p k ⌝ }
 {
     let visible = within(installs, p);
     let mut j: usize = 0;
     while j < visible {
-        let at = recall_slot(installs, visible - 1 - j);
-        let e = history[at];
-        let keys = e.keys;
-        if wrote_key(keys, k) {
-            return wrote_value(keys, k);
+        let slot = recall_slot(installs, visible - 1 - j);
+        let at = SLOT * slot + SLOT_KEYS;
+        if wrote_key_in(h, at, k) {
+            return wrote_value_in(h, at, k);
         }
         j += 1;
     }
@@ -92,17 +89,15 @@ pub fn version_of(
 }
 
 // Whether a remembered install after the snapshot wrote `k`.
-pub fn is_newer(history: [Entry; HISTORY], installs: u64, p: Snapshot, k: Key) -> bool
-    requires { ⌜ ((i : ℕ) → i < 32 → getD history i pastEntry .keys .wrote ≤ 16) ⌝ }
-    ensures { λ r. ⌜ r ≡ isNewer history installs p k ⌝ }
+pub fn is_newer(h: &[u64], installs: u64, p: Snapshot, k: Key) -> bool
+    requires { ⌜ Slots (now h) ⌝ }
+    ensures { λ r. ⌜ r ≡ isNewer (historyOf (now (h .entry))) installs p k ⌝ }
 {
     let n = remembered(installs);
     let mut i = within(installs, p);
     while i < n {
-        let at = recall_slot(installs, i);
-        let e = history[at];
-        let keys = e.keys;
-        if wrote_key(keys, k) {
+        let slot = recall_slot(installs, i);
+        if wrote_key_in(h, SLOT * slot + SLOT_KEYS, k) {
             return true;
         }
         i += 1;
@@ -110,25 +105,9 @@ pub fn is_newer(history: [Entry; HISTORY], installs: u64, p: Snapshot, k: Key) -
     false
 }
 
-// Where `tx` is remembered, or `remembered` where it is not.
-pub fn recall_place(history: [Entry; HISTORY], installs: u64, tx: u64) -> usize
-    ensures { λ r. ⌜ r ≡ recallPlace history installs tx ⌝ }
-{
-    let n = remembered(installs);
-    let mut i: usize = 0;
-    while i < n {
-        let at = recall_slot(installs, i);
-        if history[at].tx == tx {
-            return i;
-        }
-        i += 1;
-    }
-    i
-}
-
 // The writes of a forgotten entry into the base values.
 pub fn forget_into(base: &mut [u64], b: Keys)
-    requires { ⌜ (b .wrote ≤ 16) × ((i : ℕ) → i < b .wrote → getD (b .writes) i 0 < length (now base)) ⌝ }
+    requires { ⌜ (b .wrote ≤ sizes.writes) × ((i : ℕ) → i < b .wrote → getD (b .writes) i 0 < length (now base)) ⌝ }
     ensures { λ _. ⌜ now (base .exit) ≡ forgetInto (now (base .entry)) b ⌝ }
 {
     let n = b.wrote;

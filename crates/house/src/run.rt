@@ -1,17 +1,22 @@
 // A script from its first line to its last.
 use calls::BASES;
 use calls::GATHERINGS;
+use calls::HISTORIES;
+use calls::LIVES;
 use calls::at_site;
 use calls::start_sites;
 use calls::take_at;
 use desk::Desk;
 use desk::answered;
 use desk::ended;
-use desk::idle;
+use desk::next_ask;
+use desk::route::MERGER;
 use desk::settled;
 use desk::shown;
 use kinds::Answer;
+use kinds::Core;
 use kinds::House;
+use kinds::Merger;
 use kinds::reason::MALFORMED;
 use kinds::sizes::OUTGOING;
 use kinds::sizes::QUEUES;
@@ -25,10 +30,13 @@ use script::next_line;
 use spool::ITEM;
 use spool::STORE;
 use stream::HELD;
-use stream::Waiting;
-use stream::next_of_site;
+use stream::copied;
+use stream::merged;
 use stream::start_copies;
 use stream::start_merger;
+ghost use mathlib.Core.Path.{_≡_};
+ghost use lib.ListN.{length};
+ghost use Rattle.kinds.specs.Sizes as sizes;
 
 // What a line before an accepted `sites` leaves: the house, once it is accepted.
 fn opened(d: Desk, c: Command, page: &mut [u8; PAGE]) -> Desk {
@@ -85,6 +93,63 @@ fn until_sites(fd: i32, text: &mut [u8; TEXT], page: &mut [u8; PAGE]) -> Desk {
     d
 }
 
+// Every line behind the accepted `sites`, with the house's sites and merger as they start.
+fn turns(
+    d: Desk,
+    started: [Core; SITES],
+    first: Merger,
+    fd: i32,
+    text: &mut [u8; TEXT],
+    store: &mut [u64; STORE],
+    page: &mut [u8; PAGE],
+    live: &mut [u64; LIVES],
+    history: &mut [u64; HISTORIES],
+    base: &mut [u64; BASES],
+    lists: &mut [u64; GATHERINGS],
+    queues: &mut [u64; QUEUES],
+    held: &mut [u64; HELD],
+) -> Desk
+    requires { ⌜ length started ≡ sizes.sites ⌝ }
+{
+    let mut out = [0u64; OUTGOING];
+    let mut item = [0u64; ITEM];
+    let mut sites = started;
+    let mut g = first;
+    let mut desk = d;
+    let mut left = u64::MAX;
+    while left > 0 {
+        left -= 1;
+        let a = next_ask(desk, text, fd, store, &mut item, page);
+        let i = a.place;
+        let c = a.command;
+        if i < SITES {
+            // A message apart from the other calls: one function for all is too long to be laid in here, and the site is copied to it.
+            let o = if let Command::Take(_, _) = c {
+                take_at(sites[i], i, live, history, lists, &item, a.words, &mut out)
+            } else {
+                at_site(sites[i], c, i, live, history, base, lists, &mut out)
+            };
+            let p = o.core;
+            sites[i] = p;
+            let answer = o.answer;
+            desk = settled(a, answer, o.words, &out, fd, store, page);
+            continue;
+        }
+        if i == MERGER {
+            let o = merged(a, g, fd, store, &item, queues, &mut out, page);
+            let h = o.merger;
+            g = h;
+            desk = o.desk;
+            continue;
+        }
+        desk = copied(a, fd, store, &item, held, &out, page);
+        if desk.state != LINE {
+            break;
+        }
+    }
+    desk
+}
+
 // Everything behind the accepted `sites`.
 fn rest(
     d: Desk,
@@ -93,59 +158,31 @@ fn rest(
     store: &mut [u64; STORE],
     page: &mut [u8; PAGE],
 ) -> Desk {
+    let mut live = [0u64; LIVES];
+    let mut history = [0u64; HISTORIES];
     let mut base = [0u64; BASES];
     let mut lists = [0u64; GATHERINGS];
     let mut queues = [0u64; QUEUES];
     let mut held = [0u64; HELD];
-    let mut out = [0u64; OUTGOING];
-    let mut item = [0u64; ITEM];
-    let house = d.house;
-    let mut sites = start_sites(house.sites, &mut base, &mut lists);
-    let g = start_merger(house.sites, &mut queues);
+    let n = d.house.sites;
+    let sites = start_sites(n, &mut live, &mut history, &mut base, &mut lists);
+    let g = start_merger(n, &mut queues);
     start_copies(&mut held);
-    let mut w = Waiting {
-        ask: idle(d),
-        merger: g,
-    };
-    let mut left = u64::MAX;
-    while left > 0 {
-        left -= 1;
-        w = next_of_site(
-            w,
-            text,
-            fd,
-            store,
-            &mut item,
-            &mut queues,
-            &mut held,
-            &mut out,
-            page,
-        );
-        let a = w.ask;
-        let i = a.place;
-        if SITES <= i {
-            break;
-        }
-        let c = a.command;
-        // A message apart from the other calls, each with its site straight from the table: one function for all copies it twice more.
-        let o = if let Command::Take(_, _) = c {
-            take_at(sites[i], i, &mut lists, &item, a.words, &mut out)
-        } else {
-            at_site(sites[i], c, i, &mut base, &mut lists, &mut out)
-        };
-        let t = o.site;
-        sites[i] = t;
-        let answer = o.answer;
-        let e = settled(a, answer, o.words, &out, fd, store, page);
-        let after = w.merger;
-        w = Waiting {
-            ask: idle(e),
-            merger: after,
-        };
-    }
-    let a = w.ask;
-    let last = a.desk;
-    last
+    turns(
+        d,
+        sites,
+        g,
+        fd,
+        text,
+        store,
+        page,
+        &mut live,
+        &mut history,
+        &mut base,
+        &mut lists,
+        &mut queues,
+        &mut held,
+    )
 }
 
 // Plays the script that fd reads, with what is under way beyond memory in the file of `spare`.

@@ -1,8 +1,8 @@
 // Report: the state number as a state record.
 use kinds::Answer;
-use kinds::Out;
+use kinds::Core;
 use kinds::RecordHead;
-use kinds::Site;
+use kinds::Reply;
 use kinds::kind::STATE;
 use kinds::reason::MALFORMED;
 use kinds::reason::SHORT;
@@ -12,8 +12,8 @@ ghost use Prim.Native.Nat.{_≤_};
 ghost use lib.ListN.{length};
 ghost use Rattle.laws.specs.Overlay.{overlay};
 ghost use Rattle.kinds.specs.Sizes as sizesOf;
-ghost use Rattle.rules.specs.Effect.{outOf};
 ghost use Rattle.rules.specs.Install.{reportCode, stateWords, reportOf};
+ghost use Rattle.lent.specs.Lent.{siteOf, Replied};
 
 fn report_code(ok: bool, room: usize) -> u64
     ensures { λ r. ⌜ r ≡ reportCode ok room ⌝ }
@@ -44,25 +44,17 @@ fn write_state(out: &mut [u64], own: u64, state: u64) -> usize
     records::write_record(out, head, &[])
 }
 
-pub fn report(s: Site, out: &mut [u64]) -> Out
-    ensures { λ r. ⌜ r ≡ outOf (reportOf s (length (now (out .entry)))) ⌝ }
-    ensures { λ _. ⌜ now (out .exit) ≡ overlay (now (out .entry)) (reportOf s (length (now (out .entry))) .words) ⌝ }
+pub fn report(p: Core, live: &[u64], history: &[u64], out: &mut [u64]) -> Reply
+    ensures { λ r. ⌜ Replied p (now (live .entry)) (now (history .entry)) r (now (live .exit)) (now (history .exit)) (reportOf (siteOf p (now (live .entry)) (now (history .entry))) (length (now (out .entry)))) ⌝ }
+    ensures { λ _. ⌜ now (out .exit) ≡ overlay (now (out .entry)) ((reportOf (siteOf p (now (live .entry)) (now (history .entry))) (length (now (out .entry)))) .words) ⌝ }
 {
-    let ok = valid::site_ok(s);
+    let ok = valid::site_ok(p, live, history);
     let code = report_code(ok, out.len());
     if code != 0 {
-        return Out {
-            answer: Answer::Refused(code),
-            words: 0,
-            site: s,
-        };
+        return shell::refused(p, code);
     }
-    let live = s.live;
-    let state = queue::state_number(live, s.counters.clock);
-    let words = write_state(out, s.counters.own, state);
-    Out {
-        answer: Answer::Reported { state },
-        words,
-        site: s,
-    }
+    let seats = p.seats;
+    let state = queue::state_number(seats, live, p.counters.clock);
+    let words = write_state(out, p.counters.own, state);
+    shell::unaltered(p, Answer::Reported { state }, words)
 }

@@ -1,26 +1,20 @@
-// The keys that a part read and wrote, and dependence of two parts. A list of keys is copied before it is lent: 32 bytes, where lending
-// a field copies all 208 of the part's keys.
+// The keys that a part read and wrote, by value and in words, and dependence of two parts. A list of keys is copied before it is lent:
+// 128 bytes, where lending a field copies all 400 of the part's keys.
 pub mod order;
+mod words;
 
-use kinds::House;
 use kinds::Key;
 use kinds::Keys;
 use kinds::Value;
-use kinds::sizes::READS;
-use kinds::sizes::WRITES;
-use numbers::site_of;
+pub use words::keys_ok_in;
+pub use words::wrote_key_in;
+pub use words::wrote_value_in;
 ghost use mathlib.Core.Path.{_≡_};
 ghost use mathlib.Core.Bool.{true, false};
 ghost use Prim.Native.Nat.{_≤_, _<_};
 ghost use lib.ListN.{length};
-ghost use Rattle.rules.specs.Keys.{keyPlace, wroteKey, readKey, wroteValue, withRead, withWrite, commonKey, dependent as dependentOf, keysAt, keysOk};
-
-// A key as a word.
-pub fn wide(k: Key) -> u64
-    ensures { λ r. ⌜ r ≡ k ⌝ }
-{
-    k as u64
-}
+ghost use Rattle.kinds.specs.Sizes as sizes;
+ghost use Rattle.rules.specs.Keys.{keyPlace, wroteKey, readKey, wroteValue, withRead, withWrite, commonKey, dependent as dependentOf};
 
 // The place of `k` among the first `n` keys, or `n`.
 pub fn key_place(keys: &[Key], n: usize, k: Key) -> usize
@@ -38,7 +32,7 @@ pub fn key_place(keys: &[Key], n: usize, k: Key) -> usize
 }
 
 pub fn wrote_key(b: Keys, k: Key) -> bool
-    requires { ⌜ b .wrote ≤ 16 ⌝ }
+    requires { ⌜ b .wrote ≤ sizes.writes ⌝ }
     ensures { λ r. ⌜ r ≡ wroteKey b k ⌝ }
 {
     let n = b.wrote;
@@ -48,7 +42,7 @@ pub fn wrote_key(b: Keys, k: Key) -> bool
 }
 
 pub fn read_key(b: Keys, k: Key) -> bool
-    requires { ⌜ b .read ≤ 16 ⌝ }
+    requires { ⌜ b .read ≤ sizes.reads ⌝ }
     ensures { λ r. ⌜ r ≡ readKey b k ⌝ }
 {
     let n = b.read;
@@ -59,7 +53,7 @@ pub fn read_key(b: Keys, k: Key) -> bool
 
 // The value that the part wrote to `k`.
 pub fn wrote_value(b: Keys, k: Key) -> Value
-    requires { ⌜ (b .wrote ≤ 16) × (wroteKey b k ≡ true) ⌝ }
+    requires { ⌜ (b .wrote ≤ sizes.writes) × (wroteKey b k ≡ true) ⌝ }
     ensures { λ r. ⌜ r ≡ wroteValue b k ⌝ }
 {
     let n = b.wrote;
@@ -69,7 +63,7 @@ pub fn wrote_value(b: Keys, k: Key) -> Value
 
 // The keys with `k` among those read.
 pub fn with_read(b: Keys, k: Key) -> Keys
-    requires { ⌜ (b .read ≤ 16) × (readKey b k ≡ false → b .read < 16) ⌝ }
+    requires { ⌜ (b .read ≤ sizes.reads) × (readKey b k ≡ false → b .read < sizes.reads) ⌝ }
     ensures { λ r. ⌜ r ≡ withRead b k ⌝ }
 {
     if read_key(b, k) {
@@ -84,7 +78,7 @@ pub fn with_read(b: Keys, k: Key) -> Keys
 
 // The keys with `v` written to `k`: over the own write of `k`, or behind the others.
 pub fn with_write(b: Keys, k: Key, v: Value) -> Keys
-    requires { ⌜ (b .wrote ≤ 16) × (wroteKey b k ≡ false → b .wrote < 16) ⌝ }
+    requires { ⌜ (b .wrote ≤ sizes.writes) × (wroteKey b k ≡ false → b .wrote < sizes.writes) ⌝ }
     ensures { λ r. ⌜ r ≡ withWrite b k v ⌝ }
 {
     let n = b.wrote;
@@ -123,7 +117,8 @@ pub fn common_key(a: &[Key], n: usize, b: &[Key], m: usize) -> bool
 
 // Whether one wrote a key that the other read or wrote.
 pub fn dependent(a: Keys, b: Keys) -> bool
-    requires { ⌜ (a .read ≤ 16) × (a .wrote ≤ 16) × (b .read ≤ 16) × (b .wrote ≤ 16) ⌝ }
+    requires { ⌜ (a .read ≤ sizes.reads) × (a .wrote ≤ sizes.writes) ⌝ }
+    requires { ⌜ (b .read ≤ sizes.reads) × (b .wrote ≤ sizes.writes) ⌝ }
     ensures { λ r. ⌜ r ≡ dependentOf a b ⌝ }
 {
     if common_key(&a.writes, a.wrote, &b.writes, b.wrote) {
@@ -133,40 +128,4 @@ pub fn dependent(a: Keys, b: Keys) -> bool
         return true;
     }
     common_key(&a.reads, a.read, &b.writes, b.wrote)
-}
-
-// Whether the first `n` keys live at site `own`.
-fn keys_at(o: House, own: u64, keys: &[Key], n: usize) -> bool
-    requires { ⌜ n ≤ length (now keys) ⌝ }
-    ensures { λ r. ⌜ r ≡ keysAt o own (now (keys .entry)) n ⌝ }
-{
-    let mut i: usize = 0;
-    while i < n {
-        let site = site_of(o, wide(keys[i]));
-        if site != own {
-            return false;
-        }
-        i += 1;
-    }
-    true
-}
-
-// Whether the counts are within the sizes, and the keys are of site `own`.
-pub fn keys_ok(o: House, own: u64, b: Keys) -> bool
-    ensures { λ r. ⌜ r ≡ keysOk o own b ⌝ }
-{
-    let read = b.read;
-    let wrote = b.wrote;
-    if READS < read {
-        return false;
-    }
-    if WRITES < wrote {
-        return false;
-    }
-    let reads = b.reads;
-    let writes = b.writes;
-    if !keys_at(o, own, &reads, read) {
-        return false;
-    }
-    keys_at(o, own, &writes, wrote)
 }

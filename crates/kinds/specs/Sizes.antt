@@ -81,3 +81,18 @@ copyHeader = 2
 
 abbrev pub copy : ℕ
 copy = copyHeader + keys
+
+abbrev pub keyset : ℕ
+keyset = 2 + reads + writes + writes
+
+abbrev pub place : ℕ
+place = 6 + keyset
+
+abbrev pub liveWords : ℕ
+liveWords = live * place
+
+abbrev pub slot : ℕ
+slot = 3 + keyset
+
+abbrev pub historyWords : ℕ
+historyWords = history * slot

@@ -10,6 +10,7 @@ use Rattle.kinds.specs.declared.Sub.{Sub}
 use Rattle.kinds.specs.declared.Entry.{Entry}
 use Rattle.kinds.specs.declared.Channels.{Channels}
 use Rattle.kinds.specs.declared.Counters.{Counters}
+use Rattle.kinds.specs.declared.Seat.{Seat}
 use Rattle.kinds.specs.declared.Site.{Site}
 use Rattle.kinds.specs.Sizes as sizes
 use Rattle.kinds.specs.Stage as stage
@@ -36,6 +37,9 @@ pastSub = record { tx = 0; snapshot = noSnapshot; course = noCourse; keys = past
 
 abbrev pub pastEntry : Entry
 pastEntry = record { tx = 0; mask = 0; number = 0; keys = pastKeys }
+
+abbrev pub pastSeat : Seat
+pastSeat = record { tx = 0; stage = stage.free }
 
 -- empty: a free place is all zeros
 unfoldable pub noKeys : Keys

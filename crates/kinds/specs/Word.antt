@@ -1,5 +1,7 @@
--- Positions of the words of a message, of an entry, of a record, of a write and of a copy: the numbers of src/word.rt.
-use Prim.Native.Nat.{ℕ}
+-- Positions of the words of a message, of an entry, of a record, of a write, of a copy, of a part's keys, of a place of the live
+-- table and of a slot of the history: the numbers of src/word.rt.
+use Prim.Native.Nat.{ℕ, _+_}
+use Rattle.kinds.specs.Sizes as sizes
 
 abbrev pub length : ℕ
 length = 0
@@ -72,3 +74,51 @@ lastNumber = 0
 
 abbrev pub lastCoordinator : ℕ
 lastCoordinator = 1
+
+abbrev pub keysRead : ℕ
+keysRead = 0
+
+abbrev pub keysWrote : ℕ
+keysWrote = 1
+
+abbrev pub keysReads : ℕ
+keysReads = 2
+
+abbrev pub keysWrites : ℕ
+keysWrites = keysReads + sizes.reads
+
+abbrev pub keysValues : ℕ
+keysValues = keysWrites + sizes.writes
+
+abbrev pub placeSnapshot : ℕ
+placeSnapshot = 0
+
+abbrev pub placeMask : ℕ
+placeMask = 1
+
+abbrev pub placeNumber : ℕ
+placeNumber = 2
+
+abbrev pub placeHeard : ℕ
+placeHeard = 3
+
+abbrev pub placeReason : ℕ
+placeReason = 4
+
+abbrev pub placeListed : ℕ
+placeListed = 5
+
+abbrev pub placeKeys : ℕ
+placeKeys = 6
+
+abbrev pub slotTx : ℕ
+slotTx = 0
+
+abbrev pub slotMask : ℕ
+slotMask = 1
+
+abbrev pub slotNumber : ℕ
+slotNumber = 2
+
+abbrev pub slotKeys : ℕ
+slotKeys = 3

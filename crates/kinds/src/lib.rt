@@ -12,7 +12,7 @@ use sizes::SITES;
 use sizes::WRITES;
 
 // Keys are below 2,048 (S2).
-pub type Key = u16;
+pub type Key = u64;
 
 // A stored offset.
 pub type Value = u64;
@@ -80,7 +80,22 @@ pub struct Counters {
     pub installs: u64,
 }
 
-// A site. Its base values and the coordinator's gathered lists lie beside it in lent words.
+// A place of the live table: what its scans ask. The rest of the part lies in lent words.
+pub struct Seat {
+    pub tx: u64,
+    pub stage: u64,
+}
+
+// What a site keeps by value. The rest of its live parts and its history lie beside it in lent words, and so do its base values and
+// the coordinator's gathered lists.
+pub struct Core {
+    pub house: House,
+    pub counters: Counters,
+    pub channels: Channels,
+    pub seats: [Seat; LIVE],
+}
+
+// A site whole, as the rules speak of it: a core with its live and history words read.
 pub struct Site {
     pub house: House,
     pub counters: Counters,
@@ -161,11 +176,18 @@ pub struct Taken {
     pub turn: Turn,
 }
 
-// A site's call: its answer, how many words it wrote to the outgoing buffer, and the site after it.
+// The same with the site whole, as the rules speak of it.
 pub struct Out {
     pub answer: Answer,
     pub words: usize,
     pub site: Site,
+}
+
+// A site's call: its answer, how many words it wrote to the outgoing buffer, and the core after it.
+pub struct Reply {
+    pub answer: Answer,
+    pub words: usize,
+    pub core: Core,
 }
 
 // What a list of entries says of one transaction.

@@ -58,3 +58,14 @@ pub const QUEUES: usize = SITES * SITE_QUEUE;
 pub const COPY_HEADER: usize = 2;
 
 pub const COPY: usize = COPY_HEADER + KEYS;
+
+// Words of a part's keys: two counts, the keys read, the keys written and their values.
+pub const KEYSET: usize = 2 + READS + WRITES + WRITES;
+// Words of a place of the live table beside its seat: snapshot and course, then the keys.
+pub const PLACE: usize = 6 + KEYSET;
+
+pub const LIVE_WORDS: usize = LIVE * PLACE;
+// Words of a slot of the history: transaction, mask and number, then the keys.
+pub const SLOT: usize = 3 + KEYSET;
+
+pub const HISTORY_WORDS: usize = HISTORY * SLOT;

@@ -1,4 +1,8 @@
-// Positions of the words of a message, of an entry, of a record, of a write and of a copy.
+// Positions of the words of a message, of an entry, of a record, of a write, of a copy, of a part's keys, of a place of the live
+// table and of a slot of the history.
+use crate::sizes::READS;
+use crate::sizes::WRITES;
+
 pub const LENGTH: usize = 0;
 
 pub const KIND: usize = 1;
@@ -46,3 +50,35 @@ pub const WRITE_VALUE: usize = 1;
 pub const LAST_NUMBER: usize = 0;
 
 pub const LAST_COORDINATOR: usize = 1;
+
+pub const KEYS_READ: usize = 0;
+
+pub const KEYS_WROTE: usize = 1;
+
+pub const KEYS_READS: usize = 2;
+
+pub const KEYS_WRITES: usize = KEYS_READS + READS;
+
+pub const KEYS_VALUES: usize = KEYS_WRITES + WRITES;
+
+pub const PLACE_SNAPSHOT: usize = 0;
+
+pub const PLACE_MASK: usize = 1;
+
+pub const PLACE_NUMBER: usize = 2;
+
+pub const PLACE_HEARD: usize = 3;
+
+pub const PLACE_REASON: usize = 4;
+
+pub const PLACE_LISTED: usize = 5;
+
+pub const PLACE_KEYS: usize = 6;
+
+pub const SLOT_TX: usize = 0;
+
+pub const SLOT_MASK: usize = 1;
+
+pub const SLOT_NUMBER: usize = 2;
+
+pub const SLOT_KEYS: usize = 3;

@@ -12,7 +12,7 @@ use borrow.Author.Count.{below-more}
 use Rattle.laws.specs.Scan.{firstBelow, NoneBelow, none-none, first-below, first-end}
 
 -- the byte at which a place begins
-pub byte-fits : {i n : ℕ} → i < n → n * 272 < 2 ^ 63 → i * 272 < 2 ^ 64
+pub byte-fits : {i n : ℕ} → i < n → n * 16 < 2 ^ 63 → i * 16 < 2 ^ 64
 byte-fits l g = omega arith
 
 pub passed : (b : Bool) → Yes b → b ≡ true

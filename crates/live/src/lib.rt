@@ -1,25 +1,37 @@
-// The live table: sixteen places, scanned in order.
-use keys::wrote_key;
+// The live table: sixteen places. A scan asks their seats; the other words of a part are read in place.
+use keys::wrote_key_in;
 use kinds::Key;
-use kinds::Sub;
+use kinds::Seat;
 use kinds::sizes::LIVE;
+use kinds::sizes::PLACE;
 use kinds::stage::DECIDED;
 use kinds::stage::FREE;
 use kinds::stage::PREPARED;
 use kinds::stage::QUEUED;
+use kinds::word::PLACE_KEYS;
 use numbers::participants;
 use numbers::replies_wanted;
 ghost use mathlib.Core.Path.{_≡_};
-ghost use Prim.Native.Nat.{ℕ, _≤_, _<_};
-ghost use Rattle.rules.specs.Live.{partAt, freeIn, freePlace, isPartOf, placeIn, placeOf, isHeld, otherHolds, keyHeld, isPrepared, isQueued, allHeard};
+ghost use mathlib.Core.Bool.{true};
+ghost use mathlib.Core.List.{List};
+ghost use Prim.Native.Nat.{ℕ, _+_, _*_, _≤_, _<_};
+ghost use lib.Dec.{leb, eqb};
+ghost use lib.ListN.{length};
+ghost use Rattle.laws.specs.Choice.{pick};
+ghost use Rattle.kinds.specs.Sizes as sizes;
+ghost use Rattle.kinds.specs.Stage as stages;
+ghost use Rattle.kinds.specs.Word as word;
+ghost use Rattle.rules.specs.Live.{partAt, freePlace, placeOf, otherHolds, keyHeld, allHeard};
+ghost use Rattle.lent.specs.Layout.{keysFrom, subFrom, liveOf};
+ghost use Rattle.lent.specs.Seats.{freeIn, isSeatOf, placeIn};
 
-// The first free place of a lent table, or its length.
-pub fn free_in(live: &[Sub]) -> usize
-    ensures { λ r. ⌜ r ≡ freeIn (now (live .entry)) ⌝ }
+// The first free place of lent seats, or their number.
+pub fn free_in(seats: &[Seat]) -> usize
+    ensures { λ r. ⌜ r ≡ freeIn (now (seats .entry)) ⌝ }
 {
     let mut i: usize = 0;
-    while i < live.len() {
-        if live[i].course.stage == FREE {
+    while i < seats.len() {
+        if seats[i].stage == FREE {
             return i;
         }
         i += 1;
@@ -28,19 +40,19 @@ pub fn free_in(live: &[Sub]) -> usize
 }
 
 // The first free place, or `LIVE`.
-pub fn free_place(live: [Sub; LIVE]) -> usize
-    ensures { λ r. ⌜ r ≡ freePlace live ⌝ }
+pub fn free_place(seats: [Seat; LIVE]) -> usize
+    ensures { λ r. ⌜ ((w : List ℕ) → r ≡ freePlace (liveOf seats w)) ⌝ }
 {
-    free_in(&live)
+    free_in(&seats)
 }
 
-// The place of the part of `tx` in a lent table, or its length where it is not held there.
-pub fn place_in(live: &[Sub], tx: u64) -> usize
-    ensures { λ r. ⌜ r ≡ placeIn (now (live .entry)) tx ⌝ }
+// The place of the part of `tx` among lent seats, or their number where it is not held there.
+pub fn place_in(seats: &[Seat], tx: u64) -> usize
+    ensures { λ r. ⌜ r ≡ placeIn (now (seats .entry)) tx ⌝ }
 {
     let mut i: usize = 0;
-    while i < live.len() {
-        if is_part_of(live[i], tx) {
+    while i < seats.len() {
+        if is_seat_of(seats[i], tx) {
             return i;
         }
         i += 1;
@@ -49,55 +61,50 @@ pub fn place_in(live: &[Sub], tx: u64) -> usize
 }
 
 // The place of the part of `tx`, or `LIVE` where it is not held here.
-pub fn place_of(live: [Sub; LIVE], tx: u64) -> usize
-    ensures { λ r. ⌜ r ≡ placeOf live tx ⌝ }
+pub fn place_of(seats: [Seat; LIVE], tx: u64) -> usize
+    ensures { λ r. ⌜ ((w : List ℕ) → r ≡ placeOf (liveOf seats w) tx) ⌝ }
 {
-    place_in(&live, tx)
+    place_in(&seats, tx)
 }
 
 // Whether a place holds a part of `tx`.
-fn is_part_of(b: Sub, tx: u64) -> bool
-    ensures { λ r. ⌜ r ≡ isPartOf b tx ⌝ }
+fn is_seat_of(a: Seat, tx: u64) -> bool
+    ensures { λ r. ⌜ r ≡ isSeatOf a tx ⌝ }
 {
-    let stage = b.course.stage;
-    let held = b.tx;
+    let stage = a.stage;
+    let held = a.tx;
     if stage == FREE {
         return false;
     }
     held == tx
 }
 
-pub fn is_held(live: [Sub; LIVE], tx: u64) -> bool
-    ensures { λ r. ⌜ r ≡ isHeld live tx ⌝ }
+// Whether the part at place `i`, which is not `place`, holds `k`. Its seat tells whether there is one, and its words what it wrote.
+fn other_holds(a: Seat, live: &[u64], place: usize, k: Key, i: usize) -> bool
+    requires { ⌜ sizes.place * i + sizes.place ≤ length (now live) ⌝ }
+    requires { ⌜ keysFrom (now live) (sizes.place * i + word.placeKeys) .wrote ≤ sizes.writes ⌝ }
+    ensures { λ r. ⌜ r ≡ otherHolds place k i (subFrom a (now (live .entry)) (sizes.place * i)) ⌝ }
 {
-    place_of(live, tx) < LIVE
-}
-
-// Whether the part at place `i`, which is not `place`, holds `k`.
-fn other_holds(place: usize, k: Key, i: usize, b: Sub) -> bool
-    requires { ⌜ b .keys .wrote ≤ 16 ⌝ }
-    ensures { λ r. ⌜ r ≡ otherHolds place k i b ⌝ }
-{
-    let stage = b.course.stage;
-    let keys = b.keys;
+    let stage = a.stage;
     if i == place {
         return false;
     }
     if stage == FREE {
         return false;
     }
-    wrote_key(keys, k)
+    wrote_key_in(live, PLACE * i + PLACE_KEYS, k)
 }
 
 // Whether `k` is held by another part than that at `place`.
-pub fn key_held(live: [Sub; LIVE], place: usize, k: Key) -> bool
-    requires { ⌜ ((i : ℕ) → i < 16 → partAt live i .keys .wrote ≤ 16) ⌝ }
-    ensures { λ r. ⌜ r ≡ keyHeld live place k ⌝ }
+pub fn key_held(seats: [Seat; LIVE], live: &[u64], place: usize, k: Key) -> bool
+    requires { ⌜ length (now live) ≡ sizes.liveWords ⌝ }
+    requires { ⌜ ((i : ℕ) → i < sizes.live → partAt (liveOf seats (now live)) i .keys .wrote ≤ sizes.writes) ⌝ }
+    ensures { λ r. ⌜ r ≡ keyHeld (liveOf seats (now (live .entry))) place k ⌝ }
 {
     let mut i: usize = 0;
     while i < LIVE {
-        let b = live[i];
-        if other_holds(place, k, i, b) {
+        let a = seats[i];
+        if other_holds(a, live, place, k, i) {
             return true;
         }
         i += 1;
@@ -106,18 +113,16 @@ pub fn key_held(live: [Sub; LIVE], place: usize, k: Key) -> bool
 }
 
 // PREPARE taken, or the commit requested, and neither installed nor aborted.
-pub fn is_prepared(b: Sub) -> bool
-    ensures { λ r. ⌜ r ≡ isPrepared b ⌝ }
+pub fn is_prepared(stage: u64) -> bool
+    ensures { λ r. ⌜ r ≡ leb stages.prepared stage ⌝ }
 {
-    let stage = b.course.stage;
     PREPARED <= stage
 }
 
 // In the queue, open or decided.
-pub fn is_queued(b: Sub) -> bool
-    ensures { λ r. ⌜ r ≡ isQueued b ⌝ }
+pub fn is_queued(stage: u64) -> bool
+    ensures { λ r. ⌜ r ≡ pick (eqb stage stages.queued) true (eqb stage stages.decided) ⌝ }
 {
-    let stage = b.course.stage;
     if stage == QUEUED {
         return true;
     }
@@ -126,7 +131,7 @@ pub fn is_queued(b: Sub) -> bool
 
 // Whether every other participant has replied in this round: only replies of participants count.
 pub fn all_heard(own: u64, heard: u64, mask: u64) -> bool
-    requires { ⌜ (1 ≤ own) × (own ≤ 8) ⌝ }
+    requires { ⌜ (1 ≤ own) × (own ≤ sizes.sites) ⌝ }
     ensures { λ r. ⌜ r ≡ allHeard own heard mask ⌝ }
 {
     participants(heard & mask) == replies_wanted(own, mask)

@@ -7,8 +7,10 @@ use hand::store::keep_letters;
 use hand::store::keep_record;
 use kinds::Answer;
 use kinds::House;
+use kinds::sizes::HISTORY_WORDS;
 use kinds::sizes::KEYS;
 use kinds::sizes::LISTS;
+use kinds::sizes::LIVE_WORDS;
 use kinds::sizes::OUTGOING;
 use kinds::sizes::QUEUES;
 use kinds::sizes::SITES;
@@ -53,6 +55,8 @@ pub struct Work {
 pub fn all_lent() -> Lent {
     Lent {
         room: OUTGOING,
+        live: LIVE_WORDS,
+        history: HISTORY_WORDS,
         base: KEYS,
         lists: LISTS,
         queues: QUEUES,
@@ -214,6 +218,14 @@ fn lend(lent: Lent, verb: u64, n: u64) -> Lent {
     match verb {
         verb::ROOM => {
             t.room = least(n, ROOM);
+            t
+        }
+        verb::PLACES => {
+            t.live = least(n, LIVE_WORDS + 1);
+            t
+        }
+        verb::SLOTS => {
+            t.history = least(n, HISTORY_WORDS + 1);
             t
         }
         verb::BASE => {

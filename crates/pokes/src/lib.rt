@@ -2,7 +2,6 @@
 mod sites;
 mod streams;
 
-pub use sites::poke_list;
 pub use sites::poke_site;
 pub use streams::poke_copy;
 pub use streams::poke_merger;

@@ -1,25 +1,26 @@
 // Pokes of a site.
 use kinds::Answer;
 use kinds::Channels;
+use kinds::Core;
 use kinds::Counters;
-use kinds::Course;
-use kinds::Entry;
-use kinds::Keys;
-use kinds::Out;
-use kinds::Site;
-use kinds::Snapshot;
-use kinds::Sub;
+use kinds::Reply;
+use kinds::Seat;
 use kinds::reason::MALFORMED;
 use kinds::reason::UNKNOWN;
 use kinds::sizes::GATHERED;
 use kinds::sizes::HISTORY;
+use kinds::sizes::KEYSET;
 use kinds::sizes::LIVE;
+use kinds::sizes::PLACE;
 use kinds::sizes::SITES;
+use kinds::sizes::SLOT;
 use kinds::sizes::WRITES;
+use kinds::word;
 use parts::put;
 use verbs::Line;
 use verbs::verb;
-ghost use Prim.Native.Nat.{_<_};
+ghost use Prim.Native.Nat.{_+_, _≤_, _<_};
+ghost use Rattle.kinds.specs.Sizes as sizes;
 
 // Fields of a site that are numbers, and those that count what is sent to its first site and what is taken from it.
 const HOUSE: u64 = 0;
@@ -110,175 +111,145 @@ fn channels(c: Channels, field: u64, v: u64) -> Channels {
     d
 }
 
-fn set_key(k: Keys, group: u64, i: usize, v: u64) -> Keys
-    requires { ⌜ i < 16 ⌝ }
+// The first word of a group of keys or values; KEYSET where there is none.
+fn group_word(group: u64) -> usize
+    ensures { λ r. ⌜ r ≤ sizes.keyset ⌝ }
 {
-    let mut m = k;
     match group {
-        KEYS_READ => {
-            m.reads[i] = (v % 65536) as u16;
-            m
-        }
-        KEYS_WRITTEN => {
-            m.writes[i] = (v % 65536) as u16;
-            m
-        }
-        VALUES => {
-            m.values[i] = v;
-            m
-        }
-        _ => m,
+        KEYS_READ => word::KEYS_READS,
+        KEYS_WRITTEN => word::KEYS_WRITES,
+        VALUES => word::KEYS_VALUES,
+        _ => KEYSET,
     }
 }
 
-fn keys(k: Keys, field: u64, v: u64) -> Keys {
-    let mut m = k;
+// The word of a field among those of a part's keys; KEYSET or more where there is none.
+fn keys_word(field: u64) -> usize
+    ensures { λ r. ⌜ r < sizes.keyset + sizes.writes ⌝ }
+{
     if field == READ {
-        m.read = v as usize;
-        return m;
+        return word::KEYS_READ;
     }
     if field == WROTE {
-        m.wrote = v as usize;
-        return m;
+        return word::KEYS_WROTE;
     }
     let place = field % STEP;
     if WRITES as u64 <= place {
-        return m;
+        return KEYSET;
     }
-    set_key(m, field / STEP, place as usize, v)
+    group_word(field / STEP) + place as usize
 }
 
-fn course(c: Course, field: u64, v: u64) -> Course {
-    let mut d = c;
+// The word of a field among those of a place; PLACE or more where there is none.
+fn place_word(field: u64) -> usize
+    ensures { λ r. ⌜ r < sizes.place + sizes.writes ⌝ }
+{
     match field {
-        STAGE => {
-            d.stage = v;
-            d
-        }
-        MASK => {
-            d.mask = v;
-            d
-        }
-        NUMBER => {
-            d.number = v;
-            d
-        }
-        HEARD => {
-            d.heard = v;
-            d
-        }
-        REASON => {
-            d.reason = v;
-            d
-        }
-        LISTED => {
-            d.listed = v as usize;
-            d
-        }
-        _ => d,
+        SNAPSHOT => word::PLACE_SNAPSHOT,
+        MASK => word::PLACE_MASK,
+        NUMBER => word::PLACE_NUMBER,
+        HEARD => word::PLACE_HEARD,
+        REASON => word::PLACE_REASON,
+        LISTED => word::PLACE_LISTED,
+        _ => word::PLACE_KEYS + keys_word(field),
     }
 }
 
-fn sub(b: Sub, field: u64, v: u64) -> Sub {
-    let mut e = b;
-    if field == TX {
-        e.tx = v;
-        return e;
+// The word of a field among those of a slot; SLOT or more where there is none.
+fn slot_word(field: u64) -> usize
+    ensures { λ r. ⌜ r < sizes.slot + sizes.writes ⌝ }
+{
+    match field {
+        TX => word::SLOT_TX,
+        MASK => word::SLOT_MASK,
+        NUMBER => word::SLOT_NUMBER,
+        _ => word::SLOT_KEYS + keys_word(field),
     }
-    if field == SNAPSHOT {
-        let p = Snapshot { installs: v };
-        e.snapshot = p;
-        return e;
-    }
-    if field < READ {
-        let c = course(b.course, field, v);
-        e.course = c;
-        return e;
-    }
-    let k = b.keys;
-    let m = keys(k, field, v);
-    e.keys = m;
-    e
 }
 
-fn entry(b: Entry, field: u64, v: u64) -> Entry {
-    let mut e = b;
+fn seat(a: Seat, field: u64, v: u64) -> Seat {
+    let mut b = a;
     match field {
         TX => {
-            e.tx = v;
-            e
+            b.tx = v;
+            b
         }
-        MASK => {
-            e.mask = v;
-            e
+        STAGE => {
+            b.stage = v;
+            b
         }
-        NUMBER => {
-            e.number = v;
-            e
-        }
-        _ => {
-            let k = b.keys;
-            let m = keys(k, field, v);
-            e.keys = m;
-            e
-        }
+        _ => b,
     }
 }
 
-fn done(s: Site) -> Out {
-    Out {
+fn done(p: Core) -> Reply {
+    Reply {
         answer: Answer::Done,
         words: 0,
-        site: s,
+        core: p,
     }
 }
 
-fn refused(s: Site, code: u64) -> Out {
-    Out {
+fn refused(p: Core, code: u64) -> Reply {
+    Reply {
         answer: Answer::Refused(code),
         words: 0,
-        site: s,
+        core: p,
     }
 }
 
-fn poke_counts(s: Site, field: u64, v: u64) -> Out {
-    let mut t = s;
+fn poke_counts(p: Core, field: u64, v: u64) -> Reply {
+    let mut q = p;
     if field == HOUSE {
-        t.house.sites = v;
-        return done(t);
+        q.house.sites = v;
+        return done(q);
     }
-    let c = counters(s.counters, field, v);
-    let d = channels(s.channels, field, v);
-    t.counters = c;
-    t.channels = d;
-    done(t)
+    let c = counters(p.counters, field, v);
+    let d = channels(p.channels, field, v);
+    q.counters = c;
+    q.channels = d;
+    done(q)
 }
 
-fn poke_live(s: Site, tx: u64, field: u64, v: u64) -> Out {
-    let live = s.live;
-    let place = live::place_of(live, tx);
+// A word of the part at a place, if the field is one.
+fn put_part(live: &mut [u64], place: usize, field: u64, v: u64) {
+    let i = place_word(field);
     if LIVE <= place {
-        return refused(s, UNKNOWN);
+        return;
     }
-    let b = live[place];
-    let e = sub(b, field, v);
-    let mut t = s;
-    t.live[place] = e;
-    done(t)
+    if PLACE <= i {
+        return;
+    }
+    put(live, PLACE * place + i, v);
 }
 
-// The entry of install n, or where it would stand.
-fn poke_past(s: Site, n: u64, field: u64, v: u64) -> Out {
+// The seat or a word of the part of `tx`.
+fn poke_live(p: Core, live: &mut [u64], tx: u64, field: u64, v: u64) -> Reply {
+    let seats = p.seats;
+    let place = live::place_of(seats, tx);
+    if LIVE <= place {
+        return refused(p, UNKNOWN);
+    }
+    put_part(live, place, field, v);
+    let a = seats[place];
+    let b = seat(a, field, v);
+    let mut q = p;
+    q.seats[place] = b;
+    done(q)
+}
+
+// A word of install n, or of where it would stand.
+fn poke_past(p: Core, history: &mut [u64], n: u64, field: u64, v: u64) -> Reply {
     if n == 0 {
-        return refused(s, MALFORMED);
+        return refused(p, MALFORMED);
     }
     let slot = ((n - 1) % HISTORY as u64) as usize;
-    let history = s.history;
-    let b = history[slot];
-    let e = entry(b, field, v);
-    let mut t = s;
-    t.history[slot] = e;
-    done(t)
+    let i = slot_word(field);
+    if SLOT <= i {
+        return done(p);
+    }
+    put(history, SLOT * slot + i, v);
+    done(p)
 }
 
 // A word of the gathered list of a place.
@@ -293,22 +264,29 @@ fn put_listed(lists: &mut [u64], place: usize, i: u64, v: u64) {
 }
 
 // A word of the gathered list of the part of `tx`.
-pub fn poke_list(s: Site, lists: &mut [u64], tx: u64, i: u64, v: u64) -> Out {
-    let live = s.live;
-    let place = live::place_of(live, tx);
+fn poke_list(p: Core, lists: &mut [u64], tx: u64, i: u64, v: u64) -> Reply {
+    let seats = p.seats;
+    let place = live::place_of(seats, tx);
     if LIVE <= place {
-        return refused(s, UNKNOWN);
+        return refused(p, UNKNOWN);
     }
     put_listed(lists, place, i, v);
-    done(s)
+    done(p)
 }
 
-pub fn poke_site(s: Site, l: Line) -> Out {
+pub fn poke_site(
+    p: Core,
+    live: &mut [u64],
+    history: &mut [u64],
+    lists: &mut [u64],
+    l: Line,
+) -> Reply {
     let v = l.verb;
     match v {
-        verb::SITE => poke_counts(s, l.b, l.c),
-        verb::LIVE => poke_live(s, l.b, l.c, l.d),
-        verb::PAST => poke_past(s, l.b, l.c, l.d),
-        _ => refused(s, MALFORMED),
+        verb::SITE => poke_counts(p, l.b, l.c),
+        verb::LIVE => poke_live(p, live, l.b, l.c, l.d),
+        verb::PAST => poke_past(p, history, l.b, l.c, l.d),
+        verb::LIST => poke_list(p, lists, l.b, l.c, l.d),
+        _ => refused(p, MALFORMED),
     }
 }

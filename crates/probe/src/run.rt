@@ -1,23 +1,24 @@
 // A probe from its first line to its last.
 use hand::HAND;
 use hand::store::STORE;
-use kinds::Site;
+use kinds::Core;
+use kinds::sizes::HISTORY_WORDS;
 use kinds::sizes::KEYS;
 use kinds::sizes::LISTS;
+use kinds::sizes::LIVE_WORDS;
 use kinds::sizes::SITES;
 use outcomes::ROOM;
 use outcomes::Work;
 use outcomes::is_over;
 use outcomes::place_of;
 use pages::PAGE;
-use parts::front_mut;
 use script::LINE;
 use script::TEXT;
-use turns::BASE_PLACE;
 use turns::BASES;
 use turns::COPIED;
 use turns::GATHERINGS;
-use turns::LISTS_PLACE;
+use turns::HISTORIES;
+use turns::LIVES;
 use turns::QUEUED;
 use turns::at_site;
 use turns::next_of_site;
@@ -25,26 +26,30 @@ use turns::opened;
 use turns::settled;
 ghost use mathlib.Core.Path.{_≡_};
 ghost use lib.ListN.{length};
+ghost use Rattle.kinds.specs.Sizes as sizes;
 
-fn start_at(n: u64, place: usize, base: &mut [u64], lists: &mut [u64]) -> Site {
+// A fresh core; the words of a fresh site are zeros.
+fn start_at(n: u64, place: usize) -> Core {
+    let mut live = [0u64; LIVE_WORDS];
+    let mut history = [0u64; HISTORY_WORDS];
+    let mut base = [0u64; KEYS];
+    let mut lists = [0u64; LISTS];
     let own = std::num::wrapping_add_u64(place as u64, 1);
-    let o = site::start::start(n, own, front_mut(base, KEYS), front_mut(lists, LISTS));
-    let s = o.site;
-    s
+    let o = site::start::start(n, own, &mut live, &mut history, &mut base, &mut lists);
+    let p = o.core;
+    p
 }
 
 // Every site of a house of n. A place that the house lacks holds what a refused start hands back; no line goes there.
-fn start_sites(n: u64) -> [Site; SITES]
-    ensures { λ r. ⌜ length r ≡ 8 ⌝ }
+fn start_sites(n: u64) -> [Core; SITES]
+    ensures { λ r. ⌜ length r ≡ sizes.sites ⌝ }
 {
-    let mut base = [0u64; BASE_PLACE];
-    let mut lists = [0u64; LISTS_PLACE];
-    let first = start_at(n, 0, &mut base, &mut lists);
+    let first = start_at(n, 0);
     let mut sites = [first; SITES];
     let mut i: usize = 1;
     while i < SITES {
-        let s = start_at(n, i, &mut base, &mut lists);
-        sites[i] = s;
+        let p = start_at(n, i);
+        sites[i] = p;
         i += 1;
     }
     sites
@@ -52,6 +57,8 @@ fn start_sites(n: u64) -> [Site; SITES]
 
 // One house, up to the next or the end of the probe.
 fn one_house(w: Work, text: &mut [u8; TEXT], page: &mut [u8; PAGE]) -> Work {
+    let mut live = [0u64; LIVES];
+    let mut history = [0u64; HISTORIES];
     let mut base = [0u64; BASES];
     let mut lists = [0u64; GATHERINGS];
     let mut queues = [0u64; QUEUED];
@@ -83,10 +90,20 @@ fn one_house(w: Work, text: &mut [u8; TEXT], page: &mut [u8; PAGE]) -> Work {
         if SITES <= i {
             break;
         }
-        let s = sites[i];
-        let o = at_site(v, s, i, &hand, &mut base, &mut lists, &mut out);
-        let t = o.site;
-        sites[i] = t;
+        let p = sites[i];
+        let o = at_site(
+            v,
+            p,
+            i,
+            &hand,
+            &mut live,
+            &mut history,
+            &mut base,
+            &mut lists,
+            &mut out,
+        );
+        let q = o.core;
+        sites[i] = q;
         let d = o.done;
         u = settled(v, d, after, &mut store, &out, page);
     }

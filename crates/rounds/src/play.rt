@@ -6,45 +6,67 @@ use crate::step::half;
 use crate::step::make;
 use crate::step::site_of;
 use kinds::Answer;
+use kinds::Core;
 use kinds::Merger;
-use kinds::Site;
 use kinds::sizes::COPY;
+use kinds::sizes::HISTORY_WORDS;
 use kinds::sizes::KEYS;
 use kinds::sizes::LISTS;
+use kinds::sizes::LIVE_WORDS;
 use kinds::sizes::OUTGOING;
 use kinds::sizes::QUEUES;
 use parts::front;
 
 pub const PAIR: usize = 2;
 
-// Base values and gathered lists of both sites, one behind the other.
+// Live parts, histories, base values and gathered lists of both sites, one behind the other.
+pub const LIVES: usize = PAIR * LIVE_WORDS;
+
+pub const HISTORIES: usize = PAIR * HISTORY_WORDS;
+
 pub const BASES: usize = PAIR * KEYS;
 
 pub const GATHERINGS: usize = PAIR * LISTS;
 
 // Both sites, the merger, the save that is played, and how many words the last writing call wrote.
 pub struct Store {
-    pub one: Site,
-    pub two: Site,
+    pub one: Core,
+    pub two: Core,
     pub merger: Merger,
     pub save: Save,
     pub words: usize,
 }
 
-fn start_at(i: usize, own: u64, base: &mut [u64], lists: &mut [u64]) -> Site {
-    let o = site::start::start(PAIR as u64, own, half(base, i), half(lists, i));
-    let s = o.site;
-    s
+fn start_at(
+    i: usize,
+    own: u64,
+    live: &mut [u64],
+    history: &mut [u64],
+    base: &mut [u64],
+    lists: &mut [u64],
+) -> Core {
+    let o = site::start::start(
+        PAIR as u64,
+        own,
+        half(live, i),
+        half(history, i),
+        half(base, i),
+        half(lists, i),
+    );
+    let p = o.core;
+    p
 }
 
 fn start(
-    base: &mut [u64],
-    lists: &mut [u64],
+    live: &mut [u64; LIVES],
+    history: &mut [u64; HISTORIES],
+    base: &mut [u64; BASES],
+    lists: &mut [u64; GATHERINGS],
     queues: &mut [u64; QUEUES],
     copy: &mut [u64; COPY],
 ) -> Store {
-    let one = start_at(0, 1, base, lists);
-    let two = start_at(1, 2, base, lists);
+    let one = start_at(0, 1, live, history, base, lists);
+    let two = start_at(1, 2, live, history, base, lists);
     let o = merger::start(PAIR as u64, queues);
     let merger = o.merger;
     copy::start(copy);
@@ -86,19 +108,19 @@ fn tx_after(a: Answer, tx: u64) -> u64 {
     tx
 }
 
-// A site by its number less 1.
-pub fn site_in(st: Store, i: usize) -> Site {
+// The core of a site by its number less 1.
+pub fn core_in(st: Store, i: usize) -> Core {
     if i == 0 {
-        let s = st.one;
-        return s;
+        let p = st.one;
+        return p;
     }
-    let s = st.two;
-    s
+    let p = st.two;
+    p
 }
 
 // The store after a call of a save, which site i was handed to, with so many words kept.
 fn settled(st: Store, i: usize, v: Save, d: Made, words: usize) -> Store {
-    let site = d.site;
+    let core = d.core;
     let merger = d.merger;
     let answer = d.answer;
     let tx = tx_after(answer, v.tx);
@@ -108,19 +130,53 @@ fn settled(st: Store, i: usize, v: Save, d: Made, words: usize) -> Store {
     t.save.before = v.before;
     t.words = words;
     if i == 0 {
-        t.one = site;
+        t.one = core;
         return t;
     }
-    t.two = site;
+    t.two = core;
     t
+}
+
+// A step's call, with the words of both sites, of which site i is lent its own.
+pub fn make_at(
+    i: usize,
+    step: u64,
+    v: Save,
+    p: Core,
+    g: Merger,
+    live: &mut [u64],
+    history: &mut [u64],
+    base: &mut [u64],
+    lists: &mut [u64],
+    queues: &mut [u64; QUEUES],
+    copy: &mut [u64; COPY],
+    m: &[u64],
+    out: &mut [u64; OUTGOING],
+) -> Made {
+    make(
+        step,
+        v,
+        p,
+        g,
+        half(live, i),
+        half(history, i),
+        half(base, i),
+        half(lists, i),
+        queues,
+        copy,
+        m,
+        out,
+    )
 }
 
 // Makes the call of the step that n steps, of this save and of those before it, come before.
 fn play_step(
     st: Store,
     n: u64,
-    base: &mut [u64],
-    lists: &mut [u64],
+    live: &mut [u64; LIVES],
+    history: &mut [u64; HISTORIES],
+    base: &mut [u64; BASES],
+    lists: &mut [u64; GATHERINGS],
     queues: &mut [u64; QUEUES],
     copy: &mut [u64; COPY],
     held: &mut [u64; OUTGOING],
@@ -128,20 +184,23 @@ fn play_step(
 ) -> Store {
     let step = n % LAST_STEP + 1;
     let i = site_of(step);
-    let s = site_in(st, i);
+    let p = core_in(st, i);
     let g = st.merger;
     let v = Save {
         tx: st.save.tx,
         before: n / LAST_STEP,
     };
     let before = st.words;
-    let d = make(
+    let d = make_at(
+        i,
         step,
         v,
-        s,
+        p,
         g,
-        half(base, i),
-        half(lists, i),
+        live,
+        history,
+        base,
+        lists,
         queues,
         copy,
         front(held, before),
@@ -155,8 +214,10 @@ fn play_step(
 fn play(
     st: Store,
     n: u64,
-    base: &mut [u64],
-    lists: &mut [u64],
+    live: &mut [u64; LIVES],
+    history: &mut [u64; HISTORIES],
+    base: &mut [u64; BASES],
+    lists: &mut [u64; GATHERINGS],
     queues: &mut [u64; QUEUES],
     copy: &mut [u64; COPY],
     held: &mut [u64; OUTGOING],
@@ -167,7 +228,18 @@ fn play(
     while i < n {
         let before = i;
         i += 1;
-        t = play_step(t, before, base, lists, queues, copy, held, out);
+        t = play_step(
+            t,
+            before,
+            live,
+            history,
+            base,
+            lists,
+            queues,
+            copy,
+            held,
+            out,
+        );
     }
     t
 }
@@ -175,13 +247,26 @@ fn play(
 // A fresh store after n steps.
 pub fn played(
     n: u64,
-    base: &mut [u64],
-    lists: &mut [u64],
+    live: &mut [u64; LIVES],
+    history: &mut [u64; HISTORIES],
+    base: &mut [u64; BASES],
+    lists: &mut [u64; GATHERINGS],
     queues: &mut [u64; QUEUES],
     copy: &mut [u64; COPY],
     held: &mut [u64; OUTGOING],
     out: &mut [u64; OUTGOING],
 ) -> Store {
-    let fresh = start(base, lists, queues, copy);
-    play(fresh, n, base, lists, queues, copy, held, out)
+    let fresh = start(live, history, base, lists, queues, copy);
+    play(
+        fresh,
+        n,
+        live,
+        history,
+        base,
+        lists,
+        queues,
+        copy,
+        held,
+        out,
+    )
 }

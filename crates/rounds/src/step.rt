@@ -13,10 +13,10 @@
 // 25 is abandon at 1, behind 7 and in no save. 0, 26 and 27 make no call: they are passed what a site's call, the merger's and the
 // copy's are, and pass it on, so that their time is that of the others without the call.
 use kinds::Answer;
+use kinds::Core;
 use kinds::Merger;
 use kinds::MergerOut;
-use kinds::Out;
-use kinds::Site;
+use kinds::Reply;
 use kinds::sizes::COPY;
 use kinds::sizes::OUTGOING;
 use kinds::sizes::QUEUES;
@@ -53,7 +53,7 @@ pub struct Save {
 pub struct Made {
     pub answer: Answer,
     pub words: usize,
-    pub site: Site,
+    pub core: Core,
     pub merger: Merger,
 }
 
@@ -77,30 +77,32 @@ pub fn site_of(step: u64) -> usize {
 fn at_site(
     step: u64,
     v: Save,
-    s: Site,
+    p: Core,
+    live: &mut [u64],
+    history: &mut [u64],
     base: &mut [u64],
     lists: &mut [u64],
     m: &[u64],
     out: &mut [u64],
-) -> Out {
+) -> Reply {
     let tx = v.tx;
     let n = v.before;
     match step {
-        0 => Out {
+        0 => Reply {
             answer: Answer::Done,
             words: 0,
-            site: s,
+            core: p,
         },
-        1 => site::begin::begin(s),
-        2 => site::enlist::enlist(s, tx, 2, out),
-        5 => site::access::write(s, tx, n % WRITTEN, n),
-        6 => site::access::write(s, tx, SITE_KEYS + n % WRITTEN, n),
-        7 => site::access::read(s, base, tx, UNWRITTEN),
-        8 => saves::commit::commit(s, tx, lists, out),
-        14 | 16 => installs::install(s, base, out),
-        18 | 20 => installs::report(s, out),
-        25 => saves::abandon::abandon(s, tx, out),
-        _ => deliver::message::message(s, m, lists, out),
+        1 => site::begin::begin(p, live, history),
+        2 => site::enlist::enlist(p, live, history, tx, 2, out),
+        5 => site::access::write(p, live, history, tx, n % WRITTEN, n),
+        6 => site::access::write(p, live, history, tx, SITE_KEYS + n % WRITTEN, n),
+        7 => site::access::read(p, live, history, base, tx, UNWRITTEN),
+        8 => saves::commit::commit(p, live, history, tx, lists, out),
+        14 | 16 => installs::install(p, live, history, base, out),
+        18 | 20 => installs::report(p, live, history, out),
+        25 => saves::abandon::abandon(p, live, history, tx, out),
+        _ => deliver::message::message(p, live, history, m, lists, out),
     }
 }
 
@@ -130,33 +132,33 @@ fn at_copy(step: u64, v: Save, copy: &mut [u64], m: &[u64]) -> Answer {
     copy::replay(copy, m)
 }
 
-fn of_site(o: Out, merger: Merger) -> Made {
+fn of_site(o: Reply, merger: Merger) -> Made {
     let answer = o.answer;
-    let site = o.site;
+    let core = o.core;
     Made {
         answer,
         words: o.words,
-        site,
+        core,
         merger,
     }
 }
 
-fn of_merger(o: MergerOut, site: Site) -> Made {
+fn of_merger(o: MergerOut, core: Core) -> Made {
     let answer = o.answer;
     let merger = o.merger;
     Made {
         answer,
         words: o.words,
-        site,
+        core,
         merger,
     }
 }
 
-fn of_copy(answer: Answer, site: Site, merger: Merger) -> Made {
+fn of_copy(answer: Answer, core: Core, merger: Merger) -> Made {
     Made {
         answer,
         words: 0,
-        site,
+        core,
         merger,
     }
 }
@@ -165,8 +167,10 @@ fn of_copy(answer: Answer, site: Site, merger: Merger) -> Made {
 pub fn make(
     step: u64,
     v: Save,
-    s: Site,
+    p: Core,
     g: Merger,
+    live: &mut [u64],
+    history: &mut [u64],
     base: &mut [u64],
     lists: &mut [u64],
     queues: &mut [u64; QUEUES],
@@ -176,14 +180,14 @@ pub fn make(
 ) -> Made {
     let who = called_by(step);
     if who == AT_SITE {
-        let o = at_site(step, v, s, base, lists, m, out);
+        let o = at_site(step, v, p, live, history, base, lists, m, out);
         return of_site(o, g);
     }
     if who == AT_MERGER {
         let o = at_merger(step, g, queues, m, out);
-        return of_merger(o, s);
+        return of_merger(o, p);
     }
-    of_copy(at_copy(step, v, copy, m), s, g)
+    of_copy(at_copy(step, v, copy, m), p, g)
 }
 
 // The first half of the words, or the second.

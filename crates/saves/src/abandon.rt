@@ -1,18 +1,20 @@
 // Abandon: an abort before the decision.
 use crate::codes::request_code;
-use kinds::Answer;
-use kinds::Out;
-use kinds::Site;
-use kinds::Turn;
+use kinds::Core;
+use kinds::Reply;
 use kinds::reason::ABANDONED;
 use kinds::reason::SPENT;
 use kinds::reason::STAGE;
 use kinds::stage::DECIDED;
 ghost use mathlib.Core.Path.{_≡_};
+ghost use Prim.Native.Nat.{_≤_};
 ghost use lib.ListN.{length};
+ghost use Rattle.kinds.specs.Sizes as sizes;
 ghost use Rattle.laws.specs.Overlay.{overlay};
-ghost use Rattle.rules.specs.Effect.{outOf};
 ghost use Rattle.rules.specs.Commit.{abandonCode, abandonOf};
+ghost use Rattle.lent.specs.Lent.{siteOf, Replied};
+ghost use Rattle.saves.specs.AtPlace.{abandonAt};
+ghost use Rattle.saves.specs.Own.{Placed};
 
 fn abandon_code(stage: u64, low: bool) -> u64
     ensures { λ r. ⌜ r ≡ abandonCode stage low ⌝ }
@@ -26,54 +28,36 @@ fn abandon_code(stage: u64, low: bool) -> u64
     0
 }
 
-pub fn abandon(s: Site, tx: u64, out: &mut [u64]) -> Out
-    ensures { λ r. ⌜ r ≡ outOf (abandonOf s (length (now (out .entry))) tx) ⌝ }
-    ensures { λ _. ⌜ now (out .exit) ≡ overlay (now (out .entry)) (abandonOf s (length (now (out .entry))) tx .words) ⌝ }
+// The part at a place is aborted, unless it is decided.
+fn abandon_at(p: Core, live: &mut [u64], history: &[u64], place: usize, out: &mut [u64]) -> Reply
+    requires { ⌜ Placed p (now live) (now history) place × (sizes.outgoing ≤ length (now out)) ⌝ }
+    ensures { λ r. ⌜ Replied p (now (live .entry)) (now (history .entry)) r (now (live .exit)) (now (history .exit)) (abandonAt (siteOf p (now (live .entry)) (now (history .entry))) place) ⌝ }
+    ensures { λ _. ⌜ now (out .exit) ≡ overlay (now (out .entry)) (abandonAt (siteOf p (now (live .entry)) (now (history .entry))) place .words) ⌝ }
 {
-    let ok = valid::site_ok(s);
-    let counters = s.counters;
-    let channels = s.channels;
-    let live = s.live;
-    let own = counters.own;
-    let place = live::place_of(live, tx);
-    let coordinator = numbers::coordinator_of(tx);
-    let code = request_code(ok, out.len(), place, coordinator == own);
-    if code != 0 {
-        return Out {
-            answer: Answer::Refused(code),
-            words: 0,
-            site: s,
-        };
-    }
-    let sub = live[place];
+    let t = shell::turn_at(p, live, place);
+    let course = t.sub.course;
+    let channels = p.channels;
     let sent = channels.sent;
-    let low = messages::counts_low(sent, sub.course.mask, own);
-    let next = abandon_code(sub.course.stage, low);
-    if next != 0 {
-        return Out {
-            answer: Answer::Refused(next),
-            words: 0,
-            site: s,
-        };
+    let low = messages::counts_low(sent, course.mask, p.counters.own);
+    let code = abandon_code(course.stage, low);
+    if code != 0 {
+        return shell::refused(p, code);
     }
-    let turn = Turn {
-        counters,
-        channels,
-        sub,
-    };
-    let a = course::coordinator::abort_step(turn, ABANDONED, out);
-    let answer = a.answer;
-    let u = a.turn;
-    let c = u.counters;
-    let d = u.channels;
-    let b = u.sub;
-    let mut t = s;
-    t.counters = c;
-    t.channels = d;
-    t.live[place] = b;
-    Out {
-        answer,
-        words: a.words,
-        site: t,
+    let a = course::coordinator::abort_step(t, ABANDONED, out);
+    shell::settled(p, live, place, a)
+}
+
+pub fn abandon(p: Core, live: &mut [u64], history: &[u64], tx: u64, out: &mut [u64]) -> Reply
+    ensures { λ r. ⌜ Replied p (now (live .entry)) (now (history .entry)) r (now (live .exit)) (now (history .exit)) (abandonOf (siteOf p (now (live .entry)) (now (history .entry))) (length (now (out .entry))) tx) ⌝ }
+    ensures { λ _. ⌜ now (out .exit) ≡ overlay (now (out .entry)) (abandonOf (siteOf p (now (live .entry)) (now (history .entry))) (length (now (out .entry))) tx .words) ⌝ }
+{
+    let ok = valid::site_ok(p, live, history);
+    let seats = p.seats;
+    let place = live::place_of(seats, tx);
+    let coordinator = numbers::coordinator_of(tx);
+    let code = request_code(ok, out.len(), place, coordinator == p.counters.own);
+    if code != 0 {
+        return shell::refused(p, code);
     }
+    abandon_at(p, live, history, place, out)
 }

@@ -1,9 +1,12 @@
 // Read and write.
 use kinds::Answer;
+use kinds::Core;
 use kinds::House;
-use kinds::Out;
-use kinds::Site;
-use kinds::Sub;
+use kinds::Keys;
+use kinds::Reply;
+use kinds::Seat;
+use kinds::Taken;
+use kinds::Turn;
 use kinds::Value;
 use kinds::reason::ELSEWHERE;
 use kinds::reason::FORGOTTEN;
@@ -22,9 +25,16 @@ use kinds::stage::FREE;
 ghost use mathlib.Core.Path.{_≡_};
 ghost use lib.ListN.{length};
 ghost use Rattle.kinds.specs.Sizes as sizes;
-ghost use Rattle.rules.specs.Effect.{outOf};
+ghost use mathlib.Core.List.{List, []};
+ghost use Prim.Native.Nat.{ℕ, _<_};
+ghost use Rattle.kinds.specs.State.{withKeys};
+ghost use Rattle.rules.specs.Effect.{Change, takenOf, turnAt};
+ghost use Rattle.rules.specs.Course.{withSubOf};
+ghost use Rattle.site.specs.Accessed.{Accessed, Writable};
 ghost use Rattle.rules.specs.Live.{stageAt};
-ghost use Rattle.rules.specs.Access.{accessCode, readCode, writeCode, readOf, writeOf};
+ghost use Rattle.rules.specs.Access.{accessCode, readCode, writeCode, writeCodeAt, written as writtenOf, readAt, writeAt, readOf, writeOf};
+ghost use Rattle.lent.specs.Layout.{liveOf};
+ghost use Rattle.lent.specs.Lent.{siteOf, Replied};
 
 fn access_code(ok: bool, room: usize, o: House, own: u64, key: u64, place: usize, stage: u64) -> u64
     ensures { λ r. ⌜ r ≡ accessCode ok room o own key place stage ⌝ }
@@ -85,122 +95,139 @@ fn write_code(lost: bool, held: bool, newer: bool, wrote: usize) -> u64
     0
 }
 
-fn stage_at(live: [Sub; LIVE], place: usize) -> u64
-    ensures { λ r. ⌜ r ≡ stageAt live place ⌝ }
+fn stage_at(seats: [Seat; LIVE], place: usize) -> u64
+    ensures { λ r. ⌜ ((w : List ℕ) → r ≡ stageAt (liveOf seats w) place) ⌝ }
 {
     if place < LIVE {
-        return live[place].course.stage;
+        return seats[place].stage;
     }
     FREE
 }
 
-// Reads a key: the own write, else the newest version within the snapshot.
-pub fn read(s: Site, base: &[u64], tx: u64, key: u64) -> Out
-    ensures { λ r. ⌜ r ≡ outOf (readOf s (now (base .entry)) tx key) ⌝ }
+// A part with other keys, as a step that sends nothing.
+fn with_keys(t: Turn, keys: Keys, answer: Answer) -> Taken
+    ensures { λ r. ⌜ r ≡ takenOf (record { answer = answer; words = []; turn = withSubOf t (withKeys (t .sub) keys) }) ⌝ }
 {
-    let ok = valid::site_ok(s);
-    let house = s.house;
-    let own = s.counters.own;
-    let live = s.live;
-    let place = live::place_of(live, tx);
-    let stage = stage_at(live, place);
-    let code = access_code(ok, base.len(), house, own, key, place, stage);
-    if code != 0 {
-        return Out {
-            answer: Answer::Refused(code),
-            words: 0,
-            site: s,
-        };
-    }
-    let mut sub = live[place];
-    let keys = sub.keys;
-    let k = key as u16;
-    if keys::wrote_key(keys, k) {
-        let value = keys::wrote_value(keys, k);
-        return Out {
-            answer: Answer::Found { value },
-            words: 0,
-            site: s,
-        };
-    }
-    let installs = s.counters.installs;
-    let snapshot = sub.snapshot;
-    let lost = history::is_forgotten(installs, snapshot);
-    let has = keys::read_key(keys, k);
-    let next = read_code(lost, has, keys.read);
-    if next != 0 {
-        return Out {
-            answer: Answer::Refused(next),
-            words: 0,
-            site: s,
-        };
-    }
-    let history = s.history;
-    let value = history::version_of(history, installs, base, snapshot, k);
-    let more = keys::with_read(keys, k);
-    sub.keys = more;
-    let mut t = s;
-    t.live[place] = sub;
-    Out {
-        answer: Answer::Found { value },
+    let mut sub = t.sub;
+    sub.keys = keys;
+    let turn = course::turn::with_sub(t, sub);
+    Taken {
+        answer,
         words: 0,
-        site: t,
+        turn,
     }
 }
 
-// Writes a key privately, and holds it until install or abort.
-pub fn write(s: Site, tx: u64, key: u64, value: Value) -> Out
-    ensures { λ r. ⌜ r ≡ outOf (writeOf s tx key value) ⌝ }
+// What a part reads: the own write, else the newest version within the snapshot.
+fn read_at(
+    p: Core,
+    live: &mut [u64],
+    history: &[u64],
+    base: &[u64],
+    place: usize,
+    key: u64,
+) -> Reply
+    requires { ⌜ Accessed p (now live) (now history) place × (key < length (now base)) ⌝ }
+    ensures { λ r. ⌜ Replied p (now (live .entry)) (now (history .entry)) r (now (live .exit)) (now (history .exit)) (readAt (siteOf p (now (live .entry)) (now (history .entry))) (now (base .entry)) place key) ⌝ }
 {
-    let ok = valid::site_ok(s);
-    let house = s.house;
-    let own = s.counters.own;
-    let live = s.live;
-    let place = live::place_of(live, tx);
-    let stage = stage_at(live, place);
-    let code = access_code(ok, KEYS, house, own, key, place, stage);
+    let t = shell::turn_at(p, live, place);
+    let keys = t.sub.keys;
+    if keys::wrote_key(keys, key) {
+        let value = keys::wrote_value(keys, key);
+        return shell::unaltered(p, Answer::Found { value }, 0);
+    }
+    let installs = p.counters.installs;
+    let snapshot = t.sub.snapshot;
+    let lost = history::is_forgotten(installs, snapshot);
+    let has = keys::read_key(keys, key);
+    let code = read_code(lost, has, keys.read);
     if code != 0 {
-        return Out {
-            answer: Answer::Refused(code),
-            words: 0,
-            site: s,
-        };
+        return shell::refused(p, code);
     }
-    let mut sub = live[place];
-    let keys = sub.keys;
-    let k = key as u16;
-    if !keys::wrote_key(keys, k) {
-        let installs = s.counters.installs;
-        let snapshot = sub.snapshot;
-        let history = s.history;
-        let lost = history::is_forgotten(installs, snapshot);
-        let held = live::key_held(live, place, k);
-        let newer = history::is_newer(history, installs, snapshot, k);
-        let next = write_code(lost, held, newer, keys.wrote);
-        if next != 0 {
-            return Out {
-                answer: Answer::Refused(next),
-                words: 0,
-                site: s,
-            };
-        }
-        let more = keys::with_write(keys, k, value);
-        sub.keys = more;
-        let mut t = s;
-        t.live[place] = sub;
-        return Out {
-            answer: Answer::Done,
-            words: 0,
-            site: t,
-        };
+    let value = history::version_of(history, installs, base, snapshot, key);
+    let more = keys::with_read(keys, key);
+    let a = with_keys(t, more, Answer::Found { value });
+    shell::settled(p, live, place, a)
+}
+
+// Reads a key of this site.
+pub fn read(p: Core, live: &mut [u64], history: &[u64], base: &[u64], tx: u64, key: u64) -> Reply
+    ensures { λ r. ⌜ Replied p (now (live .entry)) (now (history .entry)) r (now (live .exit)) (now (history .exit)) (readOf (siteOf p (now (live .entry)) (now (history .entry))) (now (base .entry)) tx key) ⌝ }
+{
+    let ok = valid::site_ok(p, live, history);
+    let house = tables::lent_house(p.house, live.len(), history.len());
+    let seats = p.seats;
+    let place = live::place_of(seats, tx);
+    let stage = stage_at(seats, place);
+    let code = access_code(ok, base.len(), house, p.counters.own, key, place, stage);
+    if code != 0 {
+        return shell::refused(p, code);
     }
-    let more = keys::with_write(keys, k, value);
-    sub.keys = more;
-    let mut t = s;
-    t.live[place] = sub;
-    Out {
-        answer: Answer::Done,
-        words: 0,
-        site: t,
+    read_at(p, live, history, base, place, key)
+}
+
+// The first cause against a key that the part has not written.
+fn fresh_code(p: Core, live: &[u64], history: &[u64], place: usize, t: Turn, key: u64) -> u64
+    requires { ⌜ Accessed p (now live) (now history) place × (t ≡ turnAt (siteOf p (now live) (now history)) place) ⌝ }
+    ensures { λ r. ⌜ r ≡ writeCodeAt (siteOf p (now (live .entry)) (now (history .entry))) place key ⌝ }
+{
+    let installs = p.counters.installs;
+    let snapshot = t.sub.snapshot;
+    let seats = p.seats;
+    let lost = history::is_forgotten(installs, snapshot);
+    let held = live::key_held(seats, live, place, key);
+    let newer = history::is_newer(history, installs, snapshot, key);
+    write_code(lost, held, newer, t.sub.keys.wrote)
+}
+
+// The part with the key written.
+fn written(p: Core, live: &mut [u64], place: usize, t: Turn, key: u64, value: Value) -> Reply
+    requires { ⌜ (length (now live) ≡ sizes.liveWords) × (place < sizes.live) ⌝ }
+    requires { ⌜ Writable (t .sub .keys) key ⌝ }
+    ensures { λ r. ⌜ ((h : List ℕ) → t ≡ turnAt (siteOf p (now (live .entry)) h) place → Replied p (now (live .entry)) h r (now (live .exit)) h (writtenOf (siteOf p (now (live .entry)) h) place key value)) ⌝ }
+{
+    let keys = t.sub.keys;
+    let more = keys::with_write(keys, key, value);
+    let a = with_keys(t, more, Answer::Done);
+    shell::settled(p, live, place, a)
+}
+
+// What a part writes: causes 8 to 11 never arise for a key that it wrote before.
+fn write_at(
+    p: Core,
+    live: &mut [u64],
+    history: &[u64],
+    place: usize,
+    key: u64,
+    value: Value,
+) -> Reply
+    requires { ⌜ Accessed p (now live) (now history) place ⌝ }
+    ensures { λ r. ⌜ Replied p (now (live .entry)) (now (history .entry)) r (now (live .exit)) (now (history .exit)) (writeAt (siteOf p (now (live .entry)) (now (history .entry))) place key value) ⌝ }
+{
+    let t = shell::turn_at(p, live, place);
+    let keys = t.sub.keys;
+    if keys::wrote_key(keys, key) {
+        return written(p, live, place, t, key, value);
     }
+    let code = fresh_code(p, live, history, place, t, key);
+    if code != 0 {
+        return shell::refused(p, code);
+    }
+    written(p, live, place, t, key, value)
+}
+
+// Writes a key of this site privately, and holds it until install or abort.
+pub fn write(p: Core, live: &mut [u64], history: &[u64], tx: u64, key: u64, value: Value) -> Reply
+    ensures { λ r. ⌜ Replied p (now (live .entry)) (now (history .entry)) r (now (live .exit)) (now (history .exit)) (writeOf (siteOf p (now (live .entry)) (now (history .entry))) tx key value) ⌝ }
+{
+    let ok = valid::site_ok(p, live, history);
+    let house = tables::lent_house(p.house, live.len(), history.len());
+    let seats = p.seats;
+    let place = live::place_of(seats, tx);
+    let stage = stage_at(seats, place);
+    let code = access_code(ok, KEYS, house, p.counters.own, key, place, stage);
+    if code != 0 {
+        return shell::refused(p, code);
+    }
+    write_at(p, live, history, place, key, value)
 }

@@ -1,18 +1,22 @@
 // Begin: the site becomes coordinator of a new transaction.
 use kinds::Answer;
+use kinds::Core;
 use kinds::Counters;
-use kinds::Out;
-use kinds::Site;
+use kinds::Reply;
+use kinds::Taken;
+use kinds::Turn;
 use kinds::reason::FULL;
 use kinds::reason::MALFORMED;
 use kinds::reason::SPENT;
 use kinds::sizes::LAST_SERIAL;
 use kinds::sizes::LIVE;
 ghost use mathlib.Core.Path.{_≡_};
-ghost use Prim.Native.Nat.{_≤_, _<_};
+ghost use mathlib.Core.List.{List};
+ghost use Prim.Native.Nat.{ℕ, _≤_, _<_};
 ghost use Rattle.kinds.specs.Sizes as sizes;
-ghost use Rattle.rules.specs.Effect.{outOf};
-ghost use Rattle.rules.specs.Begin.{beginCode, nextTx, beginOf};
+ghost use Rattle.rules.specs.Effect.{takenOf};
+ghost use Rattle.rules.specs.Begin.{beginCode, nextTx, begun as begunOf, beginOf};
+ghost use Rattle.lent.specs.Lent.{siteOf, Replied};
 
 fn begin_code(ok: bool, c: Counters, place: usize) -> u64
     ensures { λ r. ⌜ r ≡ beginCode ok c place ⌝ }
@@ -37,31 +41,39 @@ fn next_tx(c: Counters) -> u64
     numbers::tx_of(c.own, c.serial + 1)
 }
 
-pub fn begin(s: Site) -> Out
-    ensures { λ r. ⌜ r ≡ outOf (beginOf s) ⌝ }
+// The new part, and its serial spent.
+fn begun(p: Core) -> Taken
+    requires { ⌜ (1 ≤ p .counters .own) × ((p .counters .own ≤ sizes.sites) × (p .counters .serial < sizes.lastSerial)) ⌝ }
+    ensures { λ r. ⌜ ((w h : List ℕ) → r ≡ takenOf (begunOf (siteOf p w h))) ⌝ }
 {
-    let ok = valid::site_ok(s);
-    let live = s.live;
-    let place = live::free_place(live);
-    let mut c = s.counters;
-    let code = begin_code(ok, c, place);
-    if code != 0 {
-        return Out {
-            answer: Answer::Refused(code),
-            words: 0,
-            site: s,
-        };
-    }
-    let tx = next_tx(c);
-    let mask = numbers::mask_of(c.own);
-    let sub = course::turn::new_sub(tx, mask, c.installs);
-    c.serial = c.serial + 1;
-    let mut t = s;
-    t.counters = c;
-    t.live[place] = sub;
-    Out {
+    let mut counters = p.counters;
+    let channels = p.channels;
+    let tx = next_tx(counters);
+    let mask = numbers::mask_of(counters.own);
+    let sub = course::turn::new_sub(tx, mask, counters.installs);
+    counters.serial = counters.serial + 1;
+    let turn = Turn {
+        counters,
+        channels,
+        sub,
+    };
+    Taken {
         answer: Answer::Begun { tx },
         words: 0,
-        site: t,
+        turn,
     }
+}
+
+pub fn begin(p: Core, live: &mut [u64], history: &[u64]) -> Reply
+    ensures { λ r. ⌜ Replied p (now (live .entry)) (now (history .entry)) r (now (live .exit)) (now (history .exit)) (beginOf (siteOf p (now (live .entry)) (now (history .entry)))) ⌝ }
+{
+    let ok = valid::site_ok(p, live, history);
+    let seats = p.seats;
+    let place = live::free_place(seats);
+    let code = begin_code(ok, p.counters, place);
+    if code != 0 {
+        return shell::refused(p, code);
+    }
+    let a = begun(p);
+    shell::settled(p, live, place, a)
 }

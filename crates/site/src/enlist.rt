@@ -1,8 +1,6 @@
 // Enlist: a participant more, and JOIN to it.
-use kinds::Answer;
-use kinds::Out;
-use kinds::Site;
-use kinds::Turn;
+use kinds::Core;
+use kinds::Reply;
 use kinds::reason::MALFORMED;
 use kinds::reason::NOT_COORDINATOR;
 use kinds::reason::SHORT;
@@ -13,10 +11,13 @@ use kinds::sizes::LIVE;
 use kinds::sizes::OUTGOING;
 use kinds::stage::ACTIVE;
 ghost use mathlib.Core.Path.{_≡_};
+ghost use Prim.Native.Nat.{_≤_};
 ghost use lib.ListN.{length};
+ghost use Rattle.kinds.specs.Sizes as sizes;
 ghost use Rattle.laws.specs.Overlay.{overlay};
-ghost use Rattle.rules.specs.Effect.{outOf};
-ghost use Rattle.rules.specs.Enlist.{enlistCode, joinerCode, enlistOf};
+ghost use Rattle.rules.specs.Enlist.{enlistCode, joinerCode, enlistAt, enlistOf};
+ghost use Rattle.site.specs.Accessed.{Accessed};
+ghost use Rattle.lent.specs.Lent.{siteOf, Replied};
 
 fn enlist_code(ok: bool, room: usize, known: bool, place: usize, mine: bool) -> u64
     ensures { λ r. ⌜ r ≡ enlistCode ok room known place mine ⌝ }
@@ -57,56 +58,52 @@ fn joiner_code(stage: u64, own: bool, there: bool, spent: bool) -> u64
     0
 }
 
-pub fn enlist(s: Site, tx: u64, site: u64, out: &mut [u64]) -> Out
-    ensures { λ r. ⌜ r ≡ outOf (enlistOf s (length (now (out .entry))) tx site) ⌝ }
-    ensures { λ _. ⌜ now (out .exit) ≡ overlay (now (out .entry)) (enlistOf s (length (now (out .entry))) tx site .words) ⌝ }
+// The part at a place gets a participant more.
+fn enlist_at(
+    p: Core,
+    live: &mut [u64],
+    history: &[u64],
+    place: usize,
+    site: u64,
+    out: &mut [u64],
+) -> Reply
+    requires { ⌜ Accessed p (now live) (now history) place ⌝ }
+    requires { ⌜ (1 ≤ site) × ((site ≤ sizes.sites) × (sizes.outgoing ≤ length (now out))) ⌝ }
+    ensures { λ r. ⌜ Replied p (now (live .entry)) (now (history .entry)) r (now (live .exit)) (now (history .exit)) (enlistAt (siteOf p (now (live .entry)) (now (history .entry))) place site) ⌝ }
+    ensures { λ _. ⌜ now (out .exit) ≡ overlay (now (out .entry)) (enlistAt (siteOf p (now (live .entry)) (now (history .entry))) place site .words) ⌝ }
 {
-    let ok = valid::site_ok(s);
-    let house = s.house;
-    let counters = s.counters;
-    let channels = s.channels;
-    let live = s.live;
-    let own = counters.own;
-    let place = live::place_of(live, tx);
+    let t = shell::turn_at(p, live, place);
+    let course = t.sub.course;
+    let there = numbers::in_mask(course.mask, site);
+    let spent = course::turn::channel_spent(p.channels, site);
+    let code = joiner_code(course.stage, site == p.counters.own, there, spent);
+    if code != 0 {
+        return shell::refused(p, code);
+    }
+    let a = course::coordinator::enlist_step(t, site, out);
+    shell::settled(p, live, place, a)
+}
+
+pub fn enlist(
+    p: Core,
+    live: &mut [u64],
+    history: &[u64],
+    tx: u64,
+    site: u64,
+    out: &mut [u64],
+) -> Reply
+    ensures { λ r. ⌜ Replied p (now (live .entry)) (now (history .entry)) r (now (live .exit)) (now (history .exit)) (enlistOf (siteOf p (now (live .entry)) (now (history .entry))) (length (now (out .entry))) tx site) ⌝ }
+    ensures { λ _. ⌜ now (out .exit) ≡ overlay (now (out .entry)) (enlistOf (siteOf p (now (live .entry)) (now (history .entry))) (length (now (out .entry))) tx site .words) ⌝ }
+{
+    let ok = valid::site_ok(p, live, history);
+    let house = tables::lent_house(p.house, live.len(), history.len());
+    let seats = p.seats;
+    let place = live::place_of(seats, tx);
     let known = numbers::is_site(house, site);
     let coordinator = numbers::coordinator_of(tx);
-    let code = enlist_code(ok, out.len(), known, place, coordinator == own);
+    let code = enlist_code(ok, out.len(), known, place, coordinator == p.counters.own);
     if code != 0 {
-        return Out {
-            answer: Answer::Refused(code),
-            words: 0,
-            site: s,
-        };
+        return shell::refused(p, code);
     }
-    let sub = live[place];
-    let there = numbers::in_mask(sub.course.mask, site);
-    let spent = course::turn::channel_spent(channels, site);
-    let next = joiner_code(sub.course.stage, site == own, there, spent);
-    if next != 0 {
-        return Out {
-            answer: Answer::Refused(next),
-            words: 0,
-            site: s,
-        };
-    }
-    let turn = Turn {
-        counters,
-        channels,
-        sub,
-    };
-    let a = course::coordinator::enlist_step(turn, site, out);
-    let answer = a.answer;
-    let u = a.turn;
-    let d = u.channels;
-    let b = u.sub;
-    let c = u.counters;
-    let mut t = s;
-    t.counters = c;
-    t.channels = d;
-    t.live[place] = b;
-    Out {
-        answer,
-        words: a.words,
-        site: t,
-    }
+    enlist_at(p, live, history, place, site, out)
 }

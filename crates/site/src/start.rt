@@ -1,21 +1,21 @@
 // Start: a fresh site, and its lent tables filled with 0.
 use kinds::Answer;
 use kinds::Channels;
+use kinds::Core;
 use kinds::Counters;
-use kinds::Entry;
 use kinds::House;
-use kinds::Out;
-use kinds::Site;
+use kinds::Reply;
+use kinds::Seat;
 use kinds::reason::MALFORMED;
-use kinds::sizes::HISTORY;
 use kinds::sizes::KEYS;
 use kinds::sizes::LISTS;
 use kinds::sizes::LIVE;
 use kinds::sizes::SITES;
+use kinds::stage::FREE;
 ghost use mathlib.Core.Path.{_≡_};
 ghost use lib.ListN.{length};
-ghost use Rattle.kinds.specs.State.{noEntry};
-ghost use Rattle.rules.specs.Install.{startCode, startOf, startTable, freshSite};
+ghost use Rattle.rules.specs.Install.{startCode, startTable};
+ghost use Rattle.lent.specs.Fresh.{freshCore, startedCode, Started};
 
 fn start_code(sites: u64, own: u64, base: usize, lists: usize) -> u64
     ensures { λ r. ⌜ r ≡ startCode sites own base lists ⌝ }
@@ -36,24 +36,11 @@ fn start_code(sites: u64, own: u64, base: usize, lists: usize) -> u64
     0
 }
 
-fn no_entry() -> Entry
-    ensures { λ r. ⌜ r ≡ noEntry ⌝ }
+fn fresh_core(sites: u64, own: u64) -> Core
+    ensures { λ r. ⌜ r ≡ freshCore sites own ⌝ }
 {
-    let keys = course::turn::no_keys();
-    Entry {
-        tx: 0,
-        mask: 0,
-        number: 0,
-        keys,
-    }
-}
-
-fn fresh_site(sites: u64, own: u64) -> Site
-    ensures { λ r. ⌜ r ≡ freshSite sites own ⌝ }
-{
-    let free = course::turn::no_sub();
-    let none = no_entry();
-    Site {
+    let free = Seat { tx: 0, stage: FREE };
+    Core {
         house: House { sites },
         counters: Counters {
             own,
@@ -65,31 +52,40 @@ fn fresh_site(sites: u64, own: u64) -> Site
             sent: [0; SITES],
             taken: [0; SITES],
         },
-        live: [free; LIVE],
-        history: [none; HISTORY],
+        seats: [free; LIVE],
     }
 }
 
-pub fn start(sites: u64, own: u64, base: &mut [u64], lists: &mut [u64]) -> Out
-    ensures { λ r. ⌜ r ≡ startOf sites own (length (now (base .entry))) (length (now (lists .entry))) ⌝ }
-    ensures { λ _. ⌜ now (base .exit) ≡ startTable (startCode sites own (length (now (base .entry))) (length (now (lists .entry)))) (now (base .entry)) ⌝ }
-    ensures { λ _. ⌜ now (lists .exit) ≡ startTable (startCode sites own (length (now (base .entry))) (length (now (lists .entry)))) (now (lists .entry)) ⌝ }
+pub fn start(
+    sites: u64,
+    own: u64,
+    live: &mut [u64],
+    history: &mut [u64],
+    base: &mut [u64],
+    lists: &mut [u64],
+) -> Reply
+    ensures { λ r. ⌜ Started sites own (now (live .entry)) (now (history .entry)) (length (now (base .entry))) (length (now (lists .entry))) r (now (live .exit)) (now (history .exit)) ⌝ }
+    ensures { λ _. ⌜ now (base .exit) ≡ startTable (startedCode sites own (now (live .entry)) (now (history .entry)) (length (now (base .entry))) (length (now (lists .entry)))) (now (base .entry)) ⌝ }
+    ensures { λ _. ⌜ now (lists .exit) ≡ startTable (startedCode sites own (now (live .entry)) (now (history .entry)) (length (now (base .entry))) (length (now (lists .entry)))) (now (lists .entry)) ⌝ }
 {
-    let code = start_code(sites, own, base.len(), lists.len());
+    let house = tables::lent_house(House { sites }, live.len(), history.len());
+    let code = start_code(house.sites, own, base.len(), lists.len());
     if code != 0 {
-        let site = fresh_site(0, 0);
-        return Out {
+        let core = fresh_core(0, 0);
+        return Reply {
             answer: Answer::Refused(code),
             words: 0,
-            site,
+            core,
         };
     }
+    slices::fill_words(live);
+    slices::fill_words(history);
     slices::fill_words(base);
     slices::fill_words(lists);
-    let site = fresh_site(sites, own);
-    Out {
+    let core = fresh_core(sites, own);
+    Reply {
         answer: Answer::Done,
         words: 0,
-        site,
+        core,
     }
 }

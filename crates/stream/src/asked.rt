@@ -8,6 +8,7 @@ use kinds::sizes::COPY;
 use kinds::sizes::QUEUES;
 use lines::Command;
 use parts::front;
+use parts::part_mut;
 ghost use mathlib.Core.Path.{_≡_};
 ghost use Prim.Native.Nat.{_<_};
 ghost use lib.ListN.{length};
@@ -53,12 +54,12 @@ pub fn start_copies(held: &mut [u64])
 
 // A call of copy i, less 1. The first n words of m are the record to replay.
 pub fn at_copy(c: Command, i: usize, held: &mut [u64], m: &[u64], n: usize) -> Answer
-    requires { ⌜ (i < 8) × (length (now held) ≡ 16400) ⌝ }
+    requires { ⌜ i < 8 ⌝ }
 {
-    let at = i * COPY;
+    let words = part_mut(held, i * COPY, COPY);
     match c {
-        Command::Replay(_) => copy::replay(&mut held[at..at + COPY], front(m, n)),
-        Command::Value(_, key) => copy::value(&held[at..at + COPY], key),
+        Command::Replay(_) => copy::replay(words, front(m, n)),
+        Command::Value(_, key) => copy::value(words, key),
         _ => Answer::Refused(MALFORMED),
     }
 }

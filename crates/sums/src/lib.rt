@@ -39,46 +39,32 @@ pub fn of_words(h: u64, ws: &[u64]) -> u64 {
     sum
 }
 
-fn wide(k: u16) -> u64 {
-    k as u64
-}
-
-pub fn of_keys(h: u64, ks: &[u16]) -> u64 {
-    let mut sum = h;
-    let mut i: usize = 0;
-    while i < ks.len() {
-        sum = more(sum, wide(ks[i]));
-        i += 1;
-    }
-    sum
-}
-
 // The first n keys as a set.
-pub fn of_set(ks: &[u16], n: usize) -> u64 {
+pub fn of_set(ks: &[u64], n: u64) -> u64 {
     let mut sum: u64 = 0;
     let mut i: usize = 0;
     while i < ks.len() {
-        if n <= i {
+        if n <= i as u64 {
             break;
         }
-        sum = together(sum, more(1, wide(ks[i])));
+        sum = together(sum, more(1, ks[i]));
         i += 1;
     }
     sum
 }
 
 // The first n keys with their values as a set.
-pub fn of_writes(ks: &[u16], vs: &[u64], n: usize) -> u64 {
+pub fn of_writes(ks: &[u64], vs: &[u64], n: u64) -> u64 {
     let mut sum: u64 = 0;
     let mut i: usize = 0;
     while i < ks.len() {
-        if n <= i {
+        if n <= i as u64 {
             break;
         }
         if vs.len() <= i {
             break;
         }
-        sum = together(sum, more(more(2, wide(ks[i])), vs[i]));
+        sum = together(sum, more(more(2, ks[i]), vs[i]));
         i += 1;
     }
     sum

@@ -5,25 +5,57 @@ use crate::of_words;
 use crate::of_writes;
 use crate::three_more;
 use crate::together;
+use kinds::Core;
 use kinds::Course;
-use kinds::Entry;
-use kinds::Keys;
-use kinds::Site;
-use kinds::Sub;
+use kinds::Seat;
 use kinds::sizes::HISTORY;
+use kinds::sizes::KEYSET;
 use kinds::sizes::LIVE;
+use kinds::sizes::PLACE;
+use kinds::sizes::READS;
+use kinds::sizes::SLOT;
+use kinds::sizes::WRITES;
 use kinds::stage::ACTIVE;
 use kinds::stage::DECIDED;
 use kinds::stage::FREE;
 use kinds::stage::QUEUED;
+use kinds::word::KEYS_READ;
+use kinds::word::KEYS_READS;
+use kinds::word::KEYS_VALUES;
+use kinds::word::KEYS_WRITES;
+use kinds::word::KEYS_WROTE;
+use kinds::word::PLACE_HEARD;
+use kinds::word::PLACE_KEYS;
+use kinds::word::PLACE_LISTED;
+use kinds::word::PLACE_MASK;
+use kinds::word::PLACE_NUMBER;
+use kinds::word::PLACE_REASON;
+use kinds::word::PLACE_SNAPSHOT;
+use kinds::word::SLOT_KEYS;
+use kinds::word::SLOT_MASK;
+use kinds::word::SLOT_TX;
 use numbers::coordinator_of;
+use parts::part;
+use parts::word;
 
-fn keys(h: u64, k: Keys) -> u64 {
-    let reads = k.reads;
-    let writes = k.writes;
-    let values = k.values;
-    let a = more(h, of_set(&reads, k.read));
-    more(a, of_writes(&writes, &values, k.wrote))
+fn keys(h: u64, ws: &[u64]) -> u64 {
+    let reads = part(ws, KEYS_READS, READS);
+    let writes = part(ws, KEYS_WRITES, WRITES);
+    let values = part(ws, KEYS_VALUES, WRITES);
+    let a = more(h, of_set(reads, word(ws, KEYS_READ)));
+    more(a, of_writes(writes, values, word(ws, KEYS_WROTE)))
+}
+
+// The course of the part whose seat and other words these are.
+fn course_of(a: Seat, ws: &[u64]) -> Course {
+    Course {
+        stage: a.stage,
+        mask: word(ws, PLACE_MASK),
+        number: word(ws, PLACE_NUMBER),
+        heard: word(ws, PLACE_HEARD),
+        reason: word(ws, PLACE_REASON),
+        listed: word(ws, PLACE_LISTED) as usize,
+    }
 }
 
 // A participant has no mask before PREPARE.
@@ -69,45 +101,51 @@ fn reason_of(c: Course, coordinates: bool) -> u64 {
     0
 }
 
-fn sub(own: u64, b: Sub) -> u64 {
-    let c = b.course;
-    let k = b.keys;
+// The part whose seat and other words these are.
+fn sub(own: u64, s: Seat, ws: &[u64]) -> u64 {
+    let c = course_of(s, ws);
     if c.stage == FREE {
         return 0;
     }
-    let coordinates = coordinator_of(b.tx) == own;
-    let a = three_more(3, b.tx, b.snapshot.installs, c.stage);
+    let coordinates = coordinator_of(s.tx) == own;
+    let a = three_more(3, s.tx, word(ws, PLACE_SNAPSHOT), c.stage);
     let d = three_more(
         a,
         mask_of(c, coordinates),
         number_of(c),
         heard_of(c, coordinates),
     );
-    keys(more(d, reason_of(c, coordinates)), k)
+    keys(
+        more(d, reason_of(c, coordinates)),
+        part(ws, PLACE_KEYS, KEYSET),
+    )
 }
 
-fn live(own: u64, t: [Sub; LIVE]) -> u64 {
+fn live(own: u64, seats: [Seat; LIVE], ws: &[u64]) -> u64 {
     let mut sum: u64 = 0;
     let mut i: usize = 0;
     while i < LIVE {
-        let b = t[i];
-        sum = together(sum, sub(own, b));
+        let s = seats[i];
+        sum = together(sum, sub(own, s, part(ws, PLACE * i, PLACE)));
         i += 1;
     }
     sum
 }
 
 // Install n.
-fn entry(n: u64, e: Entry) -> u64 {
-    let k = e.keys;
-    if e.tx == 0 {
+fn entry(n: u64, ws: &[u64]) -> u64 {
+    let tx = word(ws, SLOT_TX);
+    if tx == 0 {
         return 0;
     }
-    keys(three_more(4, n, e.tx, e.mask), k)
+    keys(
+        three_more(4, n, tx, word(ws, SLOT_MASK)),
+        part(ws, SLOT_KEYS, KEYSET),
+    )
 }
 
 // The last installs, up to 32.
-fn history(t: [Entry; HISTORY], installs: u64) -> u64 {
+fn history(ws: &[u64], installs: u64) -> u64 {
     let mut sum: u64 = 0;
     let mut n = installs;
     let mut i: usize = 0;
@@ -116,22 +154,21 @@ fn history(t: [Entry; HISTORY], installs: u64) -> u64 {
             break;
         }
         let slot = ((n - 1) % HISTORY as u64) as usize;
-        let e = t[slot];
-        sum = together(sum, entry(n, e));
+        sum = together(sum, entry(n, part(ws, SLOT * slot, SLOT)));
         n -= 1;
         i += 1;
     }
     sum
 }
 
-pub fn site(s: Site, base: &[u64]) -> u64 {
-    let c = s.counters;
-    let sent = s.channels.sent;
-    let taken = s.channels.taken;
-    let l = s.live;
-    let e = s.history;
-    let a = three_more(s.house.sites, c.own, c.clock, c.serial);
+// The site of a core, with its live, its history and its base words.
+pub fn site(p: Core, l: &[u64], h: &[u64], base: &[u64]) -> u64 {
+    let c = p.counters;
+    let sent = p.channels.sent;
+    let taken = p.channels.taken;
+    let seats = p.seats;
+    let a = three_more(p.house.sites, c.own, c.clock, c.serial);
     let b = of_words(of_words(more(a, c.installs), &sent), &taken);
-    let d = more(more(b, live(c.own, l)), history(e, c.installs));
+    let d = more(more(b, live(c.own, seats, l)), history(h, c.installs));
     of_words(d, base)
 }

@@ -1,22 +1,30 @@
 // One call again and again, each time on the same state.
 use kinds::Answer;
+use kinds::Core;
 use kinds::Merger;
-use kinds::Site;
 use kinds::sizes::COPY;
 use kinds::sizes::COPY_HEADER;
+use kinds::sizes::LIVE_WORDS;
 use kinds::sizes::OUTGOING;
 use kinds::sizes::PART;
+use kinds::sizes::PLACE;
 use kinds::sizes::QUEUES;
 use kinds::sizes::SITE_QUEUE;
 use kinds::word::LAST_COORDINATOR;
 use kinds::word::LAST_NUMBER;
 use parts::front;
+use parts::part;
+use parts::part_mut;
+use rounds::play::BASES;
+use rounds::play::GATHERINGS;
+use rounds::play::HISTORIES;
+use rounds::play::LIVES;
 use rounds::play::Store;
-use rounds::play::site_in;
+use rounds::play::core_in;
+use rounds::play::make_at;
 use rounds::step::Save;
-use rounds::step::half;
-use rounds::step::make;
 use rounds::step::site_of;
+use slices::copy_words;
 use std::num::wrapping_add_u64;
 
 // What calls did: how many were refused, and how many words they wrote in all.
@@ -50,6 +58,29 @@ fn put_back(ahead: &[u64; AHEAD], queues: &mut [u64; QUEUES], copy: &mut [u64; C
     copy[LAST_COORDINATOR] = ahead[PART + PART + 1];
 }
 
+// Where the words of a site, less 1, begin.
+fn words_of(site: usize) -> usize {
+    if site == 0 {
+        return 0;
+    }
+    LIVE_WORDS
+}
+
+// A save's part has the first place at each site, and a call of the site changes its words.
+fn keep_place(kept: &mut [u64; PLACE], live: &[u64], site: usize) {
+    let place = part(live, words_of(site), PLACE);
+    if place.len() == PLACE {
+        copy_words(kept, place);
+    }
+}
+
+fn put_place(kept: &[u64; PLACE], live: &mut [u64], site: usize) {
+    let place = part_mut(live, words_of(site), PLACE);
+    if place.len() == PLACE {
+        copy_words(place, kept);
+    }
+}
+
 // The sum with one call more.
 fn tallied(sum: Tally, a: Answer, words: usize) -> Tally {
     if let Answer::Refused(_) = a {
@@ -67,47 +98,86 @@ fn tallied(sum: Tally, a: Answer, words: usize) -> Tally {
 // Adds one call to the sum, and drops the state after it.
 fn once(
     sum: Tally,
+    site: usize,
     step: u64,
     v: Save,
-    s: Site,
+    p: Core,
     g: Merger,
-    base: &mut [u64],
-    lists: &mut [u64],
+    live: &mut [u64; LIVES],
+    history: &mut [u64; HISTORIES],
+    base: &mut [u64; BASES],
+    lists: &mut [u64; GATHERINGS],
     queues: &mut [u64; QUEUES],
     copy: &mut [u64; COPY],
     m: &[u64],
     out: &mut [u64; OUTGOING],
 ) -> Tally {
-    let d = make(step, v, s, g, base, lists, queues, copy, m, out);
+    let d = make_at(
+        site,
+        step,
+        v,
+        p,
+        g,
+        live,
+        history,
+        base,
+        lists,
+        queues,
+        copy,
+        m,
+        out,
+    );
     let a = d.answer;
     tallied(sum, a, d.words)
 }
 
-// The timed loop. Every turn of every step puts back what an emit and a replay change, so that it cancels out between steps.
+// The timed loop. Every turn of every step puts back what an emit, a replay and a call of the site change, so that it cancels out
+// between steps.
 fn again(
     count: u64,
+    site: usize,
     step: u64,
     v: Save,
-    s: Site,
+    p: Core,
     g: Merger,
-    base: &mut [u64],
-    lists: &mut [u64],
+    live: &mut [u64; LIVES],
+    history: &mut [u64; HISTORIES],
+    base: &mut [u64; BASES],
+    lists: &mut [u64; GATHERINGS],
     queues: &mut [u64; QUEUES],
     copy: &mut [u64; COPY],
     m: &[u64],
     out: &mut [u64; OUTGOING],
 ) -> Tally {
     let mut ahead = [0u64; AHEAD];
+    let mut kept = [0u64; PLACE];
     keep_ahead(&mut ahead, queues, copy);
+    keep_place(&mut kept, live, site);
     let mut sum = Tally {
         refused: 0,
         words: 0,
     };
     let mut i: u64 = 0;
     while i < count {
-        put_back(&ahead, queues, copy);
-        sum = once(sum, step, v, s, g, base, lists, queues, copy, m, out);
         i += 1;
+        put_back(&ahead, queues, copy);
+        put_place(&kept, live, site);
+        sum = once(
+            sum,
+            site,
+            step,
+            v,
+            p,
+            g,
+            live,
+            history,
+            base,
+            lists,
+            queues,
+            copy,
+            m,
+            out,
+        );
     }
     sum
 }
@@ -117,26 +187,31 @@ pub fn time_step(
     st: Store,
     count: u64,
     step: u64,
-    base: &mut [u64],
-    lists: &mut [u64],
+    live: &mut [u64; LIVES],
+    history: &mut [u64; HISTORIES],
+    base: &mut [u64; BASES],
+    lists: &mut [u64; GATHERINGS],
     queues: &mut [u64; QUEUES],
     copy: &mut [u64; COPY],
     held: &[u64; OUTGOING],
     out: &mut [u64; OUTGOING],
 ) -> Tally {
-    let i = site_of(step);
-    let s = site_in(st, i);
+    let site = site_of(step);
+    let p = core_in(st, site);
     let g = st.merger;
     let v = st.save;
     let words = st.words;
     again(
         count,
+        site,
         step,
         v,
-        s,
+        p,
         g,
-        half(base, i),
-        half(lists, i),
+        live,
+        history,
+        base,
+        lists,
         queues,
         copy,
         front(held, words),

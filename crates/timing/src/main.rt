@@ -13,6 +13,8 @@ use libc::STDOUT_FILENO;
 use lines::Scan;
 use rounds::play::BASES;
 use rounds::play::GATHERINGS;
+use rounds::play::HISTORIES;
+use rounds::play::LIVES;
 use rounds::play::played;
 use rounds::step::COMMIT;
 use rounds::step::LAST_STEP;
@@ -79,6 +81,8 @@ fn before(step: u64) -> u64
 
 // Makes a step's call count times, after so many steps of saves.
 fn time(step: u64, count: u64, steps: u64) -> Tally {
+    let mut live = [0u64; LIVES];
+    let mut history = [0u64; HISTORIES];
     let mut base = [0u64; BASES];
     let mut lists = [0u64; GATHERINGS];
     let mut queues = [0u64; QUEUES];
@@ -87,6 +91,8 @@ fn time(step: u64, count: u64, steps: u64) -> Tally {
     let mut out = [0u64; OUTGOING];
     let st = played(
         steps,
+        &mut live,
+        &mut history,
         &mut base,
         &mut lists,
         &mut queues,
@@ -98,6 +104,8 @@ fn time(step: u64, count: u64, steps: u64) -> Tally {
         st,
         count,
         step,
+        &mut live,
+        &mut history,
         &mut base,
         &mut lists,
         &mut queues,

@@ -10,10 +10,12 @@ use hand::HAND;
 use hand::shaped;
 use hand::shown;
 use hand::store::STORE;
+use kinds::Core;
 use kinds::Merger;
-use kinds::Site;
+use kinds::sizes::HISTORY_WORDS;
 use kinds::sizes::KEYS;
 use kinds::sizes::LISTS;
+use kinds::sizes::LIVE_WORDS;
 use kinds::sizes::QUEUES;
 use kinds::sizes::SITES;
 use outcomes::ROOM;
@@ -34,11 +36,20 @@ use parts::part_mut;
 use script::LINE;
 use script::TEXT;
 ghost use Prim.Native.Nat.{_<_};
+ghost use Rattle.kinds.specs.Sizes as sizes;
 
 // Words of a site's place, each one more than it uses, so that too many can be lent.
-pub const BASE_PLACE: usize = KEYS + 1;
+const LIVE_PLACE: usize = LIVE_WORDS + 1;
 
-pub const LISTS_PLACE: usize = LISTS + 1;
+const HISTORY_PLACE: usize = HISTORY_WORDS + 1;
+
+const BASE_PLACE: usize = KEYS + 1;
+
+const LISTS_PLACE: usize = LISTS + 1;
+
+pub const LIVES: usize = SITES * LIVE_PLACE;
+
+pub const HISTORIES: usize = SITES * HISTORY_PLACE;
 
 pub const BASES: usize = SITES * BASE_PLACE;
 
@@ -206,22 +217,26 @@ pub fn next_of_site(
 // Calls the site in a place.
 fn in_place(
     w: Work,
-    s: Site,
+    p: Core,
     place: usize,
     hand: &[u64],
+    live: &mut [u64],
+    history: &mut [u64],
     base: &mut [u64],
     lists: &mut [u64],
     out: &mut [u64],
 ) -> SiteDone
-    requires { ⌜ place < 8 ⌝ }
+    requires { ⌜ place < sizes.sites ⌝ }
 {
     let l = w.line;
     let lent = w.lent;
     effects::at_site(
-        s,
+        p,
         l,
         lent,
         front(hand, w.held),
+        part_mut(live, place * LIVE_PLACE, LIVE_PLACE),
+        part_mut(history, place * HISTORY_PLACE, HISTORY_PLACE),
         part_mut(base, place * BASE_PLACE, BASE_PLACE),
         part_mut(lists, place * LISTS_PLACE, LISTS_PLACE),
         front_mut(out, lent.room),
@@ -230,16 +245,18 @@ fn in_place(
 
 pub fn at_site(
     w: Work,
-    s: Site,
+    p: Core,
     place: usize,
     hand: &[u64; HAND],
+    live: &mut [u64; LIVES],
+    history: &mut [u64; HISTORIES],
     base: &mut [u64; BASES],
     lists: &mut [u64; GATHERINGS],
     out: &mut [u64; ROOM],
 ) -> SiteDone
-    requires { ⌜ place < 8 ⌝ }
+    requires { ⌜ place < sizes.sites ⌝ }
 {
-    in_place(w, s, place, hand, base, lists, out)
+    in_place(w, p, place, hand, live, history, base, lists, out)
 }
 
 // Ends a site's line.

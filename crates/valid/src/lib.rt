@@ -1,21 +1,22 @@
 // Whether a handed state is possible: its counts, keys and masks are within the sizes of a house, and what goes out in messages is
 // of the house.
 use history::remembered;
-use keys::keys_ok;
+use keys::keys_ok_in;
+use kinds::Core;
 use kinds::Counters;
-use kinds::Course;
-use kinds::Entry;
 use kinds::House;
-use kinds::Site;
-use kinds::Sub;
+use kinds::Seat;
 use kinds::sizes::CONC_ENTRIES;
 use kinds::sizes::GATHERED;
 use kinds::sizes::HISTORY;
 use kinds::sizes::LAST_SERIAL;
 use kinds::sizes::LISTS;
 use kinds::sizes::LIVE;
+use kinds::sizes::PLACE;
+use kinds::sizes::SLOT;
 use kinds::stage::FREE;
 use kinds::stage::REJECTED;
+use kinds::word;
 use messages::entries_possible;
 use numbers::house_ok;
 use numbers::in_mask;
@@ -23,29 +24,32 @@ use numbers::is_mask;
 use numbers::is_site;
 use numbers::is_tx;
 use numbers::participants;
+use tables::lent_house;
 ghost use mathlib.Core.Bool.{true};
 ghost use mathlib.Core.Path.{_≡_};
-ghost use Prim.Native.Nat.{ℕ, _*_, _≤_, _<_};
+ghost use Prim.Native.Nat.{_+_, _≤_};
 ghost use lib.Dec.{eqb};
-ghost use lib.ListN.{length, getD};
+ghost use lib.ListN.{length};
 ghost use Rattle.laws.specs.Choice.{pick};
 ghost use Rattle.laws.specs.Scan.{allBelow};
 ghost use Rattle.kinds.specs.Sizes as sizes;
-ghost use Rattle.kinds.specs.Stage as stage;
-ghost use Rattle.kinds.specs.State.{pastSub};
+ghost use Rattle.kinds.specs.Stage as stages;
 ghost use Rattle.rules.specs.Message.{entryPossible};
-ghost use Rattle.rules.specs.Valid.{courseOk, heldOk, subOk, entryOk, countersOk, liveOk, historyOk, siteOk, listsOk, handedOk};
+ghost use Rattle.rules.specs.Valid.{courseOk, subOk, entryOk, countersOk, liveOk, historyOk, siteOk, listsOk, handedOk};
 ghost use Rattle.rules.specs.ValidLaws.{ValidHouse};
+ghost use Rattle.lent.specs.Layout.{subFrom, entryFrom, liveOf, historyOf};
+ghost use Rattle.lent.specs.Lent.{siteOf};
+ghost use Rattle.valid.specs.Lists.{Gathered};
 
 // Replies come from other sites, and each list gathered has at most `CONC_ENTRIES` entries, the own one included.
-fn course_ok(o: House, own: u64, c: Course) -> bool
-    requires { ⌜ ValidHouse o own ⌝ }
-    ensures { λ r. ⌜ r ≡ courseOk o own c ⌝ }
+fn course_ok(o: House, own: u64, seat: Seat, w: &[u64], at: usize) -> bool
+    requires { ⌜ ValidHouse o own × (at + sizes.place ≤ length (now w)) ⌝ }
+    ensures { λ r. ⌜ r ≡ courseOk o own (subFrom seat (now (w .entry)) at .course) ⌝ }
 {
-    let stage = c.stage;
-    let mask = c.mask;
-    let heard = c.heard;
-    let listed = c.listed;
+    let stage = seat.stage;
+    let mask = w[at + word::PLACE_MASK];
+    let heard = w[at + word::PLACE_HEARD];
+    let listed = w[at + word::PLACE_LISTED] as usize;
     if REJECTED < stage {
         return false;
     }
@@ -62,50 +66,41 @@ fn course_ok(o: House, own: u64, c: Course) -> bool
     listed <= CONC_ENTRIES * lists
 }
 
-// What a held part puts into messages.
-fn held_ok(o: House, b: Sub) -> bool
-    ensures { λ r. ⌜ r ≡ heldOk o b ⌝ }
+// The part of a seat, with its other words from word `at` on: a held one goes out in messages.
+fn part_ok(o: House, own: u64, seat: Seat, w: &[u64], at: usize) -> bool
+    requires { ⌜ ValidHouse o own × (at + sizes.place ≤ length (now w)) ⌝ }
+    ensures { λ r. ⌜ r ≡ subOk o own (subFrom seat (now (w .entry)) at) ⌝ }
 {
-    let tx = b.tx;
-    is_tx(o, tx)
-}
-
-fn sub_ok(o: House, own: u64, b: Sub) -> bool
-    requires { ⌜ ValidHouse o own ⌝ }
-    ensures { λ r. ⌜ r ≡ subOk o own b ⌝ }
-{
-    let course = b.course;
-    let keys = b.keys;
-    if !course_ok(o, own, course) {
+    let stage = seat.stage;
+    let tx = seat.tx;
+    if !course_ok(o, own, seat, w, at) {
         return false;
     }
-    if !keys_ok(o, own, keys) {
+    if !keys_ok_in(o, own, w, at + word::PLACE_KEYS) {
         return false;
     }
-    let stage = course.stage;
     if stage == FREE {
         return true;
     }
-    held_ok(o, b)
+    is_tx(o, tx)
 }
 
-// An install in a slot of the history: one that is remembered goes out in messages too.
-fn entry_ok(o: House, own: u64, used: bool, e: Entry) -> bool
-    requires { ⌜ ValidHouse o own ⌝ }
-    ensures { λ r. ⌜ r ≡ entryOk o own used e ⌝ }
+// An install in a slot of the history, from word `at` on: one that is remembered goes out in messages too.
+fn entry_ok(o: House, own: u64, used: bool, h: &[u64], at: usize) -> bool
+    requires { ⌜ ValidHouse o own × (at + sizes.slot ≤ length (now h)) ⌝ }
+    ensures { λ r. ⌜ r ≡ entryOk o own used (entryFrom (now (h .entry)) at) ⌝ }
 {
-    let mask = e.mask;
-    let keys = e.keys;
+    let mask = h[at + word::SLOT_MASK];
     if !is_mask(o, mask) {
         return false;
     }
-    if !keys_ok(o, own, keys) {
+    if !keys_ok_in(o, own, h, at + word::SLOT_KEYS) {
         return false;
     }
     if !used {
         return true;
     }
-    let tx = e.tx;
+    let tx = h[at + word::SLOT_TX];
     is_tx(o, tx)
 }
 
@@ -120,14 +115,14 @@ fn counters_ok(o: House, c: Counters) -> bool
     serial <= LAST_SERIAL
 }
 
-fn live_ok(o: House, own: u64, live: [Sub; LIVE]) -> bool
-    requires { ⌜ ValidHouse o own ⌝ }
-    ensures { λ r. ⌜ r ≡ liveOk o own live ⌝ }
+fn live_ok(o: House, own: u64, seats: [Seat; LIVE], w: &[u64]) -> bool
+    requires { ⌜ ValidHouse o own × (length (now w) ≡ sizes.liveWords) ⌝ }
+    ensures { λ r. ⌜ r ≡ liveOk o own (liveOf seats (now (w .entry))) ⌝ }
 {
     let mut i: usize = 0;
     while i < LIVE {
-        let b = live[i];
-        if !sub_ok(o, own, b) {
+        let seat = seats[i];
+        if !part_ok(o, own, seat, w, PLACE * i) {
             return false;
         }
         i += 1;
@@ -135,15 +130,14 @@ fn live_ok(o: House, own: u64, live: [Sub; LIVE]) -> bool
     true
 }
 
-fn history_ok(o: House, own: u64, installs: u64, history: [Entry; HISTORY]) -> bool
-    requires { ⌜ ValidHouse o own ⌝ }
-    ensures { λ r. ⌜ r ≡ historyOk o own installs history ⌝ }
+fn history_ok(o: House, own: u64, installs: u64, h: &[u64]) -> bool
+    requires { ⌜ ValidHouse o own × (length (now h) ≡ sizes.historyWords) ⌝ }
+    ensures { λ r. ⌜ r ≡ historyOk o own installs (historyOf (now (h .entry))) ⌝ }
 {
     let n = remembered(installs);
     let mut i: usize = 0;
     while i < HISTORY {
-        let e = history[i];
-        if !entry_ok(o, own, i < n, e) {
+        if !entry_ok(o, own, i < n, h, SLOT * i) {
             return false;
         }
         i += 1;
@@ -151,50 +145,48 @@ fn history_ok(o: House, own: u64, installs: u64, history: [Entry; HISTORY]) -> b
     true
 }
 
-pub fn site_ok(s: Site) -> bool
-    ensures { λ r. ⌜ r ≡ siteOk s ⌝ }
+pub fn site_ok(p: Core, live: &[u64], history: &[u64]) -> bool
+    ensures { λ r. ⌜ r ≡ siteOk (siteOf p (now (live .entry)) (now (history .entry))) ⌝ }
 {
-    let house = s.house;
-    let counters = s.counters;
+    let house = lent_house(p.house, live.len(), history.len());
+    let counters = p.counters;
     let own = counters.own;
     let installs = counters.installs;
-    let live = s.live;
-    let history = s.history;
+    let seats = p.seats;
     if !house_ok(house) {
         return false;
     }
     if !counters_ok(house, counters) {
         return false;
     }
-    if !live_ok(house, own, live) {
+    if !live_ok(house, own, seats, live) {
         return false;
     }
     history_ok(house, own, installs, history)
 }
 
-// A held part's gathered entries, at the front of `es`.
-fn list_ok(o: House, c: Course, es: &[u64]) -> bool
-    requires { ⌜ (o .sites ≤ sizes.sites) × ((c .listed ≤ sizes.certEntries) × (sizes.gathered ≤ length (now es))) ⌝ }
-    ensures { λ r. ⌜ r ≡ pick (eqb (c .stage) stage.free) true (allBelow (entryPossible o (now (es .entry))) (c .listed)) ⌝ }
+// The gathered entries of a part at this stage, at the front of `es`.
+fn list_ok(o: House, stage: u64, listed: usize, es: &[u64]) -> bool
+    requires { ⌜ o .sites ≤ sizes.sites ⌝ }
+    requires { ⌜ (listed ≤ sizes.certEntries) × (sizes.gathered ≤ length (now es)) ⌝ }
+    ensures { λ r. ⌜ r ≡ pick (eqb stage stages.free) true (allBelow (entryPossible o (now (es .entry))) listed) ⌝ }
 {
-    let stage = c.stage;
-    let listed = c.listed;
     if stage == FREE {
         return true;
     }
     entries_possible(o, es, listed)
 }
 
-fn lists_ok(o: House, live: [Sub; LIVE], lists: &[u64]) -> bool
-    requires { ⌜ (o .sites ≤ sizes.sites) × (length (now lists) ≡ sizes.lists) ⌝ }
-    requires { ⌜ ((i : ℕ) → i < sizes.live → getD live i pastSub .course .listed ≤ sizes.certEntries) ⌝ }
-    ensures { λ r. ⌜ r ≡ listsOk o live (now (lists .entry)) ⌝ }
+fn lists_ok(o: House, seats: [Seat; LIVE], w: &[u64], lists: &[u64]) -> bool
+    requires { ⌜ Gathered o (now w) (now lists) ⌝ }
+    ensures { λ r. ⌜ r ≡ listsOk o (liveOf seats (now (w .entry))) (now (lists .entry)) ⌝ }
 {
     let mut i: usize = 0;
     while i < LIVE {
-        let b = live[i];
+        let seat = seats[i];
+        let listed = w[PLACE * i + word::PLACE_LISTED] as usize;
         let at = GATHERED * i;
-        if !list_ok(o, b.course, &lists[at..]) {
+        if !list_ok(o, seat.stage, listed, &lists[at..]) {
             return false;
         }
         i += 1;
@@ -203,16 +195,16 @@ fn lists_ok(o: House, live: [Sub; LIVE], lists: &[u64]) -> bool
 }
 
 // A site with its gathered lists, as commit and message are handed them.
-pub fn handed_ok(s: Site, lists: &[u64]) -> bool
-    ensures { λ r. ⌜ r ≡ handedOk s (now (lists .entry)) ⌝ }
+pub fn handed_ok(p: Core, live: &[u64], history: &[u64], lists: &[u64]) -> bool
+    ensures { λ r. ⌜ r ≡ handedOk (siteOf p (now (live .entry)) (now (history .entry))) (now (lists .entry)) ⌝ }
 {
     if lists.len() != LISTS {
         return false;
     }
-    if !site_ok(s) {
+    if !site_ok(p, live, history) {
         return false;
     }
-    let house = s.house;
-    let live = s.live;
-    lists_ok(house, live, lists)
+    let house = p.house;
+    let seats = p.seats;
+    lists_ok(house, seats, live, lists)
 }

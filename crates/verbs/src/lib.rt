@@ -52,6 +52,8 @@ fn one(v: u64) -> u64 {
     match v {
         verb::HOUSE => HOUSE,
         verb::ROOM => LENT,
+        verb::PLACES => LENT,
+        verb::SLOTS => LENT,
         verb::BASE => LENT,
         verb::LISTS => LENT,
         verb::QUEUES => LENT,

@@ -4,6 +4,10 @@ pub const HOUSE: u64 = 448546567013;
 
 pub const ROOM: u64 = 1919905645;
 
+pub const PLACES: u64 = 123610792682867;
+
+pub const SLOTS: u64 = 495740482675;
+
 pub const BASE: u64 = 1650553701;
 
 pub const LISTS: u64 = 465625642099;

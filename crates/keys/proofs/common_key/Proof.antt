@@ -20,7 +20,8 @@ abbrev μ-loop : tie.MeasureT-loop
 μ-loop a n b m found₀ i j₀ found j = m - j
 
 abbrev Inv-search : tie.InvT-search
-Inv-search a n b m found₀ i₀ found i = (i ≤ n) × ((found ≡ false) × NoneBelow (λ k. anyBelow (λ l. eqb (getD a k 0) (getD b l 0)) m) i)
+Inv-search a n b m found₀ i₀ found i =
+    (i ≤ n) × ((found ≡ false) × NoneBelow (λ k. anyBelow (λ l. eqb (getD a k 0) (getD b l 0)) m) i)
 
 abbrev μ-search : tie.MeasureT-search
 μ-search a n b m found₀ i₀ found i = n - i
@@ -50,7 +51,10 @@ loop-less : tie.Need-loop-less Inv-loop μ-loop Inv-search μ-search
 loop-less c = search needs
 
 loop-again : tie.Need-loop-again Inv-loop μ-loop Inv-search μ-search
-loop-again c = (omega arith, (c .before .before .before .before .loop .inv .1 .0, below-more _ _ (c .before .before .before .before .loop .inv .1 .1) (ne-eqb _ _ (c .if1 .left))))
+loop-again c =
+    let inner = c .before .before .before in
+    let l = inner .before .loop in
+    (omega arith, (l .inv .1 .0, below-more _ _ (l .inv .1 .1) (ne-eqb _ _ (c .if1 .left))))
 
 add-i : tie.Need-add-i Inv-loop μ-loop Inv-search μ-search
 add-i c = search needs
@@ -59,15 +63,22 @@ search-less : tie.Need-search-less Inv-loop μ-loop Inv-search μ-search
 search-less c = search needs
 
 search-again : tie.Need-search-again Inv-loop μ-loop Inv-search μ-search
-search-again c = (omega arith, (c .before .loop .inv .1 .0, below-more _ _ (c .before .before .before .search .inv .1 .1) (sym (any-end _ _ _ (c .loop-test .left) (c .before .loop .inv .1 .1)))))
+search-again c =
+    let l = c .before .loop in
+    let passed = c .before .before .before .search in
+    (omega arith, (l .inv .1 .0, below-more _ _ (passed .inv .1 .1) (sym (any-end _ _ _ (c .loop-test .left) (l .inv .1 .1)))))
 
 returns : tie.Need-returns Inv-loop μ-loop Inv-search μ-search
 unfolding commonKey
-returns c = c .before .search .inv .1 .0 ∙ any-end _ _ _ (c .search-test .left) (c .before .search .inv .1 .1)
+returns c = let passed = c .before .search in passed .inv .1 .0 ∙ any-end _ _ _ (c .search-test .left) (passed .inv .1 .1)
 
 returns-2 : tie.Need-returns-2 Inv-loop μ-loop Inv-search μ-search
 unfolding commonKey
-returns-2 c = any-below _ _ (c .before .before .before .before .before .before .search .i) (c .before .before .before .before .before .search-test .taken) (sym (any-below _ _ (c .before .before .before .before .loop .j) (c .before .before .before .loop-test .taken) (eq-eqb _ _ (c .if1 .taken))))
+returns-2 c =
+    let inner = c .before .before .before in
+    let outer = inner .before .before in
+    any-below _ _ (outer .before .search .i) (outer .search-test .taken)
+    (sym (any-below _ _ (inner .before .loop .j) (inner .loop-test .taken) (eq-eqb _ _ (c .if1 .taken))))
 
 pub common-key-spec : {M : Type 1} → statement M
 common-key-spec =

@@ -6,6 +6,13 @@ use Rattle.rules.specs.Keys.{dependent}
 use Rattle.keys.proofs.dependent.Statement.{statement}
 use Rattle.keys.proofs.dependent.Tie as tie
 
+-- the searches before, which found nothing
+abbrev first : tie.After-common-key2 → tie.Else1
+first c = let lent = c .before .before .before in let own = lent .before .before .before in own .before
+
+abbrev second : tie.After-common-key3 → tie.Else2
+second c = let lent = c .before .before .before in let own = lent .before .before .before in own .before
+
 common-key-requires : tie.Need-common-key-requires
 common-key-requires c κs = search needs
 
@@ -18,14 +25,24 @@ common-key-requires-2 c κs = search needs
 
 returns-2 : tie.Need-returns-2
 unfolding dependent
-returns-2 c = simp (sym (c .before .before .before .before .before .before .before .before .before .common-key .ensures) ∙ c .before .before .before .before .before .before .before .before .if1 .left, sym (c .before .common-key2 .ensures) ∙ c .if2 .taken)
+returns-2 c =
+    let one = first (c .before) in
+    simp (sym (one .before .common-key .ensures) ∙ one .if1 .left, sym (c .before .common-key2 .ensures) ∙ c .if2 .taken)
 
 common-key-requires-3 : tie.Need-common-key-requires-3
 common-key-requires-3 c κs = search needs
 
 returns-3 : tie.Need-returns-3
 unfolding dependent
-returns-3 c = simp (sym (c .before .before .before .before .before .before .before .before .before .before .before .before .before .before .before .before .common-key .ensures) ∙ c .before .before .before .before .before .before .before .before .before .before .before .before .before .before .before .if1 .left, sym (c .before .before .before .before .before .before .before .before .common-key2 .ensures) ∙ c .before .before .before .before .before .before .before .if2 .left, c .common-key3 .ensures, pick-self)
+returns-3 c =
+    let two = second c in
+    let one = first (two .before) in
+    simp (
+      sym (one .before .common-key .ensures) ∙ one .if1 .left,
+      sym (two .before .common-key2 .ensures) ∙ two .if2 .left,
+      c .common-key3 .ensures,
+      pick-self,
+    )
 
 pub dependent-spec : {M : Type 1} → statement M
 dependent-spec =

@@ -28,7 +28,7 @@ shared-slice-read-if1 c = search needs
 
 returns : tie.Need-returns Inv-loop μ-loop
 unfolding keyPlace
-returns c = first-below _ _ _ (omega arith) (c .before .before .before .loop .inv .1) (eq-eqb _ _ (c .if1 .taken))
+returns c = let l = c .before .before .before .loop in first-below _ _ _ (omega arith) (l .inv .1) (eq-eqb _ _ (c .if1 .taken))
 
 add-i : tie.Need-add-i Inv-loop μ-loop
 add-i c = search needs
@@ -37,7 +37,7 @@ loop-less : tie.Need-loop-less Inv-loop μ-loop
 loop-less c = search needs
 
 loop-again : tie.Need-loop-again Inv-loop μ-loop
-loop-again c = (search needs, below-more _ _ (c .before .before .before .loop .inv .1) (ne-eqb _ _ (c .if1 .left)))
+loop-again c = let l = c .before .before .before .loop in (search needs, below-more _ _ (l .inv .1) (ne-eqb _ _ (c .if1 .left)))
 
 returns-2 : tie.Need-returns-2 Inv-loop μ-loop
 unfolding keyPlace

@@ -3,11 +3,12 @@ use Prim.Native.Nat.{_<_}
 use mathlib.Core.Path.{sym, _∙_}
 use native.Mathlib.Omega.{arith}
 use borrow.Author.Needs.{needs}
+use Rattle.kinds.specs.Sizes as sizes
 use Rattle.rules.specs.Keys.{withRead}
 use Rattle.keys.proofs.with_read.Statement.{statement}
 use Rattle.keys.proofs.with_read.Tie as tie
 
-room : (c : tie.Else1) → c .before .before .args .b .read < 16
+room : (c : tie.Else1) → c .before .before .args .b .read < sizes.reads
 room c = c .before .before .pre .1 (sym (c .before .read-key .ensures) ∙ c .if1 .left)
 
 read-key-requires : tie.Need-read-key-requires

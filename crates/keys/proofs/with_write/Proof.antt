@@ -5,6 +5,7 @@ use mathlib.Core.Bool.{true, false}
 use native.Mathlib.Omega.{arith}
 use borrow.Author.Needs.{needs}
 use borrow.Author.Tests.{lt-ltb, le-ltb}
+use Rattle.kinds.specs.Sizes as sizes
 use Rattle.rules.specs.Keys.{keyPlace, wroteKey, withWrite}
 use Rattle.kinds.specs.declared.Keys.{Keys}
 use Rattle.keys.proofs.with_write.Statement.{statement}
@@ -18,8 +19,11 @@ old : (b : Keys) (k r : ℕ) → r ≡ keyPlace (b .writes) (b .wrote) k → r <
 unfolding wroteKey
 old b k r e l = lt-ltb (keyPlace (b .writes) (b .wrote) k) (b .wrote) (omega arith)
 
-room : (c : tie.Else1) → c .before .before .before .before .before .args .t1 .wrote < 16
-room c = c .before .before .before .before .before .pre .1 (new _ _ _ (c .before .key-place .ensures) (c .if1 .left))
+abbrev start : tie.After-key-place-arg2 → tie.Start
+start c = c .before .before .before
+
+room : (c : tie.Else1) → start (c .before .before) .args .t1 .wrote < sizes.writes
+room c = start (c .before .before) .pre .1 (new _ _ _ (c .before .key-place .ensures) (c .if1 .left))
 
 key-place-requires : tie.Need-key-place-requires
 key-place-requires c κs = search needs
@@ -32,7 +36,10 @@ element-write-c c = search needs
 
 returns : tie.Need-returns
 unfolding withWrite
-returns c = simp (old (c .before .before .before .before .before .args .t1) (c .before .before .before .before .before .args .k) _ (c .before .key-place .ensures) (c .if1 .taken), ← c .before .key-place .ensures)
+returns c =
+    let place = c .before .key-place in
+    let a = start (c .before .before) .args in
+    simp (old (a .t1) (a .k) _ (place .ensures) (c .if1 .taken), ← place .ensures)
 
 mul-c-2 : tie.Need-mul-c-2
 mul-c-2 c = let h = room c in omega arith
@@ -51,7 +58,9 @@ add-c c = let h = room c in omega arith
 
 returns-2 : tie.Need-returns-2
 unfolding withWrite
-returns-2 c = simp (new (c .before .before .before .before .before .args .t1) (c .before .before .before .before .before .args .k) _ (c .before .key-place .ensures) (c .if1 .left))
+returns-2 c =
+    let a = start (c .before .before) .args in
+    simp (new (a .t1) (a .k) _ (c .before .key-place .ensures) (c .if1 .left))
 
 pub with-write-spec : {M : Type 1} → statement M
 with-write-spec =

@@ -7,9 +7,12 @@ use Rattle.rules.specs.Keys.{wroteKey, wroteValue}
 use Rattle.keys.proofs.wrote_value.Statement.{statement}
 use Rattle.keys.proofs.wrote_value.Tie as tie
 
-low : (c : tie.After-key-place) → c .key-place .result < c .before .before .before .before .args .t1 .wrote
+abbrev start : tie.After-key-place-arg2 → tie.Start
+start c = c .before .before .before
+
+low : (c : tie.After-key-place) → c .key-place .result < start (c .before) .args .t1 .wrote
 unfolding wroteKey
-low c = rw (c .key-place .ensures) (ltb-true _ _ (c .before .before .before .before .pre .1))
+low c = rw (c .key-place .ensures) (ltb-true _ _ (start (c .before) .pre .1))
 
 key-place-requires : tie.Need-key-place-requires
 key-place-requires c κs = search needs

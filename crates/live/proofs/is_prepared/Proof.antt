@@ -1,11 +1,9 @@
 -- One test.
 use mathlib.Core.Path.{refl}
-use Rattle.rules.specs.Live.{isPrepared}
 use Rattle.live.proofs.is_prepared.Statement.{statement}
 use Rattle.live.proofs.is_prepared.Tie as tie
 
 returns : tie.Need-returns
-unfolding isPrepared
 returns c = refl
 
 pub is-prepared-spec : {M : Type 1} → statement M

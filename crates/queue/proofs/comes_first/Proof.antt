@@ -1,8 +1,12 @@
--- The tests in order.
+-- The tests in order: not queued, the first that is, and the order of the two.
 use borrow.Author.Needs.{needs}
 use borrow.Author.Tests.{le-leb, lt-leb, not-true, not-false}
+use mathlib.Core.Bool.{true}
+use mathlib.Core.Path.{_≡_, sym, _∙_}
 use Rattle.laws.specs.Choice.{pick-self}
-use Rattle.rules.specs.Queue.{comesFirst}
+use Rattle.rules.specs.Live.{isQueued}
+use Rattle.rules.specs.Queue.{queuedBefore, comesFirst}
+use Rattle.queue.specs.Asked.{asked}
 use Rattle.queue.proofs.comes_first.Statement.{statement}
 use Rattle.queue.proofs.comes_first.Tie as tie
 
@@ -10,20 +14,25 @@ is-queued-requires : tie.Need-is-queued-requires
 is-queued-requires c κs = search needs
 
 returns : tie.Need-returns
-unfolding comesFirst
-returns c = search (← c .before .is-queued .ensures, not-true (c .before .is-queued .result) (c .if1 .taken), le-leb, lt-leb, needs)
+unfolding comesFirst isQueued
+returns c = rw (← c .before .is-queued .ensures, not-true (c .before .is-queued .result) (c .if1 .taken))
+
+-- what is known past the first test
+queued : (c : tie.Else1) → (let a = c .before .before .args in isQueued (asked (a .stage) (a .number) (a .tx)) ≡ true)
+unfolding isQueued
+queued c = let q = c .before .is-queued in sym (q .ensures) ∙ not-false (q .result) (c .if1 .left)
 
 returns-2 : tie.Need-returns-2
 unfolding comesFirst
-returns-2 c = search (← c .before .before .is-queued .ensures, not-false (c .before .before .is-queued .result) (c .before .if1 .left), le-leb, lt-leb, needs)
+returns-2 c = search (queued (c .before), le-leb, needs)
 
-queued-before-requires : tie.Need-queued-before-requires
-queued-before-requires c κs = search needs
+precedes-requires : tie.Need-precedes-requires
+precedes-requires c κs = search needs
 
 returns-3 : tie.Need-returns-3
-unfolding comesFirst
-returns-3 c = search (← c .before .before .before .is-queued .ensures, not-false (c .before .before .before .is-queued .result) (c .before .before .if1 .left), ← c .queued-before .ensures, pick-self, le-leb, lt-leb, needs)
+unfolding comesFirst queuedBefore
+returns-3 c = search (queued (c .before .before), ← c .precedes .ensures, pick-self, lt-leb, needs)
 
 pub comes-first-spec : {M : Type 1} → statement M
 comes-first-spec =
-    tie.close (tie.spec is-queued-requires returns returns-2 queued-before-requires returns-3)
+    tie.close (tie.spec is-queued-requires returns returns-2 precedes-requires returns-3)

@@ -10,7 +10,7 @@ lesser-requires c κs = search needs
 
 returns : tie.Need-returns
 unfolding stateBound
-returns c = search (← c .lesser .ensures, eq-eqb, ne-eqb, needs)
+returns c tx = search (← c .lesser .ensures, eq-eqb, needs)
 
 before-requires : tie.Need-before-requires
 before-requires c κs = search needs
@@ -20,11 +20,11 @@ lesser-requires-2 c κs = search needs
 
 returns-2 : tie.Need-returns-2
 unfolding stateBound
-returns-2 c = search (← c .before .before2 .ensures, ← c .lesser2 .ensures, eq-eqb, ne-eqb, needs)
+returns-2 c tx = search (← c .before .before2 .ensures, ← c .lesser2 .ensures, eq-eqb, ne-eqb, needs)
 
 returns-3 : tie.Need-returns-3
 unfolding stateBound
-returns-3 c = search (eq-eqb, ne-eqb, needs)
+returns-3 c tx = search (ne-eqb, needs)
 
 pub state-bound-spec : {M : Type 1} → statement M
 state-bound-spec =

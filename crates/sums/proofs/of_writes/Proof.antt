@@ -1,4 +1,4 @@
--- Each turn takes one of the keys.
+-- Each turn takes one of the keys with its value.
 use Prim.Native.Nat.{_-_}
 use borrow.Author.Needs.{needs}
 use lib.ListN.{length}
@@ -14,23 +14,20 @@ abbrev μ-loop : tie.MeasureT-loop
 loop-holds : tie.Need-loop-holds Inv-loop μ-loop
 loop-holds c = search needs
 
-mul-wide : tie.Need-mul-wide Inv-loop μ-loop
-mul-wide c = search needs
-
-shared-slice-read-wide : tie.Need-shared-slice-read-wide Inv-loop μ-loop
-shared-slice-read-wide c = search needs
-
-wide-requires : tie.Need-wide-requires Inv-loop μ-loop
-wide-requires c κs = search needs
-
-more-requires : tie.Need-more-requires Inv-loop μ-loop
-more-requires c κs = search needs
-
 mul-more : tie.Need-mul-more Inv-loop μ-loop
 mul-more c = search needs
 
 shared-slice-read-more : tie.Need-shared-slice-read-more Inv-loop μ-loop
 shared-slice-read-more c = search needs
+
+more-requires : tie.Need-more-requires Inv-loop μ-loop
+more-requires c κs = search needs
+
+mul-more-2 : tie.Need-mul-more-2 Inv-loop μ-loop
+mul-more-2 c = search needs
+
+shared-slice-read-more-2 : tie.Need-shared-slice-read-more-2 Inv-loop μ-loop
+shared-slice-read-more-2 c = search needs
 
 more-requires-2 : tie.Need-more-requires-2 Inv-loop μ-loop
 more-requires-2 c κs = search needs
@@ -63,12 +60,11 @@ of-writes-spec =
     Inv-loop
     μ-loop
     loop-holds
-    mul-wide
-    shared-slice-read-wide
-    wide-requires
-    more-requires
     mul-more
     shared-slice-read-more
+    more-requires
+    mul-more-2
+    shared-slice-read-more-2
     more-requires-2
     together-requires
     add-i

@@ -1,24 +1,46 @@
 -- The entries passed are good, and one that is not ends the loop.
 use Prim.Native.Nat.{_-_, _≤_}
 use mathlib.Core.Path.{_≡_, sym, _∙_}
+use native.Mathlib.Omega.{arith}
 use borrow.Author.Count.{below-more}
 use borrow.Author.Needs.{needs}
 use borrow.Author.Tests.{not-true, not-false}
 use lib.Dec.{ltb}
 use lib.ListN.{getD}
 use Rattle.laws.specs.Scan.{EachBelow, each-none, not-all-below, all-end}
+use Rattle.kinds.specs.Sizes as sizes
 use Rattle.kinds.specs.State.{pastEntry}
 use Rattle.rules.specs.History.{remembered}
 use Rattle.rules.specs.Valid.{entryOk, historyOk}
+use Rattle.lent.specs.Layout.{historyOf}
+use Rattle.lent.specs.Laws.{history-at}
 use Rattle.valid.proofs.history_ok.Statement.{statement}
 use Rattle.valid.proofs.history_ok.Tie as tie
 
 abbrev Inv-loop : tie.InvT-loop
-Inv-loop o own installs history n i₀ i = (i ≤ 32) × EachBelow
-    (λ j. entryOk o own (ltb j (remembered installs)) (getD history j pastEntry)) i
+Inv-loop o own installs h n i₀ i =
+    (i ≤ sizes.history)
+    × EachBelow (λ j. entryOk o own (ltb j (remembered installs)) (getD (historyOf h) j pastEntry)) i
 
 abbrev μ-loop : tie.MeasureT-loop
-μ-loop o own installs history n i₀ i = 32 - i
+μ-loop o own installs h n i₀ i = sizes.history - i
+
+-- where the loop begins, and the function's start
+abbrev entered : tie.In-loop Inv-loop μ-loop → tie.After-remembered Inv-loop μ-loop
+entered c = c .before .before
+
+abbrev start : tie.After-remembered Inv-loop μ-loop → tie.Start Inv-loop μ-loop
+start c = c .before .before
+
+-- what the test of the loop's entry says
+told : (c : tie.After-entry-ok Inv-loop μ-loop) →
+    (let turn = c .before in let a = start (entered turn) .args in let i = turn .before .loop .i in
+    c .entry-ok .result ≡ entryOk (a .o) (a .own) (ltb i (remembered (a .installs))) (getD (historyOf (a .h .now)) i pastEntry))
+told c =
+    let turn = c .before in
+    let a = start (entered turn) .args in
+    rw (← entered turn .remembered .ensures, history-at (a .h .now) (turn .before .loop .i) (turn .loop-test .taken))
+    (c .entry-ok .ensures)
 
 remembered-requires : tie.Need-remembered-requires Inv-loop μ-loop
 remembered-requires c κs = search needs
@@ -26,25 +48,19 @@ remembered-requires c κs = search needs
 loop-holds : tie.Need-loop-holds Inv-loop μ-loop
 loop-holds c = (search needs, each-none _)
 
-mul-e : tie.Need-mul-e Inv-loop μ-loop
-mul-e c = search needs
-
-array-copy-out-e : tie.Need-array-copy-out-e Inv-loop μ-loop
-array-copy-out-e c = search needs
+mul-entry-ok : tie.Need-mul-entry-ok Inv-loop μ-loop
+mul-entry-ok c = search needs
 
 entry-ok-requires : tie.Need-entry-ok-requires Inv-loop μ-loop
-entry-ok-requires c κs = let body = c .before .before in body .before .before .pre
-
--- what the test of the loop's entry says
-told : (c : tie.After-entry-ok Inv-loop μ-loop) → (let body = c .before .before .before in let start = body .before .before in
-    c .entry-ok .result ≡ entryOk (start .args .o) (start .args .own) (ltb (body .loop .i) (remembered (start .args .installs)))
-    (getD (start .args .t4) (body .loop .i) pastEntry))
-told c = let body = c .before .before .before in rw (body .before .remembered .ensures) at (c .entry-ok .ensures)
+entry-ok-requires c κs =
+    let p = start (entered c) .pre in
+    (p .0, omega (arith, c .loop-test .taken, p .1))
 
 returns : tie.Need-returns Inv-loop μ-loop
 unfolding historyOk
-returns c = let body = c .before .before .before in
-    not-all-below _ _ (body .before .loop .i) (body .loop-test .taken) (sym (told (c .before)) ∙ not-true _ (c .if1 .taken))
+returns c =
+    let turn = c .before .before in
+    not-all-below _ _ (turn .before .loop .i) (turn .loop-test .taken) (sym (told (c .before)) ∙ not-true _ (c .if1 .taken))
 
 add-i : tie.Need-add-i Inv-loop μ-loop
 add-i c = search needs
@@ -53,8 +69,9 @@ loop-less : tie.Need-loop-less Inv-loop μ-loop
 loop-less c = search needs
 
 loop-again : tie.Need-loop-again Inv-loop μ-loop
-loop-again c = let body = c .before .before .before in
-    (search needs, below-more _ _ (body .before .loop .inv .1) (sym (told (c .before)) ∙ not-false _ (c .if1 .left)))
+loop-again c =
+    let turn = c .before .before in
+    (search needs, below-more _ _ (turn .before .loop .inv .1) (sym (told (c .before)) ∙ not-false _ (c .if1 .left)))
 
 returns-2 : tie.Need-returns-2 Inv-loop μ-loop
 unfolding historyOk
@@ -68,8 +85,7 @@ history-ok-spec =
     μ-loop
     remembered-requires
     loop-holds
-    mul-e
-    array-copy-out-e
+    mul-entry-ok
     entry-ok-requires
     returns
     add-i

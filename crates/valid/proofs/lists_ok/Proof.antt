@@ -11,23 +11,56 @@ use Rattle.laws.specs.Scan.{EachBelow, each-none, not-all-below, all-end}
 use Rattle.kinds.specs.Sizes as sizes
 use Rattle.kinds.specs.State.{pastSub}
 use Rattle.rules.specs.Valid.{listAt, gatheredOk, listsOk}
+use Rattle.lent.specs.Layout.{subFrom, liveOf}
+use Rattle.lent.specs.Laws.{live-at}
 use Rattle.valid.proofs.lists_ok.Statement.{statement}
 use Rattle.valid.proofs.lists_ok.Tie as tie
 
 abbrev Inv-loop : tie.InvT-loop
-Inv-loop o lists live i₀ i = (i ≤ 16) × EachBelow (λ j. gatheredOk o (getD live j pastSub) (listAt lists j)) i
+Inv-loop o w lists seats i₀ i =
+    (i ≤ sizes.live) × EachBelow (λ j. gatheredOk o (getD (liveOf seats w) j pastSub) (listAt lists j)) i
 
 abbrev μ-loop : tie.MeasureT-loop
-μ-loop o lists live i₀ i = 16 - i
+μ-loop o w lists seats i₀ i = sizes.live - i
+
+-- the turn of the loop that a list is lent in, where the loop begins, and the function's start
+abbrev turn : tie.After-list-ok-arg Inv-loop μ-loop → tie.In-loop Inv-loop μ-loop
+turn c = c .before .before .before
+
+abbrev start : tie.In-loop Inv-loop μ-loop → tie.Start Inv-loop μ-loop
+start c = let begun = c .before .before in begun .before .before
+
+-- what the test of the loop's list says
+told : (c : tie.After-list-ok Inv-loop μ-loop) →
+    (let t = turn (c .before) in let a = start t .args in let i = t .before .loop .i in
+    c .list-ok .result ≡ gatheredOk (a .o) (getD (liveOf (a .t2) (a .w .now)) i pastSub) (listAt (a .lists .now) i))
+unfolding gatheredOk subFrom
+told c =
+    let t = turn (c .before) in
+    let a = start t .args in
+    let i = t .before .loop .i in
+    rw (live-at (a .t2) (a .w .now) i (t .loop-test .taken)) (rw (rest-is (a .lists .now) (sizes.gathered * i)) at (c .list-ok .ensures))
 
 loop-holds : tie.Need-loop-holds Inv-loop μ-loop
 loop-holds c = (search needs, each-none _)
 
-mul-b : tie.Need-mul-b Inv-loop μ-loop
-mul-b c = search needs
+mul-seat : tie.Need-mul-seat Inv-loop μ-loop
+mul-seat c = search needs
 
-array-copy-out-b : tie.Need-array-copy-out-b Inv-loop μ-loop
-array-copy-out-b c = search needs
+array-copy-out-seat : tie.Need-array-copy-out-seat Inv-loop μ-loop
+array-copy-out-seat c = search needs
+
+mul-listed : tie.Need-mul-listed Inv-loop μ-loop
+mul-listed c = search needs
+
+add-listed : tie.Need-add-listed Inv-loop μ-loop
+add-listed c = search needs
+
+mul-listed-2 : tie.Need-mul-listed-2 Inv-loop μ-loop
+mul-listed-2 c = search needs
+
+shared-slice-read-listed : tie.Need-shared-slice-read-listed Inv-loop μ-loop
+shared-slice-read-listed c = search needs
 
 mul-at : tie.Need-mul-at Inv-loop μ-loop
 mul-at c = search needs
@@ -46,28 +79,17 @@ part-list-ok-end c = search needs
 
 list-ok-requires : tie.Need-list-ok-requires Inv-loop μ-loop
 list-ok-requires c κs =
-    let place = c .before .before .before in
-    let start = place .before .before in
-    let i = place .loop .i in
-    let h = c .before .before .loop-test .taken in
-    (start .pre .0 .0, (start .pre .1 i h, omega (arith, h, start .pre .0 .1, length-rest (start .args .lists .now) (sizes.gathered * i))))
-
--- what the test of the loop's list says
-told : (c : tie.After-list-ok Inv-loop μ-loop) → (let place = c .before .before .before in let start = place .before .before .before in
-    c .list-ok .result ≡ gatheredOk (start .args .o) (getD (start .args .t2) (place .before .loop .i) pastSub)
-    (listAt (start .args .lists .now) (place .before .loop .i)))
-unfolding gatheredOk
-told c =
-    let place = c .before .before .before in
-    let start = place .before .before .before in
-    rw (rest-is (start .args .lists .now) (sizes.gathered * place .before .loop .i)) at (c .list-ok .ensures)
+    let t = turn c in
+    let p = start t .pre in
+    let i = t .before .loop .i in
+    let h = t .loop-test .taken in
+    (p .few-sites, (p .few i h, omega (arith, h, p .whole, length-rest (start t .args .lists .now) (sizes.gathered * i))))
 
 returns : tie.Need-returns Inv-loop μ-loop
 unfolding listsOk
 returns c =
-    let place = c .before .before .before in
-    not-all-below _ _ (place .before .before .loop .i) (place .before .loop-test .taken)
-    (sym (told (c .before)) ∙ not-true _ (c .if1 .taken))
+    let t = turn (c .before .before) in
+    not-all-below _ _ (t .before .loop .i) (t .loop-test .taken) (sym (told (c .before)) ∙ not-true _ (c .if1 .taken))
 
 add-i : tie.Need-add-i Inv-loop μ-loop
 add-i c = search needs
@@ -77,8 +99,8 @@ loop-less c = search needs
 
 loop-again : tie.Need-loop-again Inv-loop μ-loop
 loop-again c =
-    let place = c .before .before .before in
-    (search needs, below-more _ _ (place .before .before .loop .inv .1) (sym (told (c .before)) ∙ not-false _ (c .if1 .left)))
+    let t = turn (c .before .before) in
+    (search needs, below-more _ _ (t .before .loop .inv .1) (sym (told (c .before)) ∙ not-false _ (c .if1 .left)))
 
 returns-2 : tie.Need-returns-2 Inv-loop μ-loop
 unfolding listsOk
@@ -91,8 +113,12 @@ lists-ok-spec =
     Inv-loop
     μ-loop
     loop-holds
-    mul-b
-    array-copy-out-b
+    mul-seat
+    array-copy-out-seat
+    mul-listed
+    add-listed
+    mul-listed-2
+    shared-slice-read-listed
     mul-at
     mul-list-ok
     sub-list-ok

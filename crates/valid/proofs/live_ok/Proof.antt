@@ -1,36 +1,61 @@
 -- The parts passed are good, and one that is not ends the loop.
 use Prim.Native.Nat.{_-_, _≤_}
-use mathlib.Core.Path.{sym, _∙_}
+use mathlib.Core.Path.{_≡_, sym, _∙_}
+use native.Mathlib.Omega.{arith}
 use borrow.Author.Count.{below-more}
 use borrow.Author.Needs.{needs}
 use borrow.Author.Tests.{not-true, not-false}
 use Rattle.laws.specs.Scan.{EachBelow, each-none, not-all-below, all-end}
+use Rattle.kinds.specs.Sizes as sizes
 use Rattle.rules.specs.Live.{partAt}
 use Rattle.rules.specs.Valid.{subOk, liveOk}
+use Rattle.lent.specs.Layout.{liveOf}
+use Rattle.lent.specs.Laws.{live-at}
 use Rattle.valid.proofs.live_ok.Statement.{statement}
 use Rattle.valid.proofs.live_ok.Tie as tie
 
 abbrev Inv-loop : tie.InvT-loop
-Inv-loop o own live i₀ i = (i ≤ 16) × EachBelow (λ j. subOk o own (partAt live j)) i
+Inv-loop o own w seats i₀ i = (i ≤ sizes.live) × EachBelow (λ j. subOk o own (partAt (liveOf seats w) j)) i
 
 abbrev μ-loop : tie.MeasureT-loop
-μ-loop o own live i₀ i = 16 - i
+μ-loop o own w seats i₀ i = sizes.live - i
+
+-- the function's start, from a turn of the loop
+abbrev start : tie.In-loop Inv-loop μ-loop → tie.Start Inv-loop μ-loop
+start c = c .before .before .before
+
+-- what the test of the loop's part says
+told : (c : tie.After-part-ok Inv-loop μ-loop) →
+    (let turn = c .before .before in let a = start turn .args in
+    c .part-ok .result ≡ subOk (a .o) (a .own) (partAt (liveOf (a .t3) (a .w .now)) (turn .before .loop .i)))
+told c =
+    let turn = c .before .before in
+    let a = start turn .args in
+    rw (live-at (a .t3) (a .w .now) (turn .before .loop .i) (turn .loop-test .taken)) (c .part-ok .ensures)
 
 loop-holds : tie.Need-loop-holds Inv-loop μ-loop
 loop-holds c = (search needs, each-none _)
 
-mul-b : tie.Need-mul-b Inv-loop μ-loop
-mul-b c = search needs
+mul-seat : tie.Need-mul-seat Inv-loop μ-loop
+mul-seat c = search needs
 
-array-copy-out-b : tie.Need-array-copy-out-b Inv-loop μ-loop
-array-copy-out-b c = search needs
+array-copy-out-seat : tie.Need-array-copy-out-seat Inv-loop μ-loop
+array-copy-out-seat c = search needs
 
-sub-ok-requires : tie.Need-sub-ok-requires Inv-loop μ-loop
-sub-ok-requires c κs = c .before .before .before .pre
+mul-part-ok : tie.Need-mul-part-ok Inv-loop μ-loop
+mul-part-ok c = search needs
+
+part-ok-requires : tie.Need-part-ok-requires Inv-loop μ-loop
+part-ok-requires c κs =
+    let turn = c .before in
+    let p = start turn .pre in
+    (p .0, omega (arith, turn .loop-test .taken, p .1))
 
 returns : tie.Need-returns Inv-loop μ-loop
 unfolding liveOk
-returns c = not-all-below _ _ (c .before .before .before .before .loop .i) (c .before .before .before .loop-test .taken) (sym (c .before .sub-ok .ensures) ∙ not-true _ (c .if1 .taken))
+returns c =
+    let turn = c .before .before .before in
+    not-all-below _ _ (turn .before .loop .i) (turn .loop-test .taken) (sym (told (c .before)) ∙ not-true _ (c .if1 .taken))
 
 add-i : tie.Need-add-i Inv-loop μ-loop
 add-i c = search needs
@@ -39,7 +64,9 @@ loop-less : tie.Need-loop-less Inv-loop μ-loop
 loop-less c = search needs
 
 loop-again : tie.Need-loop-again Inv-loop μ-loop
-loop-again c = (search needs, below-more _ _ (c .before .before .before .before .loop .inv .1) (sym (c .before .sub-ok .ensures) ∙ not-false _ (c .if1 .left)))
+loop-again c =
+    let turn = c .before .before .before in
+    (search needs, below-more _ _ (turn .before .loop .inv .1) (sym (told (c .before)) ∙ not-false _ (c .if1 .left)))
 
 returns-2 : tie.Need-returns-2 Inv-loop μ-loop
 unfolding liveOk
@@ -52,9 +79,10 @@ live-ok-spec =
     Inv-loop
     μ-loop
     loop-holds
-    mul-b
-    array-copy-out-b
-    sub-ok-requires
+    mul-seat
+    array-copy-out-seat
+    mul-part-ok
+    part-ok-requires
     returns
     add-i
     loop-less

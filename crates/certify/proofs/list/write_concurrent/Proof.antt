@@ -15,8 +15,14 @@ write-entry-requires c κs = search needs
 same-length : tie.Need-same-length
 same-length c = search needs
 
+abbrev marked : tie.After-write-entry → tie.After-mark-of
+marked c = c .before .before
+
 returns : tie.Need-returns
-returns c = rw (← c .before .before .before .before .before .dependent .ensures, ← c .before .before .before .before .mark-of .ensures) (c .before .before .write-entry .ensures)
+returns c =
+    let wrote = c .before .before in
+    let mark = marked wrote in
+    rw (← mark .before .dependent .ensures, ← mark .mark-of .ensures) (wrote .write-entry .ensures)
 
 pub write-concurrent-spec : {M : Type 1} → statement M
 write-concurrent-spec =

@@ -4,33 +4,36 @@ use borrow.Author.Needs.{needs}
 use lib.ListN.{length}
 use mathlib.Core.Path.{_∙_, _≡_, refl, sym}
 use native.Mathlib.Omega.{arith}
-use Rattle.certify.specs.Leaves.{among, any-more, any-none}
 use Rattle.laws.specs.Scan.{anyBelow}
-use Rattle.rules.specs.Live.{isPartOf, partAt}
 use Rattle.kinds.specs.Sizes as sizes
+use Rattle.lent.specs.Seats.{seatAt, isSeatOf}
+use Rattle.certify.specs.Leaves.{among, any-more, any-none}
 use Rattle.certify.proofs.recorded.held_txs.Statement.{statement}
 use Rattle.certify.proofs.recorded.held_txs.Tie as tie
 
 abbrev Inv-loop : tie.InvT-loop
-Inv-loop txs₀ live n₀ i₀ txs n i = (i ≤ sizes.live)
+Inv-loop txs₀ seats n₀ i₀ txs n i = (i ≤ sizes.live)
     × ((n ≤ i)
-    × ((length txs ≡ length txs₀) × ((tx : ℕ) → among txs n tx ≡ anyBelow (λ j. isPartOf (partAt live j) tx) i)))
+    × ((length txs ≡ length txs₀) × ((tx : ℕ) → among txs n tx ≡ anyBelow (λ j. isSeatOf (seatAt seats j) tx) i)))
 
 abbrev μ-loop : tie.MeasureT-loop
-μ-loop txs₀ live n₀ i₀ txs n i = sizes.live - i
+μ-loop txs₀ seats n₀ i₀ txs n i = sizes.live - i
 
 loop-holds : tie.Need-loop-holds Inv-loop μ-loop
 unfolding among
 loop-holds c = (omega arith, (omega arith, (refl, λ tx. any-none _ ∙ sym (any-none _))))
 
-mul-b : tie.Need-mul-b Inv-loop μ-loop
-mul-b c = search needs
+mul-a : tie.Need-mul-a Inv-loop μ-loop
+mul-a c = search needs
 
-array-copy-out-b : tie.Need-array-copy-out-b Inv-loop μ-loop
-array-copy-out-b c = search needs
+array-copy-out-a : tie.Need-array-copy-out-a Inv-loop μ-loop
+array-copy-out-a c = search needs
+
+abbrev turn : tie.After-with-held-arg Inv-loop μ-loop → tie.In-loop Inv-loop μ-loop
+turn c = c .before .before
 
 with-held-requires : tie.Need-with-held-requires Inv-loop μ-loop
-with-held-requires c κs = omega (arith, c .before .before .before .before .before .pre)
+with-held-requires c κs = let known = turn c .before .before in omega (arith, known .before .pre)
 
 add-i : tie.Need-add-i Inv-loop μ-loop
 add-i c = search needs
@@ -39,9 +42,12 @@ loop-less : tie.Need-loop-less Inv-loop μ-loop
 loop-less c = search needs
 
 loop-again : tie.Need-loop-again Inv-loop μ-loop
-loop-again c = let l = c .before .before .before .before .before .before .loop in
-    let e = c .before .before .with-held .ensures in
-    (omega arith, (omega arith, (c .before .before .with-held .kept .0 ∙ l .inv .1 .1 .0, λ tx. e .1 tx ∙ rw (l .inv .1 .1 .1 tx) (sym (any-more _ _)))))
+loop-again c =
+    let put = c .before .before in
+    let l = turn (put .before) .before .loop in
+    let e = put .with-held .ensures in
+    let was = l .inv .1 .1 in
+    (omega arith, (omega arith, (put .with-held .kept .0 ∙ was .0, λ tx. e .1 tx ∙ rw (was .1 tx) (sym (any-more _ _)))))
 
 same-length : tie.Need-same-length Inv-loop μ-loop
 same-length c = search needs
@@ -58,8 +64,8 @@ held-txs-spec =
     Inv-loop
     μ-loop
     loop-holds
-    mul-b
-    array-copy-out-b
+    mul-a
+    array-copy-out-a
     with-held-requires
     add-i
     loop-less

@@ -1,14 +1,13 @@
--- Held or remembered: some place, or some remembered install, is of the transaction.
-use Prim.Native.Nat.{ℕ}
+-- Held or remembered: some seat, or some remembered install, is of the transaction.
 use borrow.Author.Needs.{needs}
-use lib.Dec.{eqb}
-use mathlib.Core.Bool.{Bool}
 use mathlib.Core.Path.{_∙_}
-use Rattle.certify.specs.Leaves.{first-any, or-two}
 use Rattle.laws.specs.Scan.{anyBelow}
-use Rattle.rules.specs.History.{recall, recallPlace, remembered}
-use Rattle.rules.specs.Live.{isHeld, isPartOf, partAt, placeOf}
 use Rattle.kinds.specs.Sizes as sizes
+use Rattle.rules.specs.History.{recallPlace, remembered}
+use Rattle.lent.specs.Layout.{historyOf}
+use Rattle.lent.specs.Seats.{seatAt, isSeatOf}
+use Rattle.certify.specs.Leaves.{anyRecalled, first-any, or-two}
+use Rattle.certify.specs.Asks.{seats-hold}
 use Rattle.certify.proofs.recorded.recorded_txs.Statement.{statement}
 use Rattle.certify.proofs.recorded.recorded_txs.Tie as tie
 
@@ -21,16 +20,25 @@ remembered-txs-requires c κs = search needs
 same-length : tie.Need-same-length
 same-length c = search needs
 
+abbrev held : tie.After-remembered-txs-arg → tie.After-held-txs
+held c = c .before .before .before
+
+abbrev start : tie.After-held-txs-arg → tie.Start
+start c = c .before .before .before
+
 returns : tie.Need-returns
-unfolding isHeld placeOf recallPlace
+unfolding recallPlace
 returns c =
-    let a = c .before .before .before .before .before .before .before .before .before .args in
-    let held-txs = c .before .before .before .before .before .before .held-txs in
-    let held : ℕ → ℕ → Bool = λ tx i. isPartOf (partAt (a .live) i) tx in
-    let kept : ℕ → ℕ → Bool = λ tx k. eqb (recall (a .history) (a .installs) k .tx) tx in (
-      c .before .before .remembered-txs .ensures .0,
-      λ tx. c .before .before .remembered-txs .ensures .1 tx
-          ∙ rw (held-txs .ensures .1 tx, first-any, first-any) (or-two (anyBelow (held tx) sizes.live) (anyBelow (kept tx) (remembered (a .installs)))),
+    let put = c .before .before in
+    let live = held (put .before) in
+    let a = start (live .before) .args in
+    let e = put .remembered-txs .ensures in (
+      e .0,
+      λ w tx.
+          let past = anyRecalled (historyOf (a .history .now)) (a .installs) tx (remembered (a .installs)) in
+          e .1 tx
+          ∙ rw (live .held-txs .ensures .1 tx, seats-hold (a .seats) w tx, first-any)
+          (or-two (anyBelow (λ i. isSeatOf (seatAt (a .seats) i) tx) sizes.live) past),
     )
 
 pub recorded-txs-spec : {M : Type 1} → statement M

@@ -1,23 +1,29 @@
 -- No install passed is in conflict with an entry, and one that is ends the loop.
-use Prim.Native.Nat.{_-_, _≤_, ℕ}
+use Prim.Native.Nat.{_-_, _≤_}
 use borrow.Author.Count.{below-more}
 use borrow.Author.Needs.{needs}
-use mathlib.Core.Path.{_∙_, sym}
+use mathlib.Core.Path.{_∙_, _≡_, ap, sym}
 use native.Mathlib.Omega.{arith}
-use Rattle.certify.specs.Leaves.{FewKeys}
-use Rattle.laws.specs.Scan.{NoneBelow, any-below, any-end, anyBelow, none-none}
-use Rattle.rules.specs.Book.{installs}
-use Rattle.rules.specs.Certify.{conflictsAt}
+use Rattle.laws.specs.Scan.{NoneBelow, any-below, any-end, none-none}
 use Rattle.rules.specs.History.{recall}
 use Rattle.rules.specs.HistoryLaws.{within-few}
+use Rattle.lent.specs.Layout.{keysFrom, historyOf}
+use Rattle.certify.specs.Asks.{anyConflicts, recalled}
 use Rattle.certify.proofs.vote.any_conflict.Statement.{statement}
 use Rattle.certify.proofs.vote.any_conflict.Tie as tie
 
 abbrev Inv-loop : tie.InvT-loop
-Inv-loop es n installs own history seen k₀ k = (k ≤ seen) × NoneBelow (λ j. anyBelow (λ i. conflictsAt own es i (recall history installs j)) n) k
+Inv-loop es n live own history installs seen k₀ k =
+    (k ≤ seen) × NoneBelow (λ j. anyConflicts (keysFrom live own) es n (recall (historyOf history) installs j)) k
 
 abbrev μ-loop : tie.MeasureT-loop
-μ-loop es n installs own history seen k₀ k = seen - k
+μ-loop es n live own history installs seen k₀ k = seen - k
+
+abbrev known : tie.After-within Inv-loop μ-loop → tie.After-shared-slice-known2 Inv-loop μ-loop
+known c = c .before .before
+
+abbrev start : tie.After-within Inv-loop μ-loop → tie.Start Inv-loop μ-loop
+start c = known c .before .before
 
 within-requires : tie.Need-within-requires Inv-loop μ-loop
 within-requires c κs = search needs
@@ -27,30 +33,37 @@ loop-holds c = (search needs, none-none _)
 
 recall-slot-requires : tie.Need-recall-slot-requires Inv-loop μ-loop
 recall-slot-requires c κs =
-    let a = c .before .before .before .before .args in
-    omega (arith, c .before .before .within .ensures, within-few (a .installs) (a .p))
-
-mul-e : tie.Need-mul-e Inv-loop μ-loop
-mul-e c = omega (arith, c .recall-slot .ensures)
-
-array-copy-out-e : tie.Need-array-copy-out-e Inv-loop μ-loop
-array-copy-out-e c = omega (arith, c .recall-slot .ensures)
+    let seen = c .before .before in
+    let a = start seen .args in
+    omega (arith, seen .within .ensures, within-few (a .installs) (a .p))
 
 conflicts-with-requires : tie.Need-conflicts-with-requires Inv-loop μ-loop
 conflicts-with-requires c κs =
-    let a = c .before .before .before .before .before .before .args in
-    let pre = c .before .before .before .before .before .before .pre in
-    let l = c .before .before .before .loop in
-    let few : (i : ℕ) → FewKeys (recall (a .t3) (a .installs) i .keys) = pre .1 .1 .1 in
-    (pre .0, (pre .1 .0, (pre .1 .1 .0, rw (c .before .recall-slot .ensures) (few (l .k)))))
+    let pre = start (c .before .before .before) .pre in
+    let slot = c .recall-slot in
+    (pre .entries, (pre .part, pre .slots (slot .result) (omega (arith, slot .ensures))))
+
+abbrev turn : tie.After-conflicts-with Inv-loop μ-loop → tie.In-loop Inv-loop μ-loop
+turn c = c .before .before
+
+-- the install asked of is the one recalled
+asked : (c : tie.After-conflicts-with Inv-loop μ-loop) → (let l = turn c .before in
+    let a = start (l .before) .args in
+    c .conflicts-with .result
+    ≡ anyConflicts (keysFrom (a .live .now) (a .own)) (a .es .now) (a .n) (recall (historyOf (a .history .now)) (a .installs) (l .loop .k)))
+asked c =
+    let l = turn c .before in
+    let a = start (l .before) .args in
+    let slot = c .before .recall-slot in
+    c .conflicts-with .ensures
+    ∙ ap (anyConflicts (keysFrom (a .live .now) (a .own)) (a .es .now) (a .n))
+    (recalled (a .history .now) (a .installs) (l .loop .k) (slot .result) (slot .ensures))
 
 returns : tie.Need-returns Inv-loop μ-loop
 returns c =
-    let within = c .before .before .before .before .before .before .within in
-    let l = c .before .before .before .before .before .loop in
-    let loop-test = c .before .before .before .before .loop-test in
-    let recall-slot = c .before .before .before .recall-slot in
-    rw (← within .ensures) (any-below _ _ (l .k) (loop-test .taken) (rw (← recall-slot .ensures) (sym (c .before .conflicts-with .ensures) ∙ c .if1 .taken)))
+    let here = turn (c .before) in
+    let l = here .before in
+    rw (← l .before .within .ensures) (any-below _ _ (l .loop .k) (here .loop-test .taken) (sym (asked (c .before)) ∙ c .if1 .taken))
 
 add-k : tie.Need-add-k Inv-loop μ-loop
 add-k c = search needs
@@ -60,9 +73,8 @@ loop-less c = search needs
 
 loop-again : tie.Need-loop-again Inv-loop μ-loop
 loop-again c =
-    let l = c .before .before .before .before .before .loop in
-    let recall-slot = c .before .before .before .recall-slot in
-    (omega arith, below-more _ _ (l .inv .1) (rw (← recall-slot .ensures) (sym (c .before .conflicts-with .ensures) ∙ c .if1 .left)))
+    let l = turn (c .before) .before .loop in
+    (omega arith, below-more _ _ (l .inv .1) (sym (asked (c .before)) ∙ c .if1 .left))
 
 returns-2 : tie.Need-returns-2 Inv-loop μ-loop
 returns-2 c = rw (← c .before .before .within .ensures) (any-end _ _ _ (c .loop-test .left) (c .before .loop .inv .1))
@@ -76,8 +88,6 @@ any-conflict-spec =
     within-requires
     loop-holds
     recall-slot-requires
-    mul-e
-    array-copy-out-e
     conflicts-with-requires
     returns
     add-k

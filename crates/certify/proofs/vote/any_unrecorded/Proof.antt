@@ -2,20 +2,16 @@
 use Prim.Native.Nat.{_-_, _≤_}
 use borrow.Author.Count.{below-more}
 use borrow.Author.Needs.{needs}
-use mathlib.Core.Bool.{not}
-use mathlib.Core.List.{[], _∷_}
 use mathlib.Core.Path.{_∙_, sym}
 use native.Mathlib.Omega.{arith}
-use Rattle.certify.specs.Leaves.{among}
-use Rattle.laws.specs.Choice.{every}
 use Rattle.laws.specs.Scan.{NoneBelow, any-below, any-end, none-none}
-use Rattle.rules.specs.House.{inMask}
 use Rattle.rules.specs.Message.{entryMask, entryTx}
+use Rattle.certify.specs.Leaves.{unrecorded}
 use Rattle.certify.proofs.vote.any_unrecorded.Statement.{statement}
 use Rattle.certify.proofs.vote.any_unrecorded.Tie as tie
 
 abbrev Inv-loop : tie.InvT-loop
-Inv-loop es n txs m own i₀ i = (i ≤ n) × NoneBelow (λ j. every (inMask (entryMask es j) own ∷ not (among txs m (entryTx es j)) ∷ [])) i
+Inv-loop es n txs m own i₀ i = (i ≤ n) × NoneBelow (λ j. unrecorded txs m own (entryTx es j) (entryMask es j)) i
 
 abbrev μ-loop : tie.MeasureT-loop
 μ-loop es n txs m own i₀ i = n - i
@@ -47,11 +43,14 @@ shared-slice-read-mask c = search needs
 is-unrecorded-requires : tie.Need-is-unrecorded-requires Inv-loop μ-loop
 is-unrecorded-requires c κs = search needs
 
+abbrev turn : tie.After-is-unrecorded Inv-loop μ-loop → tie.In-loop Inv-loop μ-loop
+turn c = c .before .before .before
+
 returns : tie.Need-returns Inv-loop μ-loop
 returns c =
-    let l = c .before .before .before .before .before .loop in
-    let loop-test = c .before .before .before .before .loop-test in
-    any-below _ _ (l .i) (loop-test .taken) (sym (c .before .is-unrecorded .ensures) ∙ c .if1 .taken)
+    let asked = c .before in
+    let here = turn asked in
+    any-below _ _ (here .before .loop .i) (here .loop-test .taken) (sym (asked .is-unrecorded .ensures) ∙ c .if1 .taken)
 
 add-i : tie.Need-add-i Inv-loop μ-loop
 add-i c = search needs
@@ -60,7 +59,9 @@ loop-less : tie.Need-loop-less Inv-loop μ-loop
 loop-less c = search needs
 
 loop-again : tie.Need-loop-again Inv-loop μ-loop
-loop-again c = (omega arith, below-more _ _ (c .before .before .before .before .before .loop .inv .1) (sym (c .before .is-unrecorded .ensures) ∙ c .if1 .left))
+loop-again c =
+    let asked = c .before in
+    (omega arith, below-more _ _ (turn asked .before .loop .inv .1) (sym (asked .is-unrecorded .ensures) ∙ c .if1 .left))
 
 returns-2 : tie.Need-returns-2 Inv-loop μ-loop
 returns-2 c = any-end _ _ _ (c .loop-test .left) (c .before .loop .inv .1)

@@ -1,25 +1,38 @@
 -- No entry passed is for the install and in conflict: it is for another, or neither marked nor dependent.
-use Prim.Native.Nat.{_-_, _≤_}
+use Prim.Native.Nat.{_-_, _*_, _≤_}
 use borrow.Author.Count.{below-more}
 use borrow.Author.Needs.{needs}
 use borrow.Author.Tests.{eq-eqb, ne-eqb}
-use lib.Dec.{eqb}
-use mathlib.Core.List.{[], _∷_}
 use mathlib.Core.Logic.{⊎-elim}
 use native.Mathlib.Omega.{arith}
-use Rattle.laws.specs.Choice.{every, some}
 use Rattle.laws.specs.Scan.{NoneBelow, any-below, any-end, none-none}
+use Rattle.kinds.specs.Sizes as sizes
 use Rattle.rules.specs.Certify.{conflictsAt}
-use Rattle.rules.specs.Keys.{dependent}
-use Rattle.rules.specs.Message.{entryMark, entryTx}
+use Rattle.lent.specs.Layout.{keysFrom, entryFrom}
 use Rattle.certify.proofs.vote.conflicts_with.Statement.{statement}
 use Rattle.certify.proofs.vote.conflicts_with.Tie as tie
 
 abbrev Inv-loop : tie.InvT-loop
-Inv-loop es n own tx other i₀ i = (i ≤ n) × NoneBelow (λ j. every (eqb (entryTx es j) tx ∷ some (eqb (entryMark es j) 1 ∷ dependent own other ∷ []) ∷ [])) i
+Inv-loop es n live own history slot to tx other i₀ i =
+    (i ≤ n) × NoneBelow (λ j. conflictsAt (keysFrom live own) es j (entryFrom history (sizes.slot * slot))) i
 
 abbrev μ-loop : tie.MeasureT-loop
-μ-loop es n own tx other i₀ i = n - i
+μ-loop es n live own history slot to tx other i₀ i = n - i
+
+mul-to : tie.Need-mul-to Inv-loop μ-loop
+mul-to c = search needs
+
+add-tx : tie.Need-add-tx Inv-loop μ-loop
+add-tx c = search needs
+
+mul-tx : tie.Need-mul-tx Inv-loop μ-loop
+mul-tx c = search needs
+
+shared-slice-read-tx : tie.Need-shared-slice-read-tx Inv-loop μ-loop
+shared-slice-read-tx c = search needs
+
+add-other : tie.Need-add-other Inv-loop μ-loop
+add-other c = search needs
 
 loop-holds : tie.Need-loop-holds Inv-loop μ-loop
 loop-holds c = (search needs, none-none _)
@@ -48,13 +61,19 @@ shared-slice-read-is-conflict c = search needs
 is-conflict-requires : tie.Need-is-conflict-requires Inv-loop μ-loop
 is-conflict-requires c κs = search needs
 
+abbrev same : tie.After-is-conflict Inv-loop μ-loop → tie.Then1 Inv-loop μ-loop
+same c = c .before .before
+
+abbrev turn : tie.Then1 Inv-loop μ-loop → tie.In-loop Inv-loop μ-loop
+turn c = c .before .before
+
 returns : tie.Need-returns Inv-loop μ-loop
-unfolding conflictsAt
+unfolding conflictsAt entryFrom
 returns c =
-    let l = c .before .before .before .before .before .before .loop in
-    let loop-test = c .before .before .before .before .before .loop-test in
-    let if1 = c .before .before .before .if1 in
-    any-below _ _ (l .i) (loop-test .taken) (rw (eq-eqb _ _ (if1 .taken), ← c .before .is-conflict .ensures, c .if2 .taken))
+    let asked = c .before in
+    let here = turn (same asked) in
+    any-below _ _ (here .before .loop .i) (here .loop-test .taken)
+    (rw (eq-eqb _ _ (same asked .if1 .taken), ← asked .is-conflict .ensures, c .if2 .taken))
 
 add-i : tie.Need-add-i Inv-loop μ-loop
 add-i c = search needs
@@ -63,6 +82,7 @@ loop-less : tie.Need-loop-less Inv-loop μ-loop
 loop-less c = search needs
 
 loop-again : tie.Need-loop-again Inv-loop μ-loop
+unfolding conflictsAt entryFrom
 loop-again c = (
   omega arith,
   below-more _ _ (c .before .before .before .loop .inv .1)
@@ -73,7 +93,6 @@ loop-again c = (
 )
 
 returns-2 : tie.Need-returns-2 Inv-loop μ-loop
-unfolding conflictsAt
 returns-2 c = any-end _ _ _ (c .loop-test .left) (c .before .loop .inv .1)
 
 pub conflicts-with-spec : {M : Type 1} → statement M
@@ -82,6 +101,11 @@ conflicts-with-spec =
     (tie.spec
     Inv-loop
     μ-loop
+    mul-to
+    add-tx
+    mul-tx
+    shared-slice-read-tx
+    add-other
     loop-holds
     mul-at
     add-if1

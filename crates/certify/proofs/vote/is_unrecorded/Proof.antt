@@ -10,13 +10,15 @@ in-mask-requires : tie.Need-in-mask-requires
 in-mask-requires c κs = search needs
 
 returns : tie.Need-returns
-returns c = rw (sym (c .before .in-mask .ensures) ∙ not-true (c .before .in-mask .result) (c .if1 .taken))
+returns c = let named = c .before .in-mask in rw (sym (named .ensures) ∙ not-true (named .result) (c .if1 .taken))
 
 is-among-requires : tie.Need-is-among-requires
 is-among-requires c κs = search needs
 
 returns-2 : tie.Need-returns-2
-returns-2 c = rw (sym (c .before .before .in-mask .ensures) ∙ not-false (c .before .before .in-mask .result) (c .before .if1 .left), ← c .is-among .ensures) (sym (pick-self _))
+returns-2 c =
+    let named = c .before .before .in-mask in
+    rw (sym (named .ensures) ∙ not-false (named .result) (c .before .if1 .left), ← c .is-among .ensures) (sym (pick-self _))
 
 pub is-unrecorded-spec : {M : Type 1} → statement M
 is-unrecorded-spec = tie.close (tie.spec in-mask-requires returns is-among-requires returns-2)

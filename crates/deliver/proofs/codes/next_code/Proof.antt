@@ -15,18 +15,27 @@ returns c = simp (ne-eqb (c .before .args .to) (c .before .args .own) (c .if1 .t
 
 returns-2 : tie.Need-returns-2
 unfolding nextCode
-returns-2 c = simp (eq-eqb (c .before .before .args .to) (c .before .before .args .own) (c .before .if1 .left), ne-eqb (c .before .before .args .channel) (c .before .before .args .taken + 1) (λ e. omega (arith, e, c .if2 .taken)))
+returns-2 c =
+    let a = c .before .before .args in
+    simp (eq-eqb (a .to) (a .own) (c .before .if1 .left), ne-eqb (a .channel) (a .taken + 1) (λ e. omega (arith, e, c .if2 .taken)))
 
 sub-if3 : tie.Need-sub-if3
 sub-if3 c = search needs
 
 returns-3 : tie.Need-returns-3
 unfolding nextCode
-returns-3 c = simp (eq-eqb (c .before .before .before .args .to) (c .before .before .before .args .own) (c .before .before .if1 .left), ne-eqb (c .before .before .before .args .channel) (c .before .before .before .args .taken + 1) (λ e. c .if3 .taken (omega (arith, e))))
+returns-3 c =
+    let past = c .before .before in
+    let a = past .before .args in
+    simp (eq-eqb (a .to) (a .own) (past .if1 .left), ne-eqb (a .channel) (a .taken + 1) (λ e. c .if3 .taken (omega (arith, e))))
 
 returns-4 : tie.Need-returns-4
 unfolding nextCode
-returns-4 c = let q : c .before .before .before .args .channel ≡ c .before .before .before .args .taken + 1 = pred-is (c .before .before .before .args .channel) (c .before .before .before .args .taken) (c .before .if2 .left) (c .if3 .left) in simp (eq-eqb (c .before .before .before .args .to) (c .before .before .before .args .own) (c .before .before .if1 .left), eq-eqb (c .before .before .before .args .channel) (c .before .before .before .args .taken + 1) q)
+returns-4 c =
+    let past = c .before .before in
+    let a = past .before .args in
+    let q : a .channel ≡ a .taken + 1 = pred-is (a .channel) (a .taken) (c .before .if2 .left) (c .if3 .left) in
+    simp (eq-eqb (a .to) (a .own) (past .if1 .left), eq-eqb (a .channel) (a .taken + 1) q)
 
 pub next-code-spec : {M : Type 1} → statement M
 next-code-spec = tie.close (tie.spec returns returns-2 sub-if3 returns-3 returns-4)

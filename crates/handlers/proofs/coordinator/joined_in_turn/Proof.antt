@@ -1,4 +1,4 @@
--- The tests of the turn.
+-- The stage and the reply that is wanted are the rule's tests.
 use borrow.Author.Needs.{needs}
 use borrow.Author.Tests.{eq-eqb, ne-eqb}
 use Rattle.laws.specs.Choice.{pick-self}

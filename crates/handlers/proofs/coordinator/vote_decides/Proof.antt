@@ -1,4 +1,4 @@
--- A no, or the last yes.
+-- A no decides, and the last yes.
 use borrow.Author.Needs.{needs}
 use borrow.Author.Tests.{eq-eqb, ne-eqb}
 use Rattle.laws.specs.Choice.{pick-self}
@@ -18,7 +18,9 @@ all-heard-requires c κs = search needs
 
 returns-2 : tie.Need-returns-2
 unfolding voteDecides
-returns-2 c = simp (eq-eqb (c .before .before .before .args .vote) 0 (c .before .if1 .left), ← c .before .before .with-heard .ensures, ← c .all-heard .ensures, pick-self)
+returns-2 c =
+    let heard = c .before .before in
+    simp (eq-eqb (heard .before .args .vote) 0 (c .before .if1 .left), ← heard .with-heard .ensures, ← c .all-heard .ensures, pick-self)
 
 pub vote-decides-spec : {M : Type 1} → statement M
 vote-decides-spec = tie.close (tie.spec with-heard-requires returns all-heard-requires returns-2)

@@ -1,16 +1,37 @@
 -- A count bounds the turns; the table of sites keeps its length.
-use borrow.Author.Needs.{needs}
-use lib.ListN.{length, length-set}
 use mathlib.Core.Path.{_≡_}
 use native.Mathlib.Omega.{arith}
+use borrow.Author.Needs.{needs}
+use lib.ListN.{length, length-set}
+use Rattle.kinds.specs.Sizes as sizes
 use Rattle.probe.proofs.run.one_house.Statement.{statement}
 use Rattle.probe.proofs.run.one_house.Tie as tie
 
 abbrev Inv-loop : tie.InvT-loop
-Inv-loop text₀ page₀ base₀ lists₀ queues₀ copies₀ store₀ hand₀ out₀ sites₀ u₀ left₀ text page base lists queues copies store hand out sites u left = length sites ≡ 8
+Inv-loop _ _ _ _ _ _ _ _ _ _ _ _ _ _ _ _ _ _ _ _ _ _ _ _ _ sites _ _ = length sites ≡ sizes.sites
 
 abbrev μ-loop : tie.MeasureT-loop
-μ-loop text₀ page₀ base₀ lists₀ queues₀ copies₀ store₀ hand₀ out₀ sites₀ u₀ left₀ text page base lists queues copies store hand out sites u left = left
+μ-loop _ _ _ _ _ _ _ _ _ _ _ _ _ _ _ _ _ _ _ _ _ _ _ _ _ _ _ left = left
+
+-- A turn's start, seen from behind its line, from the site's place and from its end.
+abbrev read : tie.After-next-of-site Inv-loop μ-loop → tie.In-loop Inv-loop μ-loop
+read c =
+    let copies = c .before .before .before in
+    let hand = copies .before .before .before in
+    hand .before .before
+
+abbrev placed : tie.After-place-of Inv-loop μ-loop → tie.In-loop Inv-loop μ-loop
+placed c =
+    let work = c .before .before .before in
+    read (work .before .before)
+
+abbrev entered : tie.After-settled Inv-loop μ-loop → tie.In-loop Inv-loop μ-loop
+entered c =
+    let kept = c .before .before .before in
+    let called = kept .before .before .before in
+    let base = called .before .before .before in
+    let hand = base .before .before .before in
+    placed (hand .before .before .before)
 
 start-sites-requires : tie.Need-start-sites-requires Inv-loop μ-loop
 start-sites-requires c κs = search needs
@@ -33,11 +54,11 @@ is-over-requires c κs = search needs
 place-of-requires : tie.Need-place-of-requires Inv-loop μ-loop
 place-of-requires c κs = search needs
 
-mul-s : tie.Need-mul-s Inv-loop μ-loop
-mul-s c = search needs
+mul-p : tie.Need-mul-p Inv-loop μ-loop
+mul-p c = search needs
 
-array-copy-out-s : tie.Need-array-copy-out-s Inv-loop μ-loop
-array-copy-out-s c = search needs
+array-copy-out-p : tie.Need-array-copy-out-p Inv-loop μ-loop
+array-copy-out-p c = search needs
 
 at-site-requires : tie.Need-at-site-requires Inv-loop μ-loop
 at-site-requires c κs = search needs
@@ -52,10 +73,10 @@ settled-requires : tie.Need-settled-requires Inv-loop μ-loop
 settled-requires c κs = search needs
 
 loop-less : tie.Need-loop-less Inv-loop μ-loop
-loop-less c = omega (arith, c .before .before .before .before .before .before .before .before .before .before .before .before .before .before .before .before .before .before .before .before .before .before .before .before .before .before .loop-test .taken)
+loop-less c = omega (arith, entered c .loop-test .taken)
 
 loop-again : tie.Need-loop-again Inv-loop μ-loop
-loop-again c = simp length-set (c .before .before .before .before .before .before .before .before .before .before .before .before .before .before .before .before .before .before .before .before .before .before .before .before .before .before .before .loop .inv)
+loop-again c = simp length-set (entered c .before .loop .inv)
 
 returns : tie.Need-returns Inv-loop μ-loop
 returns c = search needs
@@ -73,8 +94,8 @@ one-house-spec =
     next-of-site-requires
     is-over-requires
     place-of-requires
-    mul-s
-    array-copy-out-s
+    mul-p
+    array-copy-out-p
     at-site-requires
     mul-sites
     array-set-from-sites

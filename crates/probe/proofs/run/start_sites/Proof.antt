@@ -1,34 +1,23 @@
 -- The table keeps its length.
 use Prim.Native.Nat.{_-_}
+use mathlib.Core.Path.{_≡_}
 use borrow.Author.Needs.{needs}
 use lib.ListN.{length}
-use mathlib.Core.Path.{_≡_}
+use Rattle.kinds.specs.Sizes as sizes
 use Rattle.probe.proofs.run.start_sites.Statement.{statement}
 use Rattle.probe.proofs.run.start_sites.Tie as tie
 
 abbrev Inv-loop : tie.InvT-loop
-Inv-loop n base₀ lists₀ sites₀ i₀ base lists sites i = (length base ≡ 2049) × (length lists ≡ 18049) × (length sites ≡ 8)
+Inv-loop n sites₀ i₀ sites i = length sites ≡ sizes.sites
 
 abbrev μ-loop : tie.MeasureT-loop
-μ-loop n base₀ lists₀ sites₀ i₀ base lists sites i = 8 - i
-
-slice-aggregate-start-at : tie.Need-slice-aggregate-start-at Inv-loop μ-loop
-slice-aggregate-start-at c = search needs
-
-slice-aggregate-start-at-2 : tie.Need-slice-aggregate-start-at-2 Inv-loop μ-loop
-slice-aggregate-start-at-2 c = search needs
+μ-loop n sites₀ i₀ sites i = sizes.sites - i
 
 start-at-requires : tie.Need-start-at-requires Inv-loop μ-loop
 start-at-requires c κs = search needs
 
 loop-holds : tie.Need-loop-holds Inv-loop μ-loop
 loop-holds c = search needs
-
-slice-aggregate-start-at-3 : tie.Need-slice-aggregate-start-at-3 Inv-loop μ-loop
-slice-aggregate-start-at-3 c = search needs
-
-slice-aggregate-start-at-4 : tie.Need-slice-aggregate-start-at-4 Inv-loop μ-loop
-slice-aggregate-start-at-4 c = search needs
 
 start-at-requires-2 : tie.Need-start-at-requires-2 Inv-loop μ-loop
 start-at-requires-2 c κs = search needs
@@ -57,12 +46,8 @@ start-sites-spec =
     (tie.spec
     Inv-loop
     μ-loop
-    slice-aggregate-start-at
-    slice-aggregate-start-at-2
     start-at-requires
     loop-holds
-    slice-aggregate-start-at-3
-    slice-aggregate-start-at-4
     start-at-requires-2
     mul-sites
     array-set-from-sites

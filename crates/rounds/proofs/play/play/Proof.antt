@@ -1,16 +1,14 @@
--- A turn plays a step; the lent slices keep their lengths.
+-- A turn plays a step.
 use Prim.Native.Nat.{_-_}
 use borrow.Author.Needs.{needs}
-use lib.ListN.{length}
-use mathlib.Core.Path.{_≡_}
 use Rattle.rounds.proofs.play.play.Statement.{statement}
 use Rattle.rounds.proofs.play.play.Tie as tie
 
 abbrev Inv-loop : tie.InvT-loop
-Inv-loop n base₀ lists₀ queues₀ copy₀ held₀ out₀ t₀ i₀ base lists queues copy held out t i = (length base ≡ length base₀) × (length lists ≡ length lists₀)
+Inv-loop n live₀ history₀ base₀ lists₀ queues₀ copy₀ held₀ out₀ t₀ i₀ live history base lists queues copy held out t i = Unit {0}
 
 abbrev μ-loop : tie.MeasureT-loop
-μ-loop n base₀ lists₀ queues₀ copy₀ held₀ out₀ t₀ i₀ base lists queues copy held out t i = n - i
+μ-loop n live₀ history₀ base₀ lists₀ queues₀ copy₀ held₀ out₀ t₀ i₀ live history base lists queues copy held out t i = n - i
 
 loop-holds : tie.Need-loop-holds Inv-loop μ-loop
 loop-holds c = search needs
@@ -27,26 +25,10 @@ loop-less c = search needs
 loop-again : tie.Need-loop-again Inv-loop μ-loop
 loop-again c = search needs
 
-same-length : tie.Need-same-length Inv-loop μ-loop
-same-length c = search needs
-
-same-length-2 : tie.Need-same-length-2 Inv-loop μ-loop
-same-length-2 c = search needs
-
 returns : tie.Need-returns Inv-loop μ-loop
 returns c = search needs
 
 pub play-spec : {M : Type 1} → statement M
 play-spec =
     tie.close
-    (tie.spec
-    Inv-loop
-    μ-loop
-    loop-holds
-    add-i
-    play-step-requires
-    loop-less
-    loop-again
-    same-length
-    same-length-2
-    returns)
+    (tie.spec Inv-loop μ-loop loop-holds add-i play-step-requires loop-less loop-again returns)

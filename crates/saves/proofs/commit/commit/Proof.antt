@@ -1,16 +1,53 @@
--- Refused by the call's causes, by the stage's, or the step settled.
+-- Refused, or the request of the transaction's part.
+use mathlib.Core.Path.{_≡_, sym, _∙_}
 use borrow.Author.Needs.{needs}
 use borrow.Author.Tests.{eq-eqb, ne-eqb}
-use mathlib.Core.Path.{_∙_, sym}
-use native.Mathlib.Omega.{arith}
+use lib.ListN.{length}
 use Rattle.laws.specs.Overlay.{overlay-none}
-use Rattle.rules.specs.CallLaws.{commit-clear, request-clear}
-use Rattle.rules.specs.Commit.{commitOf}
-use Rattle.rules.specs.Effect.{outOf, settle, takenOf, turnAt}
-use Rattle.rules.specs.Send.{counts-low}
-use Rattle.rules.specs.ValidLaws.{valid-site, valid-own, handed-site, handed-length}
+use Rattle.kinds.specs.declared.Site.{Site}
+use Rattle.rules.specs.CallLaws.{RequestClear, request-clear}
+use Rattle.rules.specs.Commit.{commitOf, requestCode}
+use Rattle.rules.specs.Enlist.{isMine}
+use Rattle.rules.specs.Live.{placeOf}
+use Rattle.rules.specs.Valid.{handedOk}
+use Rattle.rules.specs.ValidLaws.{handed-length, handed-site}
+use Rattle.lent.specs.Lent.{siteOf}
 use Rattle.saves.proofs.commit.commit.Statement.{statement}
 use Rattle.saves.proofs.commit.commit.Tie as tie
+
+abbrev lent : tie.After-handed-ok-arg2 → tie.After-slice-known2
+lent c = c .before .before .before
+
+abbrev start : tie.After-handed-ok-arg2 → tie.Start
+start c = lent c .before .before .before
+
+abbrev looked : tie.After-place-of → tie.After-handed-ok
+looked c = c .before .before
+
+abbrev placed : tie.After-request-code → tie.After-place-of
+placed c = c .before .before .before
+
+abbrev begins : tie.After-request-code → tie.Start
+begins c = start (looked (placed c) .before)
+
+abbrev handed : tie.Start → Site
+handed c = let a = c .args in siteOf (a .p) (a .live .now) (a .history .now)
+
+-- the place of the transaction, and the first cause against the call
+at : (c : tie.After-request-code) → placed c .place-of .result ≡ placeOf (handed (begins c) .live) (begins c .args .tx)
+at c = placed c .place-of .ensures (begins c .args .live .now)
+
+first : (c : tie.After-request-code) → let s = begins c in
+    let a = s .args in
+    let ok = handedOk (handed s) (a .lists .now) in
+    c .request-code .result ≡ requestCode ok (length (a .out .now)) (placed c .place-of .result) (isMine (handed s) (a .tx))
+first c = rw (← looked (placed c) .handed-ok .ensures, ← c .before .before .coordinator-of .ensures) (c .request-code .ensures)
+
+clear : (c : tie.Else1) → let s = begins (c .before) in
+    let a = s .args in
+    let ok = handedOk (handed s) (a .lists .now) in
+    RequestClear ok (length (a .out .now)) (placed (c .before) .place-of .result) (isMine (handed s) (a .tx))
+clear c = request-clear _ _ _ _ (sym (first (c .before)) ∙ c .if1 .left)
 
 handed-ok-requires : tie.Need-handed-ok-requires
 handed-ok-requires c κs = search needs
@@ -24,57 +61,42 @@ coordinator-of-requires c κs = search needs
 request-code-requires : tie.Need-request-code-requires
 request-code-requires c κs = search needs
 
+refused-requires : tie.Need-refused-requires
+refused-requires c κs = search needs
+
 same-length : tie.Need-same-length
 same-length c = search needs
-
-returns : tie.Need-returns
-unfolding outOf commitOf
-returns c = let n = ne-eqb (c .before .request-code .result) 0 (c .if1 .taken) in
-    (simp (← c .before .before .before .before .before .before .handed-ok .ensures, ← c .before .before .before .place-of .ensures, ← c .before .before .coordinator-of .ensures, ← c .before .request-code .ensures, n), (simp (← c .before .before .before .before .before .before .handed-ok .ensures, ← c .before .before .before .place-of .ensures, ← c .before .before .coordinator-of .ensures, ← c .before .request-code .ensures, n), simp (← c .before .before .before .before .before .before .handed-ok .ensures, ← c .before .before .before .place-of .ensures, ← c .before .before .coordinator-of .ensures, ← c .before .request-code .ensures, n) (overlay-none (c .before .before .before .before .before .before .before .before .before .before .args .out .now))))
-
-mul-sub : tie.Need-mul-sub
-mul-sub c = omega (arith, request-clear _ _ _ _ (sym (c .before .request-code .ensures) ∙ c .if1 .left) .held)
-
-array-copy-out-sub : tie.Need-array-copy-out-sub
-array-copy-out-sub c = request-clear _ _ _ _ (sym (c .before .request-code .ensures) ∙ c .if1 .left) .held
-
-all-heard-requires : tie.Need-all-heard-requires
-all-heard-requires c κs =
-    let past = c .before .before .before in
-    let clear = request-clear _ _ _ _ (sym (past .before .request-code .ensures) ∙ past .if1 .left) in
-    let place = past .before .before .before in
-    let ok = sym (place .before .before .before .handed-ok .ensures) ∙ clear .valid in
-    valid-own _ (handed-site _ _ ok)
-
-counts-low-requires : tie.Need-counts-low-requires
-counts-low-requires c κs = search needs
-
-commit-code-requires : tie.Need-commit-code-requires
-commit-code-requires c κs = search needs
 
 same-length-2 : tie.Need-same-length-2
 same-length-2 c = search needs
 
-returns-2 : tie.Need-returns-2
-unfolding outOf commitOf
-returns-2 c = let z = eq-eqb (c .before .before .before .before .before .before .before .before .request-code .result) 0 (c .before .before .before .before .before .before .before .if1 .left) in
-    let n = ne-eqb (c .before .commit-code .result) 0 (c .if2 .taken) in
-    (simp (← c .before .before .before .before .before .before .before .before .before .before .before .before .before .handed-ok .ensures, ← c .before .before .before .before .before .before .before .before .before .before .place-of .ensures, ← c .before .before .before .before .before .before .before .before .before .coordinator-of .ensures, ← c .before .before .before .before .before .before .before .before .request-code .ensures, z, ← c .before .before .before .all-heard .ensures, ← c .before .before .counts-low .ensures, ← c .before .commit-code .ensures, n), (simp (← c .before .before .before .before .before .before .before .before .before .before .before .before .before .handed-ok .ensures, ← c .before .before .before .before .before .before .before .before .before .before .place-of .ensures, ← c .before .before .before .before .before .before .before .before .before .coordinator-of .ensures, ← c .before .before .before .before .before .before .before .before .request-code .ensures, z, ← c .before .before .before .all-heard .ensures, ← c .before .before .counts-low .ensures, ← c .before .commit-code .ensures, n), simp (← c .before .before .before .before .before .before .before .before .before .before .before .before .before .handed-ok .ensures, ← c .before .before .before .before .before .before .before .before .before .before .place-of .ensures, ← c .before .before .before .before .before .before .before .before .before .coordinator-of .ensures, ← c .before .before .before .before .before .before .before .before .request-code .ensures, z, ← c .before .before .before .all-heard .ensures, ← c .before .before .counts-low .ensures, ← c .before .commit-code .ensures, n) (overlay-none (c .before .before .before .before .before .before .before .before .before .before .before .before .before .before .before .before .before .args .out .now))))
+returns : tie.Need-returns
+unfolding commitOf
+returns c =
+    let code = c .before .before in
+    let a = begins code .args in
+    let n = ne-eqb (code .request-code .result) 0 (c .before .if1 .taken) in (
+      rw (← at code, ← first code, n) (c .refused .ensures _ _ (a .lists .now)),
+      (rw (← at code, ← first code, n), rw (← at code, ← first code, n) (overlay-none (a .out .now))),
+    )
 
-commit-step-requires : tie.Need-commit-step-requires
-unfolding turnAt
-commit-step-requires c κs = let h = request-clear _ _ _ _ (sym (c .before .before .before .before .before .before .before .before .before .before .request-code .ensures) ∙ c .before .before .before .before .before .before .before .before .before .if1 .left) in
-    let b = commit-clear _ _ _ (sym (c .before .before .before .commit-code .ensures) ∙ c .before .before .if2 .left) in
-    let ok = sym (c .before .before .before .before .before .before .before .before .before .before .before .before .before .before .before .handed-ok .ensures) ∙ h .valid in
-    let valid = handed-site _ _ ok in
-    let v = valid-site _ valid .house in
-    ((valid, (h .held, handed-length _ _ ok)), record { long = h .long; first = v .own-low; last = omega (arith, v .own-high, v .few-sites); low = counts-low _ _ _ (sym (c .before .before .before .before .counts-low .ensures) ∙ b .unspent) })
+-- past the refusals, seen from the arguments of the request
+abbrev past : tie.After-commit-at-arg3 → tie.Else1
+past c = c .before .before .before
 
-mul-b : tie.Need-mul-b
-mul-b c = omega (arith, request-clear _ _ _ _ (sym (c .before .before .before .before .before .before .before .before .before .before .before .before .before .before .before .before .before .before .before .request-code .ensures) ∙ c .before .before .before .before .before .before .before .before .before .before .before .before .before .before .before .before .before .before .if1 .left) .held)
+commit-at-requires : tie.Need-commit-at-requires
+commit-at-requires c κs =
+    let h = clear (past c) in
+    let s = begins (past c .before) in
+    let l = s .args .lists .now in
+    (record { possible = handed-site (handed s) l (h .valid); low = h .held }, (handed-length (handed s) l (h .valid), h .long))
 
-element-set-from-b : tie.Need-element-set-from-b
-element-set-from-b c = request-clear _ _ _ _ (sym (c .before .before .before .before .before .before .before .before .before .before .before .before .before .before .before .before .before .before .before .request-code .ensures) ∙ c .before .before .before .before .before .before .before .before .before .before .before .before .before .before .before .before .before .before .if1 .left) .held
+-- the request itself, seen from the end
+abbrev lists : tie.After-slice-known6 → tie.After-lists
+lists c = c .before .before .before
+
+abbrev ends : tie.After-lists → tie.After-commit-at
+ends c = c .before .before .before
 
 same-length-3 : tie.Need-same-length-3
 same-length-3 c = search needs
@@ -82,11 +104,18 @@ same-length-3 c = search needs
 same-length-4 : tie.Need-same-length-4
 same-length-4 c = search needs
 
-returns-3 : tie.Need-returns-3
-unfolding outOf commitOf settle takenOf
-returns-3 c = let z = eq-eqb (c .before .before .before .before .before .before .before .before .before .before .before .before .before .before .before .before .before .before .before .request-code .result) 0 (c .before .before .before .before .before .before .before .before .before .before .before .before .before .before .before .before .before .before .if1 .left) in
-    let y = eq-eqb (c .before .before .before .before .before .before .before .before .before .before .before .before .commit-code .result) 0 (c .before .before .before .before .before .before .before .before .before .before .before .if2 .left) in
-    (simp (← c .before .before .before .before .before .before .before .before .before .before .before .before .before .before .before .before .before .before .before .before .before .before .before .before .handed-ok .ensures, ← c .before .before .before .before .before .before .before .before .before .before .before .before .before .before .before .before .before .before .before .before .before .place-of .ensures, ← c .before .before .before .before .before .before .before .before .before .before .before .before .before .before .before .before .before .before .before .before .coordinator-of .ensures, ← c .before .before .before .before .before .before .before .before .before .before .before .before .before .before .before .before .before .before .before .request-code .ensures, z, ← c .before .before .before .before .before .before .before .before .before .before .before .before .before .before .all-heard .ensures, ← c .before .before .before .before .before .before .before .before .before .before .before .before .before .counts-low .ensures, ← c .before .before .before .before .before .before .before .before .before .before .before .before .commit-code .ensures, y, c .before .before .before .before .before .before .before .before .commit-step .ensures .0), (simp (← c .before .before .before .before .before .before .before .before .before .before .before .before .before .before .before .before .before .before .before .before .before .before .before .before .handed-ok .ensures, ← c .before .before .before .before .before .before .before .before .before .before .before .before .before .before .before .before .before .before .before .before .before .place-of .ensures, ← c .before .before .before .before .before .before .before .before .before .before .before .before .before .before .before .before .before .before .before .before .coordinator-of .ensures, ← c .before .before .before .before .before .before .before .before .before .before .before .before .before .before .before .before .before .before .before .request-code .ensures, z, ← c .before .before .before .before .before .before .before .before .before .before .before .before .before .before .all-heard .ensures, ← c .before .before .before .before .before .before .before .before .before .before .before .before .before .counts-low .ensures, ← c .before .before .before .before .before .before .before .before .before .before .before .before .commit-code .ensures, y, c .before .before .before .before .before .before .before .before .commit-step .ensures .1 .0), simp (← c .before .before .before .before .before .before .before .before .before .before .before .before .before .before .before .before .before .before .before .before .before .before .before .before .handed-ok .ensures, ← c .before .before .before .before .before .before .before .before .before .before .before .before .before .before .before .before .before .before .before .before .before .place-of .ensures, ← c .before .before .before .before .before .before .before .before .before .before .before .before .before .before .before .before .before .before .before .before .coordinator-of .ensures, ← c .before .before .before .before .before .before .before .before .before .before .before .before .before .before .before .before .before .before .before .request-code .ensures, z, ← c .before .before .before .before .before .before .before .before .before .before .before .before .before .before .all-heard .ensures, ← c .before .before .before .before .before .before .before .before .before .before .before .before .before .counts-low .ensures, ← c .before .before .before .before .before .before .before .before .before .before .before .before .commit-code .ensures, y, c .before .before .before .before .before .before .before .before .commit-step .ensures .1 .1)))
+same-length-5 : tie.Need-same-length-5
+same-length-5 c = search needs
+
+returns-2 : tie.Need-returns-2
+unfolding commitOf
+returns-2 c =
+    let end = ends (lists c) in
+    let clear = past (end .before) in
+    let code = clear .before in
+    let z = eq-eqb (code .request-code .result) 0 (clear .if1 .left) in
+    let r = end .commit-at .ensures in
+    (rw (← at code, ← first code, z) (r .0), (rw (← at code, ← first code, z) (r .1 .0), rw (← at code, ← first code, z) (r .1 .1)))
 
 pub commit-spec : {M : Type 1} → statement M
 commit-spec =
@@ -96,18 +125,12 @@ commit-spec =
     place-of-requires
     coordinator-of-requires
     request-code-requires
+    refused-requires
     same-length
-    returns
-    mul-sub
-    array-copy-out-sub
-    all-heard-requires
-    counts-low-requires
-    commit-code-requires
     same-length-2
-    returns-2
-    commit-step-requires
-    mul-b
-    element-set-from-b
+    returns
+    commit-at-requires
     same-length-3
     same-length-4
-    returns-3)
+    same-length-5
+    returns-2)

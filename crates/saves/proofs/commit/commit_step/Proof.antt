@@ -1,109 +1,130 @@
 -- The abort of 12 or 19, or the request with its list.
-use Prim.Native.Nat.{_*_}
+use Prim.Native.Nat.{ℕ}
+use mathlib.Core.Path.{_≡_, sym, _∙_}
+use mathlib.Core.Bool.{Bool, true, false}
 use borrow.Author.Needs.{needs}
 use borrow.Author.Tests.{eq-eqb, ne-eqb}
-use lib.ListN.{length, take}
-use mathlib.Core.Bool.{false, true}
-use mathlib.Core.Path.{_∙_, _≡_, ap, sym}
-use native.Mathlib.Omega.{arith}
+use lib.ListN.{length}
 use Rattle.kinds.specs.State.{subAt}
-use Rattle.laws.specs.Overlay.{length-rest, overlay-back, put-part}
-use Rattle.rules.specs.Certify.{concurrent}
-use Rattle.rules.specs.CertifyLaws.{concurrent-whole}
+use Rattle.kinds.specs.declared.Site.{Site}
+use Rattle.kinds.specs.declared.Turn.{Turn}
 use Rattle.rules.specs.Commit.{isFull, isLost}
 use Rattle.rules.specs.CommitLaws.{commit-full, commit-lost, commit-request, lists-kept, lists-lost, lists-made}
+use Rattle.rules.specs.Course.{CanSendAll}
 use Rattle.rules.specs.Effect.{turnAt}
-use Rattle.kinds.specs.Sizes as sizes
+use Rattle.rules.specs.History.{isForgotten}
+use Rattle.lent.specs.Laws.{lent-lengths}
+use Rattle.lent.specs.Lent.{siteOf}
 use Rattle.saves.proofs.commit.commit_step.Statement.{statement}
 use Rattle.saves.proofs.commit.commit_step.Tie as tie
 
+abbrev lent : tie.After-slice-known2 → tie.After-shared-slice-known2
+lent c = c .before .before
+
+abbrev start : tie.After-slice-known2 → tie.Start
+start c = lent c .before .before
+
+abbrev begins : tie.After-struct-known → tie.Start
+begins c = start (c .before .before)
+
+abbrev handed : tie.Start → Site
+handed c = let a = c .args in siteOf (a .p) (a .live .now) (a .history .now)
+
+turned : (c : tie.After-struct-known) → let s = begins c in c .before .turn-at .result ≡ turnAt (handed s) (s .args .place)
+turned c = c .before .turn-at .ensures (begins c .args .history .now)
+
+-- the tests of the rule, by the turn's own course
+is-full : (s : Site) (place : ℕ) (t : Turn) → t ≡ turnAt s place → (t .sub .course .reason ≡ 0 → ⊥) → isFull s place ≡ true
+unfolding isFull turnAt
+is-full s place t e n = let m = rw e at n in rw (ne-eqb (subAt s place .course .reason) 0 m)
+
+not-full : (s : Site) (place : ℕ) (t : Turn) → t ≡ turnAt s place → t .sub .course .reason ≡ 0 → isFull s place ≡ false
+unfolding isFull turnAt
+not-full s place t e z = let y = rw e at z in rw (eq-eqb (subAt s place .course .reason) 0 y)
+
+lost-is : (s : Site) (place : ℕ) (t : Turn) (b : Bool) → t ≡ turnAt s place → b ≡ isForgotten (t .counters .installs) (t .sub .snapshot)
+    → isLost s place ≡ b
+unfolding turnAt
+lost-is s place t b e f = sym (rw e at f)
+
+full : (c : tie.Then1) → let s = begins (c .before) in isFull (handed s) (s .args .place) ≡ true
+full c = let s = begins (c .before) in is-full (handed s) (s .args .place) _ (turned (c .before)) (c .if1 .taken)
+
+listing : (c : tie.Else1) → let s = begins (c .before) in isFull (handed s) (s .args .place) ≡ false
+listing c = let s = begins (c .before) in not-full (handed s) (s .args .place) _ (turned (c .before)) (c .if1 .left)
+
+lost : (c : tie.After-is-forgotten) → let s = begins (c .before .before) in isLost (handed s) (s .args .place) ≡ c .is-forgotten .result
+lost c =
+    let known = c .before .before in
+    let s = begins known in
+    lost-is (handed s) (s .args .place) _ (c .is-forgotten .result) (turned known) (c .is-forgotten .ensures)
+
+can : (c : tie.After-struct-known) → CanSendAll (c .before .turn-at .result) (length (begins c .args .out .now))
+can c = rw (turned c) (begins c .pre .1)
+
 turn-at-requires : tie.Need-turn-at-requires
-turn-at-requires c κs = search needs
+turn-at-requires c κs =
+    let s = start c in
+    let a = s .args in
+    let p = s .pre .0 .0 in
+    (lent-lengths (a .p) (a .live .now) (a .history .now) (p .possible) .live, p .low)
 
 abort-step-requires : tie.Need-abort-step-requires
-abort-step-requires c κs = rw (c .before .before .before .turn-at .ensures) (c .before .before .before .before .before .before .pre .1)
+abort-step-requires c κs = can (c .before .before)
 
 same-length : tie.Need-same-length
 same-length c = search needs
 
 returns : tie.Need-returns
-unfolding isFull turnAt
-returns c = let t = c .before .before .before .before .before .before .turn-at .ensures in
-    let f : isFull (c .before .before .before .before .before .before .before .before .before .args .s) (c .before .before .before .before .before .before .before .before .before .args .place) ≡ true = rw (ne-eqb (subAt (c .before .before .before .before .before .before .before .before .before .args .s) (c .before .before .before .before .before .before .before .before .before .args .place) .course .reason) 0 (rw t at (c .before .before .before .before .if1 .taken))) in
-    let e = commit-full (c .before .before .before .before .before .before .before .before .before .args .s) (c .before .before .before .before .before .before .before .before .before .args .place) f in
-    (rw (e, c .before .before .abort-step .ensures .0, t), (sym (lists-kept (c .before .before .before .before .before .before .before .before .before .args .s) (c .before .before .before .before .before .before .before .before .before .args .place) (c .before .before .before .before .before .before .before .before .before .args .lists .now) f), rw (e, c .before .before .abort-step .ensures .1, t)))
+returns c =
+    let end = c .before .before in
+    let then = end .before .before in
+    let s = begins (then .before) in
+    let a = s .args in
+    let t = turned (then .before) in
+    let e = commit-full (handed s) (a .place) (full then) in (
+      rw (e, ← t) (end .abort-step .ensures .0),
+      (sym (lists-kept (handed s) (a .place) (a .lists .now) (full then)), rw (e, ← t) (end .abort-step .ensures .1)),
+    )
+
+-- the test for a forgotten install, seen from the abort of 19
+abbrev asked : tie.After-abort-step-arg2 → tie.After-is-forgotten
+asked c = c .before .before
 
 is-forgotten-requires : tie.Need-is-forgotten-requires
 is-forgotten-requires c κs = search needs
 
 abort-step-requires-2 : tie.Need-abort-step-requires-2
-abort-step-requires-2 c κs = rw (c .before .before .before .before .before .before .turn-at .ensures) (c .before .before .before .before .before .before .before .before .before .pre .1)
+abort-step-requires-2 c κs = let else = asked c .before in can (else .before)
 
 same-length-2 : tie.Need-same-length-2
 same-length-2 c = search needs
 
 returns-2 : tie.Need-returns-2
-unfolding isFull turnAt
-returns-2 c = let t = c .before .before .before .before .before .before .before .before .before .turn-at .ensures in
-    let f : isFull (c .before .before .before .before .before .before .before .before .before .before .before .before .args .s) (c .before .before .before .before .before .before .before .before .before .before .before .before .args .place) ≡ false = rw (eq-eqb (subAt (c .before .before .before .before .before .before .before .before .before .before .before .before .args .s) (c .before .before .before .before .before .before .before .before .before .before .before .before .args .place) .course .reason) 0 (rw t at (c .before .before .before .before .before .before .before .if1 .left))) in
-    let l : isLost (c .before .before .before .before .before .before .before .before .before .before .before .before .args .s) (c .before .before .before .before .before .before .before .before .before .before .before .before .args .place) ≡ true = sym (rw t at (c .before .before .before .before .before .is-forgotten .ensures)) ∙ c .before .before .before .before .if2 .taken in
-    let e = commit-lost (c .before .before .before .before .before .before .before .before .before .before .before .before .args .s) (c .before .before .before .before .before .before .before .before .before .before .before .before .args .place) f l in
-    (rw (e, c .before .before .abort-step2 .ensures .0, t), (sym (lists-lost (c .before .before .before .before .before .before .before .before .before .before .before .before .args .s) (c .before .before .before .before .before .before .before .before .before .before .before .before .args .place) (c .before .before .before .before .before .before .before .before .before .before .before .before .args .lists .now) f l), rw (e, c .before .before .abort-step2 .ensures .1, t)))
+returns-2 c =
+    let end = c .before .before in
+    let test = asked (end .before) in
+    let else = test .before in
+    let s = begins (else .before) in
+    let a = s .args in
+    let t = turned (else .before) in
+    let l = lost test ∙ end .before .before .if2 .taken in
+    let e = commit-lost (handed s) (a .place) (listing else) l in (
+      rw (e, ← t) (end .abort-step2 .ensures .0),
+      (sym (lists-lost (handed s) (a .place) (a .lists .now) (listing else) l), rw (e, ← t) (end .abort-step2 .ensures .1)),
+    )
 
-slice-aggregate-concurrent : tie.Need-slice-aggregate-concurrent
-slice-aggregate-concurrent c = search needs
+-- past both tests
+abbrev tested : tie.After-list-step-arg2 → tie.Else2
+tested c = c .before .before
 
-concurrent-requires : tie.Need-concurrent-requires
-concurrent-requires c κs = (c .before .before .before .before .before .before .before .before .before .pre .0 .0, (c .before .before .before .before .before .before .before .before .before .pre .0 .1 .0, search needs))
+list-step-requires : tie.Need-list-step-requires
+list-step-requires c κs =
+    let else = tested c .before .before in
+    begins (else .before) .pre
 
-mul-e : tie.Need-mul-e
-mul-e c = omega (arith, c .before .concurrent .ensures .0 .0)
-
-mul-at : tie.Need-mul-at
-mul-at c = search needs
-
-mul-copy-words : tie.Need-mul-copy-words
-mul-copy-words c = search needs
-
-sub-copy-words : tie.Need-sub-copy-words
-sub-copy-words c = search needs
-
-part-copy-words-start : tie.Need-part-copy-words-start
-part-copy-words-start c = search needs
-
-part-copy-words-end : tie.Need-part-copy-words-end
-part-copy-words-end c = search needs
-
-array-share-prefix-own : tie.Need-array-share-prefix-own
-array-share-prefix-own c = omega (arith, c .before .before .concurrent .ensures .0 .0)
-
-slice-aggregate-copy-words : tie.Need-slice-aggregate-copy-words
-slice-aggregate-copy-words c = let k = c .before .before .before .concurrent .ensures in
-    let w : length (concurrent (c .before .before .before .before .before .before .before .before .before .before .before .before .before .args .s) (c .before .before .before .before .before .before .before .before .before .before .before .before .before .args .place)) ≡ sizes.entry * c .before .before .before .concurrent .result = omega (arith, concurrent-whole (c .before .before .before .before .before .before .before .before .before .before .before .before .before .args .s) (c .before .before .before .before .before .before .before .before .before .before .before .before .before .args .place), k .0 .1) in
-    let b = ap (take (sizes.entry * c .before .before .before .concurrent .result)) (k .1) ∙ overlay-back _ _ (sizes.entry * c .before .before .before .concurrent .result) w in
-    sym (ap length b ∙ w)
-
-copy-words-requires : tie.Need-copy-words-requires
-copy-words-requires c κs = let k = c .before .before .before .concurrent .ensures in
-    let w : length (concurrent (c .before .before .before .before .before .before .before .before .before .before .before .before .before .args .s) (c .before .before .before .before .before .before .before .before .before .before .before .before .before .args .place)) ≡ sizes.entry * c .before .before .before .concurrent .result = omega (arith, concurrent-whole (c .before .before .before .before .before .before .before .before .before .before .before .before .before .args .s) (c .before .before .before .before .before .before .before .before .before .before .before .before .before .args .place), k .0 .1) in
-    let b = ap (take (sizes.entry * c .before .before .before .concurrent .result)) (k .1) ∙ overlay-back _ _ (sizes.entry * c .before .before .before .concurrent .result) w in
-    let l = ap length b ∙ w in
-    omega (arith, l, k .0 .0, c .before .before .before .before .before .before .before .before .before .before .before .before .before .pre .0 .1 .1, length-rest (c .before .before .before .before .before .before .before .before .before .before .before .before .before .args .lists .now) (sizes.gathered * c .before .before .before .before .before .before .before .before .before .before .before .before .before .args .place))
-
-array-share-prefix-own-2 : tie.Need-array-share-prefix-own-2
-array-share-prefix-own-2 c = omega (arith, c .before .before .before .before .before .before .concurrent .ensures .0 .0)
-
-slice-aggregate-request-step : tie.Need-slice-aggregate-request-step
-slice-aggregate-request-step c = let k = c .before .before .before .before .before .before .before .concurrent .ensures in
-    let w : length (concurrent (c .before .before .before .before .before .before .before .before .before .before .before .before .before .before .before .before .before .args .s) (c .before .before .before .before .before .before .before .before .before .before .before .before .before .before .before .before .before .args .place)) ≡ sizes.entry * c .before .before .before .before .before .before .before .concurrent .result = omega (arith, concurrent-whole (c .before .before .before .before .before .before .before .before .before .before .before .before .before .before .before .before .before .args .s) (c .before .before .before .before .before .before .before .before .before .before .before .before .before .before .before .before .before .args .place), k .0 .1) in
-    let b = ap (take (sizes.entry * c .before .before .before .before .before .before .before .concurrent .result)) (k .1) ∙ overlay-back _ _ (sizes.entry * c .before .before .before .before .before .before .before .concurrent .result) w in
-    sym (ap length b ∙ w)
-
-request-step-requires : tie.Need-request-step-requires
-request-step-requires c κs = let k = c .before .before .before .before .before .before .before .before .concurrent .ensures in
-    let w : length (concurrent (c .before .before .before .before .before .before .before .before .before .before .before .before .before .before .before .before .before .before .args .s) (c .before .before .before .before .before .before .before .before .before .before .before .before .before .before .before .before .before .before .args .place)) ≡ sizes.entry * c .before .before .before .before .before .before .before .before .concurrent .result = omega (arith, concurrent-whole (c .before .before .before .before .before .before .before .before .before .before .before .before .before .before .before .before .before .before .args .s) (c .before .before .before .before .before .before .before .before .before .before .before .before .before .before .before .before .before .before .args .place), k .0 .1) in
-    let b = ap (take (sizes.entry * c .before .before .before .before .before .before .before .before .concurrent .result)) (k .1) ∙ overlay-back _ _ (sizes.entry * c .before .before .before .before .before .before .before .before .concurrent .result) w in
-    ((c .before .before .before .before .before .before .before .before .before .before .before .before .before .before .before .before .before .before .pre .0 .0, (c .before .before .before .before .before .before .before .before .before .before .before .before .before .before .before .before .before .before .pre .0 .1 .0, (ap length b ∙ w, omega (arith, k .0 .0)))), c .before .before .before .before .before .before .before .before .before .before .before .before .before .before .before .before .before .before .pre .1)
+abbrev ends : tie.After-slice-known5 → tie.After-list-step
+ends c = c .before .before
 
 same-length-3 : tie.Need-same-length-3
 same-length-3 c = search needs
@@ -112,15 +133,18 @@ same-length-4 : tie.Need-same-length-4
 same-length-4 c = search needs
 
 returns-3 : tie.Need-returns-3
-unfolding isFull turnAt
-returns-3 c = let k = c .before .before .before .before .before .before .before .before .before .before .before .concurrent .ensures in
-    let w : length (concurrent (c .before .before .before .before .before .before .before .before .before .before .before .before .before .before .before .before .before .before .before .before .before .args .s) (c .before .before .before .before .before .before .before .before .before .before .before .before .before .before .before .before .before .before .before .before .before .args .place)) ≡ sizes.entry * c .before .before .before .before .before .before .before .before .before .before .before .concurrent .result = omega (arith, concurrent-whole (c .before .before .before .before .before .before .before .before .before .before .before .before .before .before .before .before .before .before .before .before .before .args .s) (c .before .before .before .before .before .before .before .before .before .before .before .before .before .before .before .before .before .before .before .before .before .args .place), k .0 .1) in
-    let b = ap (take (sizes.entry * c .before .before .before .before .before .before .before .before .before .before .before .concurrent .result)) (k .1) ∙ overlay-back _ _ (sizes.entry * c .before .before .before .before .before .before .before .before .before .before .before .concurrent .result) w in
-    let t = c .before .before .before .before .before .before .before .before .before .before .before .before .before .before .before .before .before .before .turn-at .ensures in
-    let f : isFull (c .before .before .before .before .before .before .before .before .before .before .before .before .before .before .before .before .before .before .before .before .before .args .s) (c .before .before .before .before .before .before .before .before .before .before .before .before .before .before .before .before .before .before .before .before .before .args .place) ≡ false = rw (eq-eqb (subAt (c .before .before .before .before .before .before .before .before .before .before .before .before .before .before .before .before .before .before .before .before .before .args .s) (c .before .before .before .before .before .before .before .before .before .before .before .before .before .before .before .before .before .before .before .before .before .args .place) .course .reason) 0 (rw t at (c .before .before .before .before .before .before .before .before .before .before .before .before .before .before .before .before .if1 .left))) in
-    let l : isLost (c .before .before .before .before .before .before .before .before .before .before .before .before .before .before .before .before .before .before .before .before .before .args .s) (c .before .before .before .before .before .before .before .before .before .before .before .before .before .before .before .before .before .before .before .before .before .args .place) ≡ false = sym (rw t at (c .before .before .before .before .before .before .before .before .before .before .before .before .before .before .is-forgotten .ensures)) ∙ c .before .before .before .before .before .before .before .before .before .before .before .before .before .if2 .left in
-    let e = commit-request (c .before .before .before .before .before .before .before .before .before .before .before .before .before .before .before .before .before .before .before .before .before .args .s) (c .before .before .before .before .before .before .before .before .before .before .before .before .before .before .before .before .before .before .before .before .before .args .place) f l in
-    (rw (e, ← b) (c .before .before .request-step .ensures .0), (put-part (c .before .before .before .before .before .before .before .before .before .before .before .before .before .before .before .before .before .before .before .before .before .args .lists .now) (c .before .before .before .before .before .before .before .copy-words .last .0) (concurrent (c .before .before .before .before .before .before .before .before .before .before .before .before .before .before .before .before .before .before .before .before .before .args .s) (c .before .before .before .before .before .before .before .before .before .before .before .before .before .before .before .before .before .before .before .before .before .args .place)) (sizes.gathered * c .before .before .before .before .before .before .before .before .before .before .before .before .before .before .before .before .before .before .before .before .before .args .place) (rw (← b) (c .before .before .before .before .before .before .before .copy-words .ensures)) ∙ sym (lists-made (c .before .before .before .before .before .before .before .before .before .before .before .before .before .before .before .before .before .before .before .before .before .args .s) (c .before .before .before .before .before .before .before .before .before .before .before .before .before .before .before .before .before .before .before .before .before .args .place) (c .before .before .before .before .before .before .before .before .before .before .before .before .before .before .before .before .before .before .before .before .before .args .lists .now) f l), rw (e, ← b) (c .before .before .request-step .ensures .1)))
+returns-3 c =
+    let end = ends (c .before .before) in
+    let last = tested (end .before) in
+    let test = last .before in
+    let else = test .before in
+    let s = begins (else .before) in
+    let a = s .args in
+    let l = lost test ∙ last .if2 .left in
+    let e = commit-request (handed s) (a .place) (listing else) l in
+    let made = lists-made (handed s) (a .place) (a .lists .now) (listing else) l in
+    let r = end .list-step .ensures in
+    (rw e (r .0), (rw made (r .1 .0), rw e (r .1 .1)))
 
 pub commit-step-spec : {M : Type 1} → statement M
 commit-step-spec =
@@ -134,20 +158,7 @@ commit-step-spec =
     abort-step-requires-2
     same-length-2
     returns-2
-    slice-aggregate-concurrent
-    concurrent-requires
-    mul-e
-    mul-at
-    mul-copy-words
-    sub-copy-words
-    part-copy-words-start
-    part-copy-words-end
-    array-share-prefix-own
-    slice-aggregate-copy-words
-    copy-words-requires
-    array-share-prefix-own-2
-    slice-aggregate-request-step
-    request-step-requires
+    list-step-requires
     same-length-3
     same-length-4
     returns-3)

@@ -1,13 +1,35 @@
--- Refused, or the new part at the free place.
+-- Refused, or the new part settled at the free place.
+use mathlib.Core.Path.{_≡_, sym, _∙_}
+use mathlib.Core.List.{[]}
+use native.Mathlib.Omega.{arith}
 use borrow.Author.Needs.{needs}
 use borrow.Author.Tests.{eq-eqb, ne-eqb}
-use mathlib.Core.Path.{_∙_, sym}
-use native.Mathlib.Omega.{arith}
-use Rattle.rules.specs.Begin.{begin-clear, beginOf, begun}
-use Rattle.rules.specs.Effect.{outOf, settle}
+use Rattle.kinds.specs.declared.Site.{Site}
+use Rattle.rules.specs.Begin.{BeginClear, begin-clear, beginCode, beginOf, begun}
+use Rattle.rules.specs.Live.{freePlace}
+use Rattle.rules.specs.Valid.{siteOk}
 use Rattle.rules.specs.ValidLaws.{valid-site}
+use Rattle.lent.specs.Laws.{lent-lengths}
+use Rattle.lent.specs.Lent.{siteOf}
 use Rattle.site.proofs.begin.begin.Statement.{statement}
 use Rattle.site.proofs.begin.begin.Tie as tie
+
+abbrev start : tie.After-site-ok-arg → tie.Start
+start c = c .before .before .before
+
+abbrev looked : tie.After-begin-code → tie.After-site-ok
+looked c = c .before .before .before
+
+-- the site that the call is handed
+abbrev handed : tie.After-begin-code → Site
+handed c = let a = start (looked c .before) .args in siteOf (a .p) (a .live .now) (a .history .now)
+
+-- the first cause against the call, and what it says where there is none
+first : (c : tie.After-begin-code) → c .begin-code .result ≡ beginCode (siteOk (handed c)) (handed c .counters) (freePlace (handed c .live))
+first c = rw (← looked c .site-ok .ensures, ← c .before .free-place .ensures (start (looked c .before) .args .live .now)) (c .begin-code .ensures)
+
+clear : (c : tie.Else1) → BeginClear (siteOk (handed (c .before))) (handed (c .before) .counters) (freePlace (handed (c .before) .live))
+clear c = begin-clear _ _ _ (sym (first (c .before)) ∙ c .if1 .left)
 
 site-ok-requires : tie.Need-site-ok-requires
 site-ok-requires c κs = search needs
@@ -18,35 +40,45 @@ free-place-requires c κs = search needs
 begin-code-requires : tie.Need-begin-code-requires
 begin-code-requires c κs = search needs
 
+refused-requires : tie.Need-refused-requires
+refused-requires c κs = search needs
+
+same-length : tie.Need-same-length
+same-length c = search needs
+
 returns : tie.Need-returns
-unfolding outOf beginOf
-returns c = simp (← c .before .before .before .before .before .site-ok .ensures, ← c .before .before .before .free-place .ensures, ← c .before .begin-code .ensures, ne-eqb (c .before .begin-code .result) 0 (c .if1 .taken))
+unfolding beginOf
+returns c =
+    let code = c .before .before in
+    rw (← first code, ne-eqb (code .begin-code .result) 0 (c .before .if1 .taken)) (c .refused .ensures _ _ [])
 
-next-tx-requires : tie.Need-next-tx-requires
-next-tx-requires c κs = let h = begin-clear _ _ _ (sym (c .before .begin-code .ensures) ∙ c .if1 .left) in
-    let v = valid-site (c .before .before .before .before .before .before .args .s) (sym (c .before .before .before .before .before .site-ok .ensures) ∙ h .valid) .house in
-    (omega (arith, v .own-high, v .few-sites), h .unspent)
+begun-requires : tie.Need-begun-requires
+begun-requires c κs =
+    let h = clear c in
+    let v = valid-site (handed (c .before)) (h .valid) .house in
+    (v .own-low, (omega (arith, v .own-high, v .few-sites), h .unspent))
 
-mask-of-requires : tie.Need-mask-of-requires
-mask-of-requires c κs = let h = begin-clear _ _ _ (sym (c .before .before .begin-code .ensures) ∙ c .before .if1 .left) in
-    let v = valid-site (c .before .before .before .before .before .before .before .args .s) (sym (c .before .before .before .before .before .before .site-ok .ensures) ∙ h .valid) .house in
-    (v .own-low, omega (arith, v .own-high, v .few-sites))
+settled-requires : tie.Need-settled-requires
+settled-requires c κs =
+    let past = c .before .before in
+    let h = clear past in
+    let a = start (looked (past .before) .before) .args in (
+      lent-lengths (a .p) (a .live .now) (a .history .now) (h .valid) .live,
+      rw (past .before .before .free-place .ensures (a .live .now)) (h .free),
+    )
 
-new-sub-requires : tie.Need-new-sub-requires
-new-sub-requires c κs = search needs
-
-add-c : tie.Need-add-c
-add-c c = let h = begin-clear _ _ _ (sym (c .before .before .before .before .before .begin-code .ensures) ∙ c .before .before .before .before .if1 .left) in omega (arith, h .unspent)
-
-mul-sub : tie.Need-mul-sub
-mul-sub c = let h = begin-clear _ _ _ (sym (c .before .before .before .before .before .begin-code .ensures) ∙ c .before .before .before .before .if1 .left) in omega (arith, h .free)
-
-element-set-from-sub : tie.Need-element-set-from-sub
-element-set-from-sub c = let h = begin-clear _ _ _ (sym (c .before .before .before .before .before .begin-code .ensures) ∙ c .before .before .before .before .if1 .left) in h .free
+same-length-2 : tie.Need-same-length-2
+same-length-2 c = search needs
 
 returns-2 : tie.Need-returns-2
-unfolding outOf beginOf begun settle
-returns-2 c = simp (← c .before .before .before .before .before .before .before .before .before .site-ok .ensures, ← c .before .before .before .before .before .before .before .free-place .ensures, ← c .before .before .before .before .before .begin-code .ensures, eq-eqb (c .before .before .before .before .before .begin-code .result) 0 (c .before .before .before .before .if1 .left), c .before .new-sub .ensures, c .before .before .before .next-tx .ensures, c .before .before .mask-of .ensures)
+unfolding beginOf
+returns-2 c =
+    let end = c .before .before in
+    let past = end .before .before .before in
+    let code = past .before in
+    let a = start (looked code .before) .args in
+    rw (← first code, eq-eqb (code .begin-code .result) 0 (past .if1 .left), ← code .before .free-place .ensures (a .live .now))
+    (end .settled .ensures (begun (handed code)) (end .before .before .begun .ensures (a .live .now) (a .history .now)) (a .history .now) [])
 
 pub begin-spec : {M : Type 1} → statement M
 begin-spec =
@@ -55,11 +87,10 @@ begin-spec =
     site-ok-requires
     free-place-requires
     begin-code-requires
+    refused-requires
+    same-length
     returns
-    next-tx-requires
-    mask-of-requires
-    new-sub-requires
-    add-c
-    mul-sub
-    element-set-from-sub
+    begun-requires
+    settled-requires
+    same-length-2
     returns-2)

@@ -1,21 +1,71 @@
--- Refused by the call's causes, by the joiner's, or JOIN sent.
-use borrow.Author.Needs.{needs}
-use borrow.Author.Tests.{eq-eqb, leb-false, ne-eqb}
-use mathlib.Core.Path.{_∙_, sym}
+-- Refused, or a participant more for the transaction's part.
+use mathlib.Core.Path.{_≡_, sym, _∙_}
+use mathlib.Core.List.{[]}
+use Prim.Native.Nat.{ℕ}
 use native.Mathlib.Omega.{arith}
+use borrow.Author.Needs.{needs}
+use borrow.Author.Tests.{eq-eqb, ne-eqb}
+use lib.Dec.{eqb}
+use lib.ListN.{length}
 use Rattle.laws.specs.Overlay.{overlay-none}
-use Rattle.rules.specs.CallLaws.{enlist-clear, joiner-clear}
-use Rattle.rules.specs.Course.{channelSpent}
-use Rattle.rules.specs.Effect.{outOf, settle, takenOf, turnAt}
-use Rattle.rules.specs.Enlist.{enlistAt, enlistOf}
+use Rattle.kinds.specs.declared.Site.{Site}
+use Rattle.rules.specs.CallLaws.{EnlistClear, enlist-clear}
 use Rattle.rules.specs.MessageLaws.{site-clear}
+use Rattle.rules.specs.Enlist.{enlistCode, enlistOf, isMine}
+use Rattle.rules.specs.House.{isSite}
+use Rattle.rules.specs.Live.{placeOf}
+use Rattle.rules.specs.Valid.{siteOk}
 use Rattle.rules.specs.ValidLaws.{valid-site}
-use Rattle.kinds.specs.Sizes as sizes
+use Rattle.lent.specs.Lent.{siteOf}
 use Rattle.site.proofs.enlist.enlist.Statement.{statement}
 use Rattle.site.proofs.enlist.enlist.Tie as tie
 
+abbrev lent : tie.After-site-ok-arg → tie.After-shared-slice-known
+lent c = c .before .before
+
+abbrev start : tie.After-site-ok-arg → tie.Start
+start c = lent c .before .before
+
+abbrev looked : tie.After-place-of → tie.After-site-ok
+looked c = c .before .before .before
+
+abbrev known : tie.After-enlist-code → tie.After-is-site
+known c = c .before .before .before
+
+abbrev placed : tie.After-enlist-code → tie.After-place-of
+placed c = known c .before
+
+abbrev begins : tie.After-enlist-code → tie.Start
+begins c = start (looked (placed c) .before)
+
+abbrev handed : tie.Start → Site
+handed c = let a = c .args in siteOf (a .p) (a .live .now) (a .history .now)
+
+-- the place of the transaction, and the first cause against the call
+at : (c : tie.After-enlist-code) → placed c .place-of .result ≡ placeOf (handed (begins c) .live) (begins c .args .tx)
+at c = placed c .place-of .ensures (begins c .args .live .now)
+
+first : (c : tie.After-enlist-code) → let s = begins c in let site = handed s in
+    c .enlist-code .result
+    ≡ enlistCode (siteOk site) (length (s .args .out .now)) (isSite (site .house) (s .args .site)) (placed c .place-of .result) (isMine site (s .args .tx))
+first c =
+    rw (
+      ← looked (placed c) .site-ok .ensures,
+      ← placed c .before .before .lent-house .ensures,
+      ← known c .is-site .ensures,
+      ← c .before .before .coordinator-of .ensures,
+    )
+    (c .enlist-code .ensures)
+
+clear : (c : tie.Else1) → let s = begins (c .before) in let site = handed s in
+    EnlistClear (siteOk site) (length (s .args .out .now)) (isSite (site .house) (s .args .site)) (placed (c .before) .place-of .result) (isMine site (s .args .tx))
+clear c = enlist-clear _ _ _ _ _ (sym (first (c .before)) ∙ c .if1 .left)
+
 site-ok-requires : tie.Need-site-ok-requires
 site-ok-requires c κs = search needs
+
+lent-house-requires : tie.Need-lent-house-requires
+lent-house-requires c κs = search needs
 
 place-of-requires : tie.Need-place-of-requires
 place-of-requires c κs = search needs
@@ -29,80 +79,61 @@ coordinator-of-requires c κs = search needs
 enlist-code-requires : tie.Need-enlist-code-requires
 enlist-code-requires c κs = search needs
 
-returns : tie.Need-returns
-unfolding outOf enlistOf
-returns c = let n = ne-eqb (c .before .enlist-code .result) 0 (c .if1 .taken) in
-    let e = c .before .enlist-code .ensures in
-    (simp (← c .before .before .before .before .before .before .before .before .before .site-ok .ensures, ← c .before .before .before .before .place-of .ensures, ← c .before .before .before .is-site .ensures, ← c .before .before .coordinator-of .ensures, ← e, n), simp (← c .before .before .before .before .before .before .before .before .before .site-ok .ensures, ← c .before .before .before .before .place-of .ensures, ← c .before .before .before .is-site .ensures, ← c .before .before .coordinator-of .ensures, ← e, n) (overlay-none (c .before .before .before .before .before .before .before .before .before .before .before .args .out .now)))
-
-mul-sub : tie.Need-mul-sub
-mul-sub c = omega (arith, enlist-clear _ _ _ _ _ (sym (c .before .enlist-code .ensures) ∙ c .if1 .left) .held)
-
-array-copy-out-sub : tie.Need-array-copy-out-sub
-array-copy-out-sub c = enlist-clear _ _ _ _ _ (sym (c .before .enlist-code .ensures) ∙ c .if1 .left) .held
-
-in-mask-requires : tie.Need-in-mask-requires
-in-mask-requires c κs = let h = enlist-clear _ _ _ _ _ (sym (c .before .before .enlist-code .ensures) ∙ c .before .if1 .left) in
-    let v = valid-site (c .before .before .before .before .before .before .before .before .before .before .before .before .args .s) (sym (c .before .before .before .before .before .before .before .before .before .before .site-ok .ensures) ∙ h .valid) .house in
-    let k = site-clear (c .before .before .before .before .before .before .before .before .before .before .before .before .args .s .house) (c .before .before .before .before .before .before .before .before .before .before .before .before .args .site) (sym (c .before .before .before .before .is-site .ensures) ∙ h .site) in
-    (k .low, omega (arith, k .high, v .few-sites))
-
-channel-spent-requires : tie.Need-channel-spent-requires
-channel-spent-requires c κs = let h = enlist-clear _ _ _ _ _ (sym (c .before .before .before .enlist-code .ensures) ∙ c .before .before .if1 .left) in
-    let v = valid-site (c .before .before .before .before .before .before .before .before .before .before .before .before .before .args .s) (sym (c .before .before .before .before .before .before .before .before .before .before .before .site-ok .ensures) ∙ h .valid) .house in
-    let k = site-clear (c .before .before .before .before .before .before .before .before .before .before .before .before .before .args .s .house) (c .before .before .before .before .before .before .before .before .before .before .before .before .before .args .site) (sym (c .before .before .before .before .before .is-site .ensures) ∙ h .site) in
-    (k .low, omega (arith, k .high, v .few-sites))
-
-joiner-code-requires : tie.Need-joiner-code-requires
-joiner-code-requires c κs = search needs
-
-returns-2 : tie.Need-returns-2
-unfolding outOf enlistOf enlistAt
-returns-2 c = let z = eq-eqb (c .before .before .before .before .before .before .enlist-code .result) 0 (c .before .before .before .before .before .if1 .left) in
-    let n = ne-eqb (c .before .joiner-code .result) 0 (c .if2 .taken) in
-    (simp (← c .before .before .before .before .before .before .before .before .before .before .before .before .before .before .site-ok .ensures, ← c .before .before .before .before .before .before .before .before .before .place-of .ensures, ← c .before .before .before .before .before .before .before .before .is-site .ensures, ← c .before .before .before .before .before .before .before .coordinator-of .ensures, ← c .before .before .before .before .before .before .enlist-code .ensures, z, ← c .before .before .before .in-mask .ensures, ← c .before .before .channel-spent .ensures, ← c .before .joiner-code .ensures, n), simp (← c .before .before .before .before .before .before .before .before .before .before .before .before .before .before .site-ok .ensures, ← c .before .before .before .before .before .before .before .before .before .place-of .ensures, ← c .before .before .before .before .before .before .before .before .is-site .ensures, ← c .before .before .before .before .before .before .before .coordinator-of .ensures, ← c .before .before .before .before .before .before .enlist-code .ensures, z, ← c .before .before .before .in-mask .ensures, ← c .before .before .channel-spent .ensures, ← c .before .joiner-code .ensures, n) (overlay-none (c .before .before .before .before .before .before .before .before .before .before .before .before .before .before .before .before .args .out .now)))
-
-enlist-step-requires : tie.Need-enlist-step-requires
-unfolding channelSpent
-enlist-step-requires c κs = let h = enlist-clear _ _ _ _ _ (sym (c .before .before .before .before .before .before .before .enlist-code .ensures) ∙ c .before .before .before .before .before .before .if1 .left) in
-    let j = joiner-clear _ _ _ _ (sym (c .before .before .joiner-code .ensures) ∙ c .before .if2 .left) in
-    let v = valid-site (c .before .before .before .before .before .before .before .before .before .before .before .before .before .before .before .before .before .args .s) (sym (c .before .before .before .before .before .before .before .before .before .before .before .before .before .before .before .site-ok .ensures) ∙ h .valid) .house in
-    let k = site-clear (c .before .before .before .before .before .before .before .before .before .before .before .before .before .before .before .before .before .args .s .house) (c .before .before .before .before .before .before .before .before .before .before .before .before .before .before .before .before .before .args .site) (sym (c .before .before .before .before .before .before .before .before .before .is-site .ensures) ∙ h .site) in
-    record { long = h .long; first = k .low; last = omega (arith, k .high, v .few-sites); low = leb-false sizes.last _ (sym (c .before .before .before .channel-spent .ensures) ∙ j .low) }
-
-mul-b : tie.Need-mul-b
-mul-b c = omega (arith, enlist-clear _ _ _ _ _ (sym (c .before .before .before .before .before .before .before .before .before .before .before .before .before .before .enlist-code .ensures) ∙ c .before .before .before .before .before .before .before .before .before .before .before .before .before .if1 .left) .held)
-
-element-set-from-b : tie.Need-element-set-from-b
-element-set-from-b c = enlist-clear _ _ _ _ _ (sym (c .before .before .before .before .before .before .before .before .before .before .before .before .before .before .enlist-code .ensures) ∙ c .before .before .before .before .before .before .before .before .before .before .before .before .before .if1 .left) .held
+refused-requires : tie.Need-refused-requires
+refused-requires c κs = search needs
 
 same-length : tie.Need-same-length
 same-length c = search needs
 
-returns-3 : tie.Need-returns-3
-unfolding outOf enlistOf enlistAt settle turnAt takenOf
-returns-3 c = let z = eq-eqb (c .before .before .before .before .before .before .before .before .before .before .before .before .before .before .enlist-code .result) 0 (c .before .before .before .before .before .before .before .before .before .before .before .before .before .if1 .left) in
-    let y = eq-eqb (c .before .before .before .before .before .before .before .before .before .joiner-code .result) 0 (c .before .before .before .before .before .before .before .before .if2 .left) in
-    (simp (← c .before .before .before .before .before .before .before .before .before .before .before .before .before .before .before .before .before .before .before .before .before .before .site-ok .ensures, ← c .before .before .before .before .before .before .before .before .before .before .before .before .before .before .before .before .before .place-of .ensures, ← c .before .before .before .before .before .before .before .before .before .before .before .before .before .before .before .before .is-site .ensures, ← c .before .before .before .before .before .before .before .before .before .before .before .before .before .before .before .coordinator-of .ensures, ← c .before .before .before .before .before .before .before .before .before .before .before .before .before .before .enlist-code .ensures, z, ← c .before .before .before .before .before .before .before .before .before .before .before .in-mask .ensures, ← c .before .before .before .before .before .before .before .before .before .before .channel-spent .ensures, ← c .before .before .before .before .before .before .before .before .before .joiner-code .ensures, y, c .before .before .before .before .before .before .enlist-step .ensures .0), simp (← c .before .before .before .before .before .before .before .before .before .before .before .before .before .before .before .before .before .before .before .before .before .before .site-ok .ensures, ← c .before .before .before .before .before .before .before .before .before .before .before .before .before .before .before .before .before .place-of .ensures, ← c .before .before .before .before .before .before .before .before .before .before .before .before .before .before .before .before .is-site .ensures, ← c .before .before .before .before .before .before .before .before .before .before .before .before .before .before .before .coordinator-of .ensures, ← c .before .before .before .before .before .before .before .before .before .before .before .before .before .before .enlist-code .ensures, z, ← c .before .before .before .before .before .before .before .before .before .before .before .in-mask .ensures, ← c .before .before .before .before .before .before .before .before .before .before .channel-spent .ensures, ← c .before .before .before .before .before .before .before .before .before .joiner-code .ensures, y, c .before .before .before .before .before .before .enlist-step .ensures .1))
+returns : tie.Need-returns
+unfolding enlistOf
+returns c =
+    let code = c .before .before in
+    let n = ne-eqb (code .enlist-code .result) 0 (c .before .if1 .taken) in
+    (rw (← at code, ← first code, n) (c .refused .ensures _ _ []), rw (← at code, ← first code, n) (overlay-none (begins code .args .out .now)))
+
+enlist-at-requires : tie.Need-enlist-at-requires
+enlist-at-requires c κs =
+    let past = c .before .before in
+    let h = clear past in
+    let s = begins (past .before) in
+    let v = valid-site (handed s) (h .valid) .house in
+    let k = site-clear (handed s .house) (s .args .site) (h .site) in
+    (record { possible = h .valid; low = h .held }, (k .low, (omega (arith, k .high, v .few-sites), h .long)))
+
+same-length-2 : tie.Need-same-length-2
+same-length-2 c = search needs
+
+same-length-3 : tie.Need-same-length-3
+same-length-3 c = search needs
+
+-- the part's own enlisting
+abbrev ends : tie.After-slice-known3 → tie.After-enlist-at
+ends c = c .before .before
+
+returns-2 : tie.Need-returns-2
+unfolding enlistOf
+returns-2 c =
+    let end = ends (c .before .before) in
+    let past = end .before .before .before in
+    let code = past .before in
+    let z = eq-eqb (code .enlist-code .result) 0 (past .if1 .left) in
+    (rw (← at code, ← first code, z) (end .enlist-at .ensures .0), rw (← at code, ← first code, z) (end .enlist-at .ensures .1))
 
 pub enlist-spec : {M : Type 1} → statement M
 enlist-spec =
     tie.close
     (tie.spec
     site-ok-requires
+    lent-house-requires
     place-of-requires
     is-site-requires
     coordinator-of-requires
     enlist-code-requires
-    returns
-    mul-sub
-    array-copy-out-sub
-    in-mask-requires
-    channel-spent-requires
-    joiner-code-requires
-    returns-2
-    enlist-step-requires
-    mul-b
-    element-set-from-b
+    refused-requires
     same-length
-    returns-3)
+    returns
+    enlist-at-requires
+    same-length-2
+    same-length-3
+    returns-2)

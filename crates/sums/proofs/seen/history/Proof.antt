@@ -1,14 +1,15 @@
--- Each turn takes one of the places.
+-- Each turn takes one of the installs.
 use Prim.Native.Nat.{_-_}
 use borrow.Author.Needs.{needs}
+use Rattle.kinds.specs.Sizes as sizes
 use Rattle.sums.proofs.seen.history.Statement.{statement}
 use Rattle.sums.proofs.seen.history.Tie as tie
 
 abbrev Inv-loop : tie.InvT-loop
-Inv-loop installs t sum₀ n₀ i₀ sum n i = Unit {0}
+Inv-loop ws installs sum₀ n₀ i₀ sum n i = Unit {0}
 
 abbrev μ-loop : tie.MeasureT-loop
-μ-loop installs t sum₀ n₀ i₀ sum n i = 32 - i
+μ-loop ws installs sum₀ n₀ i₀ sum n i = sizes.history - i
 
 loop-holds : tie.Need-loop-holds Inv-loop μ-loop
 loop-holds c = search needs
@@ -19,11 +20,11 @@ sub-slot c = search needs
 rem-slot : tie.Need-rem-slot Inv-loop μ-loop
 rem-slot c = search needs
 
-mul-e : tie.Need-mul-e Inv-loop μ-loop
-mul-e c = search needs
+mul-part : tie.Need-mul-part Inv-loop μ-loop
+mul-part c = search needs
 
-array-copy-out-e : tie.Need-array-copy-out-e Inv-loop μ-loop
-array-copy-out-e c = search needs
+part-requires : tie.Need-part-requires Inv-loop μ-loop
+part-requires c κs = search needs
 
 entry-requires : tie.Need-entry-requires Inv-loop μ-loop
 entry-requires c κs = search needs
@@ -58,8 +59,8 @@ history-spec =
     loop-holds
     sub-slot
     rem-slot
-    mul-e
-    array-copy-out-e
+    mul-part
+    part-requires
     entry-requires
     together-requires
     sub-n

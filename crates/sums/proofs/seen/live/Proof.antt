@@ -1,23 +1,30 @@
 -- Each turn takes one of the places.
 use Prim.Native.Nat.{_-_}
 use borrow.Author.Needs.{needs}
+use Rattle.kinds.specs.Sizes as sizes
 use Rattle.sums.proofs.seen.live.Statement.{statement}
 use Rattle.sums.proofs.seen.live.Tie as tie
 
 abbrev Inv-loop : tie.InvT-loop
-Inv-loop own t sum₀ i₀ sum i = Unit {0}
+Inv-loop own ws seats sum₀ i₀ sum i = Unit {0}
 
 abbrev μ-loop : tie.MeasureT-loop
-μ-loop own t sum₀ i₀ sum i = 16 - i
+μ-loop own ws seats sum₀ i₀ sum i = sizes.live - i
 
 loop-holds : tie.Need-loop-holds Inv-loop μ-loop
 loop-holds c = search needs
 
-mul-b : tie.Need-mul-b Inv-loop μ-loop
-mul-b c = search needs
+mul-s : tie.Need-mul-s Inv-loop μ-loop
+mul-s c = search needs
 
-array-copy-out-b : tie.Need-array-copy-out-b Inv-loop μ-loop
-array-copy-out-b c = search needs
+array-copy-out-s : tie.Need-array-copy-out-s Inv-loop μ-loop
+array-copy-out-s c = search needs
+
+mul-part : tie.Need-mul-part Inv-loop μ-loop
+mul-part c = search needs
+
+part-requires : tie.Need-part-requires Inv-loop μ-loop
+part-requires c κs = search needs
 
 sub-requires : tie.Need-sub-requires Inv-loop μ-loop
 sub-requires c κs = search needs
@@ -44,8 +51,10 @@ live-spec =
     Inv-loop
     μ-loop
     loop-holds
-    mul-b
-    array-copy-out-b
+    mul-s
+    array-copy-out-s
+    mul-part
+    part-requires
     sub-requires
     together-requires
     add-i

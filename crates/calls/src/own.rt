@@ -1,0 +1,37 @@
+// A line as the call of its site, which is lent its own words.
+use kinds::Core;
+use kinds::Reply;
+use kinds::reason::MALFORMED;
+use lines::Command;
+ghost use mathlib.Core.Path.{_≡_};
+ghost use lib.ListN.{length};
+ghost use Rattle.laws.specs.Overlay.{overlay};
+ghost use Rattle.lent.specs.Lent.{siteOf, Replied};
+ghost use Rattle.calls.specs.Calls.{effectOf, baseLeft, listsLeft};
+
+pub fn own_call(
+    p: Core,
+    c: Command,
+    live: &mut [u64],
+    history: &mut [u64],
+    base: &mut [u64],
+    lists: &mut [u64],
+    out: &mut [u64],
+) -> Reply
+    ensures { λ r. ⌜ Replied p (now (live .entry)) (now (history .entry)) r (now (live .exit)) (now (history .exit)) (effectOf c (siteOf p (now (live .entry)) (now (history .entry))) (now (base .entry)) (now (lists .entry)) (length (now (out .entry)))) ⌝ }
+    ensures { λ _. ⌜ now (base .exit) ≡ baseLeft c (effectOf c (siteOf p (now (live .entry)) (now (history .entry))) (now (base .entry)) (now (lists .entry)) (length (now (out .entry)))) (now (base .entry)) ⌝ }
+    ensures { λ _. ⌜ now (lists .exit) ≡ listsLeft c (effectOf c (siteOf p (now (live .entry)) (now (history .entry))) (now (base .entry)) (now (lists .entry)) (length (now (out .entry)))) (now (lists .entry)) ⌝ }
+    ensures { λ _. ⌜ now (out .exit) ≡ overlay (now (out .entry)) (effectOf c (siteOf p (now (live .entry)) (now (history .entry))) (now (base .entry)) (now (lists .entry)) (length (now (out .entry))) .words) ⌝ }
+{
+    match c {
+        Command::Begin(_) => site::begin::begin(p, live, history),
+        Command::Enlist(tx, to) => site::enlist::enlist(p, live, history, tx, to, out),
+        Command::Read(_, tx, key) => site::access::read(p, live, history, base, tx, key),
+        Command::Write(_, tx, key, value) => site::access::write(p, live, history, tx, key, value),
+        Command::Commit(tx) => saves::commit::commit(p, live, history, tx, lists, out),
+        Command::Abandon(tx) => saves::abandon::abandon(p, live, history, tx, out),
+        Command::Install(_) => installs::install(p, live, history, base, out),
+        Command::Report(_) => installs::report(p, live, history, out),
+        _ => shell::refused(p, MALFORMED),
+    }
+}

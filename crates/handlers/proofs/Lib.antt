@@ -1,0 +1,2 @@
+-- What the handlers' proofs share.
+pub mod Sends

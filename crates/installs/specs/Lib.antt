@@ -1,0 +1,2 @@
+pub mod Forgettable
+pub mod Installable

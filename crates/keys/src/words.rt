@@ -1,0 +1,84 @@
+// A part's keys in words: from word `o` on the counts, the keys read, the keys written and their values. They are read where they lie.
+use kinds::House;
+use kinds::Key;
+use kinds::Value;
+use kinds::sizes::READS;
+use kinds::sizes::WRITES;
+use kinds::word;
+use numbers::site_of;
+ghost use mathlib.Core.Path.{_≡_};
+ghost use Prim.Native.Nat.{_+_, _≤_};
+ghost use lib.ListN.{length};
+ghost use Rattle.kinds.specs.Sizes as sizes;
+ghost use Rattle.rules.specs.Keys.{keyPlace, wroteKey, wroteValue, keysAt, keysOk};
+ghost use Rattle.lent.specs.Layout.{wordsFrom, keysFrom};
+ghost use Rattle.lent.specs.Read.{Wrote};
+
+// The place of `k` among the first `n` words from word `at` on, or `n`.
+fn key_place_in(w: &[u64], at: usize, n: usize, k: Key) -> usize
+    requires { ⌜ (n ≤ sizes.writes) × (at + sizes.writes ≤ length (now w)) ⌝ }
+    ensures { λ r. ⌜ r ≡ keyPlace (wordsFrom (now (w .entry)) at sizes.writes) n k ⌝ }
+{
+    let mut i: usize = 0;
+    while i < n {
+        if w[at + i] == k {
+            return i;
+        }
+        i += 1;
+    }
+    i
+}
+
+pub fn wrote_key_in(w: &[u64], o: usize, k: Key) -> bool
+    requires { ⌜ (o + sizes.keyset ≤ length (now w)) × (keysFrom (now w) o .wrote ≤ sizes.writes) ⌝ }
+    ensures { λ r. ⌜ r ≡ wroteKey (keysFrom (now (w .entry)) o) k ⌝ }
+{
+    let n = w[o + word::KEYS_WROTE] as usize;
+    let place = key_place_in(w, o + word::KEYS_WRITES, n, k);
+    place < n
+}
+
+// The value that was written to `k`.
+pub fn wrote_value_in(w: &[u64], o: usize, k: Key) -> Value
+    requires { ⌜ Wrote (now w) o k ⌝ }
+    ensures { λ r. ⌜ r ≡ wroteValue (keysFrom (now (w .entry)) o) k ⌝ }
+{
+    let n = w[o + word::KEYS_WROTE] as usize;
+    let place = key_place_in(w, o + word::KEYS_WRITES, n, k);
+    w[o + word::KEYS_VALUES + place]
+}
+
+// Whether the first `n` words from word `at` on are keys of site `own`.
+fn keys_at_in(o: House, own: u64, w: &[u64], at: usize, n: usize) -> bool
+    requires { ⌜ (n ≤ sizes.writes) × (at + sizes.writes ≤ length (now w)) ⌝ }
+    ensures { λ r. ⌜ r ≡ keysAt o own (wordsFrom (now (w .entry)) at sizes.writes) n ⌝ }
+{
+    let mut i: usize = 0;
+    while i < n {
+        let site = site_of(o, w[at + i]);
+        if site != own {
+            return false;
+        }
+        i += 1;
+    }
+    true
+}
+
+// Whether the counts are within the sizes, and the keys are of site `own`.
+pub fn keys_ok_in(o: House, own: u64, w: &[u64], at: usize) -> bool
+    requires { ⌜ at + sizes.keyset ≤ length (now w) ⌝ }
+    ensures { λ r. ⌜ r ≡ keysOk o own (keysFrom (now (w .entry)) at) ⌝ }
+{
+    let read = w[at + word::KEYS_READ] as usize;
+    let wrote = w[at + word::KEYS_WROTE] as usize;
+    if READS < read {
+        return false;
+    }
+    if WRITES < wrote {
+        return false;
+    }
+    if !keys_at_in(o, own, w, at + word::KEYS_READS, read) {
+        return false;
+    }
+    keys_at_in(o, own, w, at + word::KEYS_WRITES, wrote)
+}

@@ -1,0 +1,117 @@
+-- A fresh core with words of zeros is a fresh site; what a start leaves.
+use Prim.Native.Nat.{ℕ, zero, suc, _+_, _*_}
+use mathlib.Core.Path.{_≡_, refl, sym, _∙_}
+use mathlib.Core.List.{List}
+use lib.ListN.{getD, length, replicate, getD-replicate}
+use lib.Dec.{eqb}
+use Rattle.laws.specs.Cause.{clear-at}
+use Rattle.laws.specs.Choice.{pick}
+use borrow.Author.Tests.{ne-eqb, not-false}
+use Rattle.kinds.specs.Sizes as sizes
+use Rattle.kinds.specs.declared.Core.{Core}
+use Rattle.kinds.specs.declared.Reply.{Reply}
+use Rattle.kinds.specs.declared.Keys.{Keys}
+use Rattle.kinds.specs.State.{pastSeat, noKeys, noSub, noEntry}
+use Rattle.kinds.specs.declared.Answer.the-variants.{Done, Refused}
+use Rattle.rules.specs.House.{houseOk}
+use Rattle.rules.specs.Install.{startCauses, startCode, startOf, startTable, freshSite}
+use Rattle.lent.specs.Rows.{rows, rows-same}
+use Rattle.lent.specs.Layout.{wordsFrom, keysFrom, subFrom, entryFrom, liveOf, historyOf}
+use Rattle.lent.specs.Lent.{lentHouse, siteOf}
+use Rattle.lent.specs.Laws.{Lengths}
+use Rattle.lent.specs.Read.{house-lengths}
+
+abbrev pub freshCore : ℕ → ℕ → Core
+freshCore sites own =
+    record {
+      house = record { sites = sites };
+      counters = record { own = own; clock = 0; serial = 0; installs = 0 };
+      channels = record { sent = replicate sizes.sites 0; taken = replicate sizes.sites 0 };
+      seats = replicate sizes.live pastSeat;
+    }
+
+-- the sites of a house that is started with words of these lengths, and the first cause against the start
+abbrev pub lentSites : ℕ → List ℕ → List ℕ → ℕ
+lentSites sites w h = lentHouse (record { sites = sites }) (length w) (length h) .sites
+
+abbrev pub startedCode : ℕ → ℕ → List ℕ → List ℕ → ℕ → ℕ → ℕ
+startedCode sites own w h base lists = startCode (lentSites sites w h) own base lists
+
+-- what a start leaves: a refused one hands back a core that every call refuses
+pub record Started (sites own : ℕ) (w h : List ℕ) (base lists : ℕ) (r : Reply) (v g : List ℕ) : Type 0 where
+  pub answer : r .answer ≡ startOf (lentSites sites w h) own base lists .answer
+  pub words : r .words ≡ 0
+  pub core : r .core ≡ pick (eqb (startedCode sites own w h base lists) 0) (freshCore sites own) (freshCore 0 0)
+  pub live : v ≡ startTable (startedCode sites own w h base lists) w
+  pub history : g ≡ startTable (startedCode sites own w h base lists) h
+  pub seen : startedCode sites own w h base lists ≡ 0 → siteOf (r .core) v g ≡ freshSite sites own
+
+-- Zeros read as keys, a part and an install.
+abbrev pub zeros : ℕ → List ℕ
+zeros n = replicate n 0
+
+zero-at : (n i : ℕ) → _≡_ {A = ℕ} (getD (zeros n) i 0) 0
+zero-at zero i = refl
+zero-at (suc n) zero = refl
+zero-at (suc n) (suc i) = zero-at n i
+
+no-words : (n o m : ℕ) → wordsFrom (zeros n) o m ≡ rows (λ j. 0) m
+unfolding wordsFrom
+no-words n o m = rows-same _ _ m (λ j h. zero-at n (o + j))
+
+no-keys : (n o : ℕ) → keysFrom (zeros n) o ≡ noKeys
+unfolding keysFrom noKeys rows
+no-keys n o = rw (zero-at n (o + 0), zero-at n (o + 1), no-words n (o + 2) 16, no-words n (o + 18) 16, no-words n (o + 34) 16)
+
+no-part : (n o : ℕ) → subFrom pastSeat (zeros n) o ≡ noSub
+unfolding subFrom noSub
+no-part n o =
+    rw (zero-at n (o + 0), zero-at n (o + 1), zero-at n (o + 2), zero-at n (o + 3), zero-at n (o + 4), zero-at n (o + 5), no-keys n (o + 6))
+
+no-install : (n o : ℕ) → entryFrom (zeros n) o ≡ noEntry
+unfolding entryFrom noEntry
+no-install n o = rw (zero-at n (o + 0), zero-at n (o + 1), zero-at n (o + 2), no-keys n (o + 3))
+
+pub fresh-seen : (sites own : ℕ) → siteOf (freshCore sites own) (zeros sizes.liveWords) (zeros sizes.historyWords) ≡ freshSite sites own
+unfolding freshSite lentHouse liveOf historyOf rows
+fresh-seen sites own =
+    let live = rows-same (λ i. subFrom (getD (freshCore sites own .seats) i pastSeat) (zeros sizes.liveWords) (sizes.place * i)) (λ i. noSub) sizes.live
+    (λ i h. rw (getD-replicate sizes.live i pastSeat pastSeat h) (no-part sizes.liveWords (sizes.place * i))) in
+    let past = rows-same (λ i. entryFrom (zeros sizes.historyWords) (sizes.slot * i)) (λ i. noEntry) sizes.history
+    (λ i h. no-install sizes.historyWords (sizes.slot * i)) in
+    rw (live, past)
+
+-- a start that is not refused is lent words of the right lengths
+pub started-lengths : (sites own : ℕ) (w h : List ℕ) (base lists : ℕ) → startedCode sites own w h base lists ≡ 0 → Lengths w h
+unfolding startCode
+started-lengths sites own w h base lists e =
+    let o = lentHouse (record { sites = sites }) (length w) (length h) in
+    house-lengths (record { sites = sites }) w h (not-false (houseOk o) (clear-at (startCauses (o .sites) own base lists) 0 refl e))
+
+-- what a start leaves, refused or not
+pub started-refused : (sites own : ℕ) (w h : List ℕ) (base lists code : ℕ) → code ≡ startedCode sites own w h base lists → (code ≡ 0 → ⊥)
+    → Started sites own w h base lists (record { answer = Refused code; words = 0; core = freshCore 0 0 }) w h
+unfolding startOf startTable
+started-refused sites own w h base lists code e n =
+    record {
+      answer = rw (← e, ne-eqb code 0 n);
+      words = refl;
+      core = rw (← e, ne-eqb code 0 n);
+      live = rw (← e, ne-eqb code 0 n);
+      history = rw (← e, ne-eqb code 0 n);
+      seen = λ z. absurd (n (e ∙ z));
+    }
+
+pub started-fresh : (sites own : ℕ) (w h : List ℕ) (base lists : ℕ) → startedCode sites own w h base lists ≡ 0
+    → Started sites own w h base lists (record { answer = Done; words = 0; core = freshCore sites own }) (zeros (length w)) (zeros (length h))
+unfolding startOf startTable
+started-fresh sites own w h base lists e =
+    let l = started-lengths sites own w h base lists e in
+    record {
+      answer = rw e;
+      words = refl;
+      core = rw e;
+      live = rw e;
+      history = rw e;
+      seen = λ z. rw (l .live, l .history) (fresh-seen sites own);
+    }

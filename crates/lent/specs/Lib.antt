@@ -1,0 +1,10 @@
+pub mod Rows
+pub mod Layout
+pub mod Lent
+pub mod Shape
+pub mod Put
+pub mod Laws
+pub mod Leaves
+pub mod Seats
+pub mod Read
+pub mod Fresh

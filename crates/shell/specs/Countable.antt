@@ -1,0 +1,15 @@
+-- M26: the next message from a site can be counted.
+use Prim.Native.Nat.{ℕ, _-_, _≤_, _<_}
+use lib.ListN.{getD}
+use Rattle.kinds.specs.Sizes as sizes
+use Rattle.kinds.specs.declared.Channels.{Channels}
+use Rattle.kinds.specs.declared.Site.{Site}
+use Rattle.rules.specs.Deliver.{Arriving}
+
+pub record Countable (c : Channels) (from : ℕ) : Type 0 where
+  pub first : 1 ≤ from
+  pub last : from ≤ sizes.sites
+  pub low : getD (c .taken) (from - 1) 0 < sizes.last
+
+pub countable : (s : Site) (from : ℕ) → Arriving s from → Countable (s .channels) from
+countable s from a = record { first = a .first; last = a .last; low = a .low }
