@@ -11,6 +11,9 @@ use lines::Command;
 use numbers::coordinator_of;
 use numbers::is_site;
 use spool::QUEUES;
+ghost use mathlib.Core.Path.{_≡_};
+ghost use Prim.Native.Nat.{_<_};
+ghost use Rattle.desk.specs.Route.{refuse as refuseOf, goes, none, isPlaced, toSite, toCoordinator, toEnlister, toReceiver, fromLog, toCopy, fromStream, routeOf};
 
 // A place below SITES is a site, less 1; one from FIRST_COPY to NOWHERE is a copy.
 pub const MERGER: usize = SITES;
@@ -27,7 +30,9 @@ pub struct Route {
     pub code: u64,
 }
 
-fn refuse(code: u64) -> Route {
+fn refuse(code: u64) -> Route
+    ensures { λ r. ⌜ r ≡ refuseOf code ⌝ }
+{
     Route {
         place: NOWHERE,
         queue: QUEUES,
@@ -35,7 +40,9 @@ fn refuse(code: u64) -> Route {
     }
 }
 
-fn to(place: usize) -> Route {
+fn to(place: usize) -> Route
+    ensures { λ r. ⌜ r ≡ goes place none ⌝ }
+{
     Route {
         place,
         queue: QUEUES,
@@ -43,26 +50,39 @@ fn to(place: usize) -> Route {
     }
 }
 
-fn to_site(h: House, site: u64) -> Route {
-    if !is_site(h, site) {
+fn to_site(h: House, site: u64) -> Route
+    ensures { λ r. ⌜ r ≡ toSite h site ⌝ }
+{
+    if !is_placed(h, site) {
         return refuse(MALFORMED);
     }
-    if SITES as u64 >= site && site >= 1 {
-        return to((site - 1) as usize);
+    to((site - 1) as usize)
+}
+
+// A site of the house with a place.
+fn is_placed(h: House, site: u64) -> bool
+    ensures { λ r. ⌜ r ≡ isPlaced h site ⌝ }
+{
+    if !is_site(h, site) {
+        return false;
     }
-    refuse(MALFORMED)
+    site <= SITES as u64
 }
 
 // A number whose coordinator the house lacks is held nowhere.
-fn to_coordinator(h: House, tx: u64) -> Route {
-    let site = coordinator_of(tx);
-    if !is_site(h, site) {
+fn to_coordinator(h: House, tx: u64) -> Route
+    ensures { λ r. ⌜ r ≡ toCoordinator h tx ⌝ }
+{
+    let coordinator = coordinator_of(tx);
+    if !is_site(h, coordinator) {
         return refuse(UNKNOWN);
     }
-    to_site(h, site)
+    to_site(h, coordinator)
 }
 
-fn to_enlister(h: House, tx: u64, site: u64) -> Route {
+fn to_enlister(h: House, tx: u64, site: u64) -> Route
+    ensures { λ r. ⌜ r ≡ toEnlister h tx site ⌝ }
+{
     if !is_site(h, site) {
         return refuse(MALFORMED);
     }
@@ -70,35 +90,41 @@ fn to_enlister(h: House, tx: u64, site: u64) -> Route {
 }
 
 // A message's receiver.
-fn to_receiver(h: House, from: u64, to: u64) -> Route {
-    let sender = to_site(h, from);
-    let receiver = to_site(h, to);
-    if SITES <= sender.place {
-        return sender;
+fn to_receiver(h: House, from: u64, to: u64) -> Route
+    ensures { λ r. ⌜ r ≡ toReceiver h from to ⌝ }
+{
+    if !is_placed(h, from) {
+        return refuse(MALFORMED);
     }
-    if SITES <= receiver.place {
-        return receiver;
+    if !is_placed(h, to) {
+        return refuse(MALFORMED);
     }
+    let sender = (from - 1) as usize;
+    let receiver = (to - 1) as usize;
     Route {
-        place: receiver.place,
-        queue: channel(sender.place, receiver.place),
+        place: receiver,
+        queue: channel(sender, receiver),
         code: 0,
     }
 }
 
-fn from_log(h: House, site: u64) -> Route {
-    let r = to_site(h, site);
-    if SITES <= r.place {
-        return r;
+fn from_log(h: House, site: u64) -> Route
+    ensures { λ r. ⌜ r ≡ fromLog h site ⌝ }
+{
+    if !is_placed(h, site) {
+        return refuse(MALFORMED);
     }
+    let i = (site - 1) as usize;
     Route {
         place: MERGER,
-        queue: log(r.place),
+        queue: log(i),
         code: 0,
     }
 }
 
-fn to_copy(copy: u64) -> Route {
+fn to_copy(copy: u64) -> Route
+    ensures { λ r. ⌜ r ≡ toCopy copy ⌝ }
+{
     if copy < 1 {
         return refuse(MALFORMED);
     }
@@ -109,23 +135,26 @@ fn to_copy(copy: u64) -> Route {
 }
 
 // The next record of the stream goes to a copy.
-fn from_stream(copy: u64) -> Route {
-    let r = to_copy(copy);
-    if r.place < FIRST_COPY {
-        return r;
+fn from_stream(copy: u64) -> Route
+    ensures { λ r. ⌜ r ≡ fromStream copy ⌝ }
+{
+    if copy < 1 {
+        return refuse(MALFORMED);
     }
-    let i = r.place - FIRST_COPY;
-    if COPIES <= i {
-        return r;
+    if copy > COPIES as u64 {
+        return refuse(MALFORMED);
     }
+    let i = (copy - 1) as usize;
     Route {
-        place: r.place,
+        place: FIRST_COPY + i,
         queue: cursor(i),
         code: 0,
     }
 }
 
-pub fn routed(h: House, c: Command) -> Route {
+pub fn routed(h: House, c: Command) -> Route
+    ensures { λ r. ⌜ r ≡ routeOf h c ⌝ }
+{
     match c {
         Command::Begin(site) => to_site(h, site),
         Command::Enlist(tx, site) => to_enlister(h, tx, site),
