@@ -10,8 +10,9 @@
 //  7 read at 1                     15 merge, the part           23 replay
 //  8 commit at 1                   16 install at 2              24 value
 //
-// 25 is abandon at 1, behind 7 and in no save. 0, 26 and 27 make no call: they are passed what a site's call, the merger's and the
-// copy's are, and pass it on, so that their time is that of the others without the call.
+// 25 is abandon at 1, behind 7 and in no save. 28 is a message at 2, of no save, to a state that the caller makes. 0, 26 and 27 make
+// no call: they are passed what a site's call, the merger's and the copy's are, and pass it on, so that their time is that of the
+// others without the call.
 use kinds::Answer;
 use kinds::Core;
 use kinds::Merger;
@@ -32,7 +33,10 @@ const AT_COPY: u64 = 3;
 // The last step of a save, and the last of all.
 pub const LAST_STEP: u64 = 24;
 
-pub const LAST_TIMED: u64 = 27;
+pub const LAST_TIMED: u64 = 28;
+
+// The CERT that asks the most work.
+pub const WORST: u64 = 28;
 
 // The steps before an abandon end here.
 pub const COMMIT: u64 = 8;
@@ -59,7 +63,7 @@ pub struct Made {
 
 fn called_by(step: u64) -> u64 {
     match step {
-        0..=14 | 16 | 18 | 20 | 25 => AT_SITE,
+        0..=14 | 16 | 18 | 20 | 25 | 28 => AT_SITE,
         15 | 17 | 19 | 21 | 22 | 26 => AT_MERGER,
         _ => AT_COPY,
     }
@@ -68,7 +72,7 @@ fn called_by(step: u64) -> u64 {
 // The site whose call a step's is, less 1. A step that is no site's is handed the first.
 pub fn site_of(step: u64) -> usize {
     match step {
-        3 | 6 | 9 | 11 | 13 | 16 | 20 => 1,
+        3 | 6 | 9 | 11 | 13 | 16 | 20 | 28 => 1,
         _ => 0,
     }
 }

@@ -23,6 +23,7 @@ use rounds::play::Store;
 use rounds::play::core_in;
 use rounds::play::make_at;
 use rounds::step::Save;
+use rounds::step::WORST;
 use rounds::step::site_of;
 use slices::copy_words;
 use std::num::wrapping_add_u64;
@@ -58,24 +59,26 @@ fn put_back(ahead: &[u64; AHEAD], queues: &mut [u64; QUEUES], copy: &mut [u64; C
     copy[LAST_COORDINATOR] = ahead[PART + PART + 1];
 }
 
-// Where the words of a site, less 1, begin.
-fn words_of(site: usize) -> usize {
-    if site == 0 {
+// Where the words of the part begin that a step's call changes. A save's part has the first place at each site.
+fn words_of(step: u64) -> usize {
+    if step == WORST {
+        return LIVES - PLACE;
+    }
+    if site_of(step) == 0 {
         return 0;
     }
     LIVE_WORDS
 }
 
-// A save's part has the first place at each site, and a call of the site changes its words.
-fn keep_place(kept: &mut [u64; PLACE], live: &[u64], site: usize) {
-    let place = part(live, words_of(site), PLACE);
+fn keep_place(kept: &mut [u64; PLACE], live: &[u64], step: u64) {
+    let place = part(live, words_of(step), PLACE);
     if place.len() == PLACE {
         copy_words(kept, place);
     }
 }
 
-fn put_place(kept: &[u64; PLACE], live: &mut [u64], site: usize) {
-    let place = part_mut(live, words_of(site), PLACE);
+fn put_place(kept: &[u64; PLACE], live: &mut [u64], step: u64) {
+    let place = part_mut(live, words_of(step), PLACE);
     if place.len() == PLACE {
         copy_words(place, kept);
     }
@@ -152,7 +155,7 @@ fn again(
     let mut ahead = [0u64; AHEAD];
     let mut kept = [0u64; PLACE];
     keep_ahead(&mut ahead, queues, copy);
-    keep_place(&mut kept, live, site);
+    keep_place(&mut kept, live, step);
     let mut sum = Tally {
         refused: 0,
         words: 0,
@@ -161,7 +164,7 @@ fn again(
     while i < count {
         i += 1;
         put_back(&ahead, queues, copy);
-        put_place(&kept, live, site);
+        put_place(&kept, live, step);
         sum = once(
             sum,
             site,

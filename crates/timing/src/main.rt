@@ -2,6 +2,7 @@
 // be taken from outside. It prints how many words the calls wrote and how many were refused. A third argument is how many saves come
 // before.
 mod again;
+mod worst;
 
 use again::Tally;
 use again::time_step;
@@ -15,10 +16,13 @@ use rounds::play::BASES;
 use rounds::play::GATHERINGS;
 use rounds::play::HISTORIES;
 use rounds::play::LIVES;
+use rounds::play::Store;
 use rounds::play::played;
 use rounds::step::COMMIT;
 use rounds::step::LAST_STEP;
 use rounds::step::LAST_TIMED;
+use rounds::step::WORST;
+use worst::with_worst;
 ghost use Prim.Native.Nat.{_≤_};
 
 // Enough saves to fill the histories.
@@ -79,6 +83,21 @@ fn before(step: u64) -> u64
     step - 1
 }
 
+// The store that a step's call is made on: the one that saves left, or the one that asks the most work.
+fn readied(
+    st: Store,
+    step: u64,
+    live: &mut [u64; LIVES],
+    history: &mut [u64; HISTORIES],
+    lists: &mut [u64; GATHERINGS],
+    held: &mut [u64; OUTGOING],
+) -> Store {
+    if step == WORST {
+        return with_worst(st, live, history, lists, held);
+    }
+    st
+}
+
 // Makes a step's call count times, after so many steps of saves.
 fn time(step: u64, count: u64, steps: u64) -> Tally {
     let mut live = [0u64; LIVES];
@@ -89,7 +108,7 @@ fn time(step: u64, count: u64, steps: u64) -> Tally {
     let mut copy = [0u64; COPY];
     let mut held = [0u64; OUTGOING];
     let mut out = [0u64; OUTGOING];
-    let st = played(
+    let saved = played(
         steps,
         &mut live,
         &mut history,
@@ -100,6 +119,7 @@ fn time(step: u64, count: u64, steps: u64) -> Tally {
         &mut held,
         &mut out,
     );
+    let st = readied(saved, step, &mut live, &mut history, &mut lists, &mut held);
     time_step(
         st,
         count,
@@ -141,7 +161,7 @@ fn saves_asked() -> Number {
 
 fn run(step: u64, count: u64, saves: u64) {
     if LAST_TIMED < step {
-        complain(b"the first argument has to be the number of a step, 0 to 27");
+        complain(b"the first argument has to be the number of a step, 0 to 28");
         return;
     }
     if MOST_SAVES < saves {
@@ -157,7 +177,7 @@ fn main() {
     let count = argument(2);
     let saves = saves_asked();
     if !step.ok {
-        complain(b"the first argument has to be the number of a step, 0 to 27");
+        complain(b"the first argument has to be the number of a step, 0 to 28");
         return;
     }
     if !count.ok {
