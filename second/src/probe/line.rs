@@ -7,9 +7,11 @@ pub struct Line {
 }
 
 /// Verbs, each with how many numbers follow it.
-const VERBS: [(&str, usize); 38] = [
+const VERBS: [(&str, usize); 40] = [
     ("house", 1),
     ("room", 1),
+    ("places", 1),
+    ("slots", 1),
     ("base", 1),
     ("lists", 1),
     ("queues", 1),

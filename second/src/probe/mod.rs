@@ -27,12 +27,19 @@ use queued::Queued;
 const ROOM: u64 = 8_192;
 const COPIES: usize = 2;
 const COPY_WORDS: u64 = 2 + KEYS;
+/// Words of a set of keys: two counts, the keys read, the keys written, their values.
+const KEY_WORDS: usize = 2 + 3 * SET_KEYS;
+/// A live place has six words before its keys, a slot of the history three.
+const PLACES: u64 = (LIVE * (6 + KEY_WORDS)) as u64;
+const SLOTS: u64 = (HISTORY * (3 + KEY_WORDS)) as u64;
 const LISTS: u64 = (LIVE * listed::LIST_WORDS) as u64;
 const QUEUES: u64 = (SITES * sums::SITE_QUEUE) as u64;
 
 /// Lengths lent.
 struct Lent {
     room: u64,
+    places: u64,
+    slots: u64,
     base: u64,
     lists: u64,
     queues: u64,
@@ -66,6 +73,8 @@ impl Probe {
             hand: Hand::new(),
             lent: Lent {
                 room: SEND_BUFFER as u64,
+                places: PLACES,
+                slots: SLOTS,
                 base: KEYS,
                 lists: LISTS,
                 queues: QUEUES,
@@ -81,7 +90,7 @@ impl Probe {
                 return Err("a house has 1 to 8 sites".to_string());
             }
             "house" => *self = Probe::new(line.numbers[0]),
-            "room" | "base" | "lists" | "queues" | "copies" => self.lend(line),
+            "room" | "places" | "slots" | "base" | "lists" | "queues" | "copies" => self.lend(line),
             "site" | "live" | "past" | "list" | "merger" | "source" | "queued" | "copied" => {
                 let answer = self.poke(line)?;
                 tell(output, event, &answer.map(|()| Answer::Done));
@@ -112,6 +121,8 @@ impl Probe {
         let length = line.numbers[0];
         let (lent, most) = match line.verb.as_str() {
             "room" => (&mut self.lent.room, ROOM),
+            "places" => (&mut self.lent.places, PLACES + 1),
+            "slots" => (&mut self.lent.slots, SLOTS + 1),
             "base" => (&mut self.lent.base, KEYS + 1),
             "lists" => (&mut self.lent.lists, LISTS + 1),
             "queues" => (&mut self.lent.queues, QUEUES + 1),
@@ -182,8 +193,7 @@ impl Probe {
     fn at_site(&mut self, line: &Line, out: &mut [u64]) -> Done {
         let Some(handed) = at(&mut self.sites, line.numbers[0]) else { return missing() };
         let before = handed.clone();
-        let (base, lists) = (self.lent.base == KEYS, self.lent.lists == LISTS);
-        let answer = site_call(handed, line, self.hand.words(), base, lists, out);
+        let answer = site_call(handed, line, self.hand.words(), &self.lent, out);
         if answer.is_ok() {
             handed.follow(&before.site);
         }
@@ -236,11 +246,12 @@ fn site_call(
     handed: &mut Handed,
     line: &Line,
     words: &[u64],
-    base: bool,
-    lists: bool,
+    lent: &Lent,
     out: &mut [u64],
 ) -> Result<Answer, Refusal> {
-    let (wanted, lent) = match line.verb.as_str() {
+    let tables = lent.places == PLACES && lent.slots == SLOTS;
+    let (base, lists) = (lent.base == KEYS, lent.lists == LISTS);
+    let (wanted, whole) = match line.verb.as_str() {
         "enlist" | "abandon" => (SEND_BUFFER, true),
         "commit" | "message" => (SEND_BUFFER, lists),
         "install" => (PART_BUFFER, base),
@@ -250,7 +261,7 @@ fn site_call(
         _ => (0, true),
     };
     require(out.len() >= wanted, Refusal::BufferTooShort)?;
-    require(lent, Refusal::Impossible)?;
+    require(tables && whole, Refusal::Impossible)?;
     if let ("start", &[_, sites, own]) = (line.verb.as_str(), line.numbers.as_slice()) {
         *handed = Handed::new(Site::start(sites, own)?);
         return Ok(Answer::Done);

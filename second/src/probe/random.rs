@@ -1,20 +1,20 @@
 //! Random probes: calls in turn and out of turn, words forged, buffers shortened,
-//! counters near their ends, states past the sizes, fields poked. The house is run
-//! beside, so that the lines lead into deep states.
+//! tables lent at other lengths, counters near their ends, states past the sizes,
+//! fields poked. The house is run beside, so that the lines lead into deep states.
 
 mod pokes;
 
 use std::fmt::Write;
 
 use super::line::parse;
-use super::{sums, Probe};
+use super::{sums, Probe, LISTS, PLACES, SLOTS};
 use crate::random::Random;
 use crate::sizes::*;
 
-//                         begin enl read wri com ab take inst rep merge emit repl val room ends past
-const SPANNING: [u64; 16] = [8, 10, 8, 14, 12, 1, 70, 18, 4, 14, 8, 8, 2, 2, 1, 2];
+//                         begin enl read wri com ab take inst rep merge emit repl val room ends past lent
+const SPANNING: [u64; 17] = [8, 10, 8, 14, 12, 1, 70, 18, 4, 14, 8, 8, 2, 2, 1, 2, 1];
 /// Few messages, many installs: history is forgotten.
-const LONE: [u64; 16] = [30, 3, 8, 14, 40, 0, 30, 40, 2, 16, 12, 6, 1, 1, 1, 2];
+const LONE: [u64; 17] = [30, 3, 8, 14, 40, 0, 30, 40, 2, 16, 12, 6, 1, 1, 1, 2, 1];
 
 struct Maker {
     random: Random,
@@ -114,7 +114,8 @@ impl Maker {
             }
             13 => self.room(),
             14 => self.near_the_end(site),
-            _ => self.past_the_sizes(site),
+            15 => self.past_the_sizes(site),
+            _ => self.lent(site, transaction),
         }
     }
 
@@ -221,6 +222,30 @@ impl Maker {
             _ => self.say("emit".to_string()),
         };
         self.say(format!("room {SEND_BUFFER}"));
+    }
+
+    /// A table of a site one word shorter or longer, or none of it, for some calls.
+    fn lent(&mut self, site: u64, transaction: u64) {
+        let tables = [("places", PLACES), ("slots", SLOTS), ("base", KEYS), ("lists", LISTS)];
+        let (verb, size) = tables[self.random.below(4) as usize];
+        let length = [0, size - 1, size + 1][self.random.below(3) as usize];
+        self.say(format!("{verb} {length}"));
+        for _ in 0..self.random.between(1, 3) {
+            let key = self.random.key(site, self.keys);
+            match self.random.below(10) {
+                0 => drop(self.say(format!("begin {site}"))),
+                1 => drop(self.say(format!("enlist {site} {transaction} {site}"))),
+                2 => drop(self.say(format!("read {site} {transaction} {key}"))),
+                3 => drop(self.say(format!("write {site} {transaction} {key} 7"))),
+                4 => drop(self.say(format!("commit {site} {transaction}"))),
+                5 => drop(self.say(format!("abandon {site} {transaction}"))),
+                6 => self.message(),
+                7 => drop(self.say(format!("install {site}"))),
+                8 => drop(self.say(format!("report {site}"))),
+                _ => drop(self.say(format!("start {site} {} {site}", self.sites()))),
+            }
+        }
+        self.say(format!("{verb} {size}"));
     }
 
     fn near_the_ends(&mut self) {
