@@ -13,8 +13,17 @@ use Rattle.kinds.specs.Sizes as sizes
 use Rattle.copy.proofs.replay.Statement.{statement}
 use Rattle.copy.proofs.replay.Tie as tie
 
+abbrev start : tie.After-replay-code-arg → tie.Start
+start c = c .before .before .before
+
+abbrev after-replay-code-arg : tie.After-read-record → tie.After-replay-code-arg
+after-replay-code-arg c = c .before .before .before
+
+abbrev after-read-record : tie.After-put-writes → tie.After-read-record
+after-read-record c = c .before .before .before
+
 -- what the code has let through
-ready : (c : tie.Else1) → ReplayReady (c .before .before .before .before .before .args .copy .now) (c .before .before .before .before .before .args .m .now)
+ready : (c : tie.Else1) → ReplayReady (start (c .before .before) .args .copy .now) (start (c .before .before) .args .m .now)
 ready c = replay-ready _ _ (sym (c .before .replay-code .ensures) ∙ c .if1 .left)
 
 replay-code-requires : tie.Need-replay-code-requires
@@ -49,7 +58,7 @@ put-writes-requires : tie.Need-put-writes-requires
 unfolding recordWrites
 put-writes-requires c κs =
     let k = ready (c .before .before .before) in
-    let m = c .before .before .before .before .before .before .before .before .args .m .now in
+    let m = start (after-replay-code-arg (c .before .before)) .args .m .now in
     let n = ap (λ (r : RecordHead). r .count) (c .before .before .read-record .ensures) in (
       simp length-set (k .size),
       (
@@ -65,9 +74,9 @@ returns-2 : tie.Need-returns-2
 unfolding replayOf replayed recordWrites
 returns-2 c =
     let put-writes = c .before .before .put-writes in
-    let read-record = c .before .before .before .before .before .read-record in
-    let if1 = c .before .before .before .before .before .before .if1 in
-    let replay-code = c .before .before .before .before .before .before .before .replay-code in
+    let read-record = after-read-record (c .before .before) .read-record in
+    let if1 = after-read-record (c .before .before) .before .if1 in
+    let replay-code = after-read-record (c .before .before) .before .before .replay-code in
     rw (← replay-code .ensures, eq-eqb _ 0 (if1 .left), ← read-record .ensures) (refl, put-writes .ensures ∙ rw rest-is)
 
 pub replay-spec : {M : Type 1} → statement M

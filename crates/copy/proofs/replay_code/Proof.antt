@@ -7,6 +7,12 @@ use Rattle.rules.specs.CopyLaws.{merged-ready}
 use Rattle.copy.proofs.replay_code.Statement.{statement}
 use Rattle.copy.proofs.replay_code.Tie as tie
 
+abbrev after-read-record : tie.After-precedes → tie.After-read-record
+after-read-record c = c .before .before .before
+
+abbrev else1 : tie.After-read-record → tie.Else1
+else1 c = c .before .before .before
+
 returns : tie.Need-returns
 unfolding replayCode
 returns c = simp (ne-eqb _ _ (c .if1 .taken))
@@ -35,10 +41,10 @@ precedes-requires c κs = search needs
 returns-3 : tie.Need-returns-3
 unfolding replayCode
 returns-3 c =
-    let if1 = c .before .before .before .before .before .before .before .if1 in
-    let if2 = c .before .before .before .before .before .if2 in
-    let merged-ok = c .before .before .before .before .before .before .merged-ok in
-    let read-record = c .before .before .before .before .read-record in
+    let if1 = else1 (after-read-record (c .before)) .if1 in
+    let if2 = after-read-record (c .before) .before .if2 in
+    let merged-ok = after-read-record (c .before) .before .before .merged-ok in
+    let read-record = after-read-record (c .before) .read-record in
     let p = c .before .precedes in
     simp (
       eq-eqb _ _ (if1 .left),
@@ -52,10 +58,10 @@ returns-3 c =
 returns-4 : tie.Need-returns-4
 unfolding replayCode
 returns-4 c =
-    let if1 = c .before .before .before .before .before .before .before .if1 in
-    let if2 = c .before .before .before .before .before .if2 in
-    let merged-ok = c .before .before .before .before .before .before .merged-ok in
-    let read-record = c .before .before .before .before .read-record in
+    let if1 = else1 (after-read-record (c .before)) .if1 in
+    let if2 = after-read-record (c .before) .before .if2 in
+    let merged-ok = after-read-record (c .before) .before .before .merged-ok in
+    let read-record = after-read-record (c .before) .read-record in
     let p = c .before .precedes in
     simp (
       eq-eqb _ _ (if1 .left),

@@ -8,6 +8,9 @@ use Rattle.rules.specs.CopyLaws.{ValueReady, value-ready}
 use Rattle.copy.proofs.value.Statement.{statement}
 use Rattle.copy.proofs.value.Tie as tie
 
+abbrev after-value-code : tie.After-shared-slice-known2 → tie.After-value-code
+after-value-code c = c .before .before .before
+
 -- what the code has let through
 ready : (c : tie.Else1) → ValueReady (c .before .before .before .args .copy .now) (c .before .before .before .args .key)
 ready c = value-ready _ _ (sym (c .before .value-code .ensures) ∙ c .if1 .left)
@@ -33,7 +36,7 @@ unfolding valueOf
 returns-2 c =
     let value-at = c .before .before .value-at in
     let if1 = c .before .before .before .if1 in
-    let value-code = c .before .before .before .before .value-code in
+    let value-code = after-value-code (c .before) .value-code in
     rw (← value-code .ensures, eq-eqb _ 0 (if1 .left), ← value-at .ensures) refl
 
 pub value-spec : {M : Type 1} → statement M

@@ -13,6 +13,12 @@ Inv-loop text from to t₀ i₀ t i = (from ≤ i) × (i ≤ to) × (t ≡ readO
 abbrev μ-loop : tie.MeasureT-loop
 μ-loop text from to t₀ i₀ t i = to - i
 
+abbrev start : tie.In-loop Inv-loop μ-loop → tie.Start Inv-loop μ-loop
+start c = c .before .before .before
+
+abbrev at-loop : tie.Else1 Inv-loop μ-loop → tie.At-loop Inv-loop μ-loop
+at-loop c = c .before .before .before
+
 loop-holds : tie.Need-loop-holds Inv-loop μ-loop
 loop-holds c = let a = c .before .args in (search needs, search needs, read-none (a .text .now) (a .from) (a .s), no-newline-none (a .text .now) (a .from))
 
@@ -32,7 +38,12 @@ loop-less : tie.Need-loop-less Inv-loop μ-loop
 loop-less c = search needs
 
 loop-again : tie.Need-loop-again Inv-loop μ-loop
-loop-again c = let a = c .before .before .before .before .before .before .args in let l = c .before .before .before .before .loop in (search needs, search needs, read-more (a .text .now) (a .from) (l .i) (a .s) (l .t) (c .step .result) (l .inv .0) (l .inv .2) (c .step .ensures), no-newline-more (a .text .now) (a .from) (l .i) (l .inv .0) (l .inv .3) (c .before .if1 .left))
+loop-again c = let a = start (c .before .before .before) .args in let l = at-loop (c .before) .loop in (
+  search needs,
+  search needs,
+  read-more (a .text .now) (a .from) (l .i) (a .s) (l .t) (c .step .result) (l .inv .0) (l .inv .2) (c .step .ensures),
+  no-newline-more (a .text .now) (a .from) (l .i) (l .inv .0) (l .inv .3) (c .before .if1 .left),
+)
 
 returns-2 : tie.Need-returns-2 Inv-loop μ-loop
 returns-2 c = search needs

@@ -5,6 +5,15 @@ use Rattle.lines.specs.Line.{stepped, took}
 use Rattle.lines.proofs.step.Statement.{statement}
 use Rattle.lines.proofs.step.Tie as tie
 
+abbrev else1 : tie.At-match-keys1 → tie.Else1
+else1 c = c .before .before .before
+
+abbrev else2 : tie.After-g → tie.Else2
+else2 c = c .before .before .before
+
+abbrev else1-2 : tie.At-match-keys2 → tie.Else1
+else1-2 c = c .before .before .before
+
 returns : tie.Need-returns
 unfolding stepped
 returns c = search (lt-ltb, le-ltb, le-leb, lt-leb, eq-eqb, ne-eqb, needs)
@@ -31,11 +40,23 @@ enum-told c = search needs
 
 returns-4 : tie.Need-returns-4
 unfolding stepped took
-returns-4 c = simp (lt-leb 5 _ (c .before .before .before .before .before .if1 .left), ne-eqb _ 32 (c .before .before .before .before .if2 .left), ← c .before .before .before .grow .ensures, c .before .g .given .1)
+returns-4 c =
+    simp (
+      lt-leb 5 _ (else1 (c .before .before) .if1 .left),
+      ne-eqb _ 32 (else2 (c .before) .if2 .left),
+      ← c .before .before .before .grow .ensures,
+      c .before .g .given .1,
+    )
 
 returns-5 : tie.Need-returns-5
 unfolding stepped took
-returns-5 c = simp (lt-leb 5 _ (c .before .before .before .before .if1 .left), ne-eqb _ 32 (c .before .before .before .if2 .left), ← c .before .before .grow .ensures, c .enum-told .given .1)
+returns-5 c =
+    simp (
+      lt-leb 5 _ (else1-2 (c .before) .if1 .left),
+      ne-eqb _ 32 (c .before .before .before .if2 .left),
+      ← c .before .before .grow .ensures,
+      c .enum-told .given .1,
+    )
 
 pub step-spec : {M : Type 1} → statement M
 step-spec =

@@ -28,9 +28,13 @@ read-requires c κs = let c = emit-clear _ _ _ (sym (c .before .before .emit-cod
 emit-due-requires : tie.Need-emit-due-requires
 unfolding orderOf
 emit-due-requires c κs =
+    let after-emit-due-arg = c .before in
+    let after-read = after-emit-due-arg .before in
+    let else1 = after-emit-due-arg .before .before .before in
+    let after-emit-code = after-read .before .before .before in
     let read = c .before .before .read in
-    let if1 = c .before .before .before .before .if1 in
-    let emit-code = c .before .before .before .before .before .emit-code in
+    let if1 = else1 .if1 in
+    let emit-code = after-emit-code .emit-code in
     let k = emit-clear _ _ _ (sym (emit-code .ensures) ∙ if1 .left) in (rw (read .ensures) (k .1), k .0)
 
 same-length-2 : tie.Need-same-length-2
@@ -42,10 +46,15 @@ same-length-3 c = search needs
 returns-2 : tie.Need-returns-2
 unfolding emitOf orderOf leastIn
 returns-2 c =
-    let emit-due = c .before .before .before .before .emit-due in
-    let read = c .before .before .before .before .before .before .before .read in
-    let if1 = c .before .before .before .before .before .before .before .before .before .if1 in
-    let emit-code = c .before .before .before .before .before .before .before .before .before .before .emit-code in
+    let after-out = c .before in
+    let after-slice-known3 = after-out .before in
+    let after-emit-due = after-out .before .before .before in
+    let after-emit-due-arg2 = after-slice-known3 .before .before .before in
+    let after-read-arg = after-emit-due-arg2 .before .before .before in
+    let emit-due = after-emit-due .emit-due in
+    let read = after-emit-due-arg2 .before .before .read in
+    let if1 = after-read-arg .before .if1 in
+    let emit-code = after-read-arg .before .before .emit-code in
     rw (← emit-code .ensures, eq-eqb _ 0 (if1 .left)) (rw (read .ensures) at (emit-due .ensures))
 
 pub emit-spec : {M : Type 1} → statement M

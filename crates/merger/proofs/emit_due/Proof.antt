@@ -22,9 +22,13 @@ refused-requires c κs = search needs
 returns : tie.Need-returns
 unfolding emitDue mergerOutOf
 returns c =
+    let then1 = c .before in
+    let after-after = then1 .before .before .before in
+    let after-sites = after-after .before .before .before in
+    let start = after-sites .before .before .before in
     let if1 = c .before .if1 in
-    let take-due = c .before .before .before .before .before .before .take-due in
-    let args = c .before .before .before .before .before .before .before .before .before .before .args in
+    let take-due = after-after .before .before .take-due in
+    let args = start .args in
     let h = args .h in
     let d = refused-due h (take-due .result) (take-due .ensures) (if1 .taken) in
     rw (ne-eqb (dueCode (h .merger) (h .heads) (leastIn h)) 0 (λ q. if1 .taken (d .code ∙ q)))
@@ -32,11 +36,15 @@ returns c =
 
 write-merged-requires : tie.Need-write-merged-requires
 write-merged-requires c κs =
+    let else1 = c .before .before in
+    let after-after = else1 .before .before .before in
+    let after-sites = after-after .before .before .before in
+    let start = after-sites .before .before .before in
     let if1 = c .before .before .if1 in
-    let take-due = c .before .before .before .before .before .before .before .take-due in
-    let sites = c .before .before .before .before .before .before .before .before .sites in
-    let args = c .before .before .before .before .before .before .before .before .before .before .before .args in
-    let pre = c .before .before .before .before .before .before .before .before .before .before .before .pre in
+    let take-due = after-after .before .before .take-due in
+    let sites = after-sites .sites in
+    let args = start .args in
+    let pre = start .pre in
     let h = args .h in
     let k = taken-due h (take-due .result) (take-due .ensures) (if1 .left) in (
       pre .0 .size,
@@ -58,15 +66,27 @@ same-length-2 c = search needs
 returns-2 : tie.Need-returns-2
 unfolding emitDue mergerOutOf
 returns-2 c =
+    let after-pop-queues-arg = c .before .before .before in
+    let after-write-merged = after-pop-queues-arg .before .before .before in
+    let else1 = after-write-merged .before .before .before in
+    let after-after = else1 .before .before .before in
+    let after-sites = after-after .before .before .before in
+    let start = after-sites .before .before .before in
     let pop-queues = c .before .before .pop-queues in
-    let write-merged = c .before .before .before .before .before .before .write-merged in
-    let if1 = c .before .before .before .before .before .before .before .before .before .if1 in
-    let take-due = c .before .before .before .before .before .before .before .before .before .before .before .before .before .before .take-due in
-    let sites = c .before .before .before .before .before .before .before .before .before .before .before .before .before .before .before .sites in
-    let args = c .before .before .before .before .before .before .before .before .before .before .before .before .before .before .before .before .before .before .args in
+    let write-merged = after-write-merged .write-merged in
+    let if1 = else1 .if1 in
+    let take-due = after-after .before .before .take-due in
+    let sites = after-sites .sites in
+    let args = start .args in
     let h = args .h in
     let k = taken-due h (take-due .result) (take-due .ensures) (if1 .left) in
-    rw (eq-eqb (dueCode (h .merger) (h .heads) (leastIn h)) 0 (k .code), ← k .merger, ← k .head, ← sites .ensures, ← write-merged .ensures .0)
+    rw (
+      eq-eqb (dueCode (h .merger) (h .heads) (leastIn h)) 0 (k .code),
+      ← k .merger,
+      ← k .head,
+      ← sites .ensures,
+      ← write-merged .ensures .0,
+    )
     (refl, (pop-queues .ensures, write-merged .ensures .1))
 
 pub emit-due-spec : {M : Type 1} → statement M

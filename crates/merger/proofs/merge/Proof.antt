@@ -9,6 +9,21 @@ use Rattle.rules.specs.MergerLaws.{state-out, state-queues}
 use Rattle.merger.proofs.merge.Statement.{statement}
 use Rattle.merger.proofs.merge.Tie as tie
 
+abbrev else1 : tie.Then2 → tie.Else1
+else1 c = c .before .before .before
+
+abbrev after-merge-code : tie.After-struct-known → tie.After-merge-code
+after-merge-code c = c .before .before .before
+
+abbrev then2 : tie.After-queues → tie.Then2
+then2 c = c .before .before .before
+
+abbrev after-read-record : tie.After-merge-part-arg → tie.After-read-record
+after-read-record c = c .before .before .before
+
+abbrev else1-2 : tie.Else2 → tie.Else1
+else1-2 c = c .before .before .before
+
 merge-code-requires : tie.Need-merge-code-requires
 merge-code-requires c κs = search needs
 
@@ -29,8 +44,8 @@ merge-part-requires : tie.Need-merge-part-requires
 merge-part-requires c κs =
     let if2 = c .before .if2 in
     let read-record = c .before .before .before .read-record in
-    let if1 = c .before .before .before .before .if1 in
-    let merge-code = c .before .before .before .before .before .merge-code in
+    let if1 = else1 (c .before) .if1 in
+    let merge-code = after-merge-code (c .before .before) .merge-code in
     part-ready _ _ _ (sym (merge-code .ensures) ∙ if1 .left) (sym (ap (λ (r : RecordHead). r .kind) (read-record .ensures)) ∙ if2 .taken)
 
 same-length-2 : tie.Need-same-length-2
@@ -40,14 +55,15 @@ returns-2 : tie.Need-returns-2
 unfolding mergeOf
 returns-2 c =
     let merge-part = c .before .before .merge-part in
-    let if2 = c .before .before .before .before .if2 in
-    let read-record = c .before .before .before .before .before .before .read-record in
-    let if1 = c .before .before .before .before .before .before .before .if1 in
-    let merge-code = c .before .before .before .before .before .before .before .before .merge-code in
+    let if2 = then2 (c .before) .if2 in
+    let read-record = after-read-record (c .before .before .before) .read-record in
+    let if1 = after-read-record (c .before .before .before) .before .if1 in
+    let merge-code = after-read-record (c .before .before .before) .before .before .merge-code in
     rw (← merge-code .ensures, eq-eqb _ 0 (if1 .left), ← read-record .ensures, eq-eqb _ _ (if2 .taken)) (merge-part .ensures)
 
 merge-state-requires : tie.Need-merge-state-requires
-merge-state-requires c κs = state-ready _ _ _ (sym (c .before .before .before .before .merge-code .ensures) ∙ c .before .before .before .if1 .left)
+merge-state-requires c κs =
+    state-ready _ _ _ (sym (after-merge-code (c .before) .merge-code .ensures) ∙ c .before .before .before .if1 .left)
 
 same-length-3 : tie.Need-same-length-3
 same-length-3 c = search needs
@@ -57,8 +73,8 @@ unfolding mergeOf
 returns-3 c =
     let if2 = c .before .if2 in
     let read-record = c .before .before .before .read-record in
-    let if1 = c .before .before .before .before .if1 in
-    let merge-code = c .before .before .before .before .before .merge-code in
+    let if1 = else1-2 (c .before) .if1 in
+    let merge-code = after-merge-code (c .before .before) .merge-code in
     rw (← merge-code .ensures, eq-eqb _ 0 (if1 .left), ← read-record .ensures, ne-eqb _ _ (if2 .left))
     (c .merge-state .ensures ∙ state-out _ _ _, state-queues _ _ _)
 

@@ -7,6 +7,12 @@ use Rattle.rules.specs.MergerClear.{merger-clear}
 use Rattle.merger.proofs.merge_code.Statement.{statement}
 use Rattle.merger.proofs.merge_code.Tie as tie
 
+abbrev else1 : tie.After-state-ok → tie.Else1
+else1 c = c .before .before .before
+
+abbrev after-merger-ok : tie.Else2 → tie.After-merger-ok
+after-merger-ok c = c .before .before .before
+
 merger-ok-requires : tie.Need-merger-ok-requires
 merger-ok-requires c κs = search needs
 
@@ -34,9 +40,16 @@ returns-3 c =
     let state-ok = c .before .state-ok in
     let if2 = c .before .before .if2 in
     let part-ok = c .before .before .before .part-ok in
-    let if1 = c .before .before .before .before .if1 in
-    let merger-ok = c .before .before .before .before .before .merger-ok in
-    simp (← merger-ok .ensures, not-false (merger-ok .result) (if1 .left), ← part-ok .ensures, if2 .left, ← state-ok .ensures, c .if3 .taken)
+    let if1 = else1 (c .before) .if1 in
+    let merger-ok = after-merger-ok (c .before .before) .merger-ok in
+    simp (
+      ← merger-ok .ensures,
+      not-false (merger-ok .result) (if1 .left),
+      ← part-ok .ensures,
+      if2 .left,
+      ← state-ok .ensures,
+      c .if3 .taken,
+    )
 
 returns-4 : tie.Need-returns-4
 unfolding mergeCode
@@ -44,8 +57,8 @@ returns-4 c =
     let state-ok = c .before .state-ok in
     let if2 = c .before .before .if2 in
     let part-ok = c .before .before .before .part-ok in
-    let if1 = c .before .before .before .before .if1 in
-    let merger-ok = c .before .before .before .before .before .merger-ok in
+    let if1 = else1 (c .before) .if1 in
+    let merger-ok = after-merger-ok (c .before .before) .merger-ok in
     simp (← merger-ok .ensures, not-false (merger-ok .result) (if1 .left), ← part-ok .ensures, if2 .left, ← state-ok .ensures, c .if3 .left)
 
 pub merge-code-spec : {M : Type 1} → statement M

@@ -8,6 +8,12 @@ use Rattle.rules.specs.Merger.{mergeState, mergeStateCode, mergerOutOf}
 use Rattle.merger.proofs.merge_state.Statement.{statement}
 use Rattle.merger.proofs.merge_state.Tie as tie
 
+abbrev after-struct-known : tie.After-struct-known3 → tie.After-struct-known
+after-struct-known c = c .before .before .before
+
+abbrev start : tie.After-struct-known → tie.Start
+start c = c .before .before .before
+
 read-record-requires : tie.Need-read-record-requires
 read-record-requires c κs = search needs
 
@@ -25,19 +31,20 @@ refused-requires c κs = search needs
 
 returns : tie.Need-returns
 unfolding mergeState mergeStateCode mergerOutOf
-returns c = rw (← c .before .before .before .before .before .before .read-record .ensures, lt-ltb _ _ (c .before .if1 .taken)) (c .refused .ensures)
+returns c =
+    rw (← after-struct-known (c .before .before) .before .read-record .ensures, lt-ltb _ _ (c .before .if1 .taken)) (c .refused .ensures)
 
 with-source-requires : tie.Need-with-source-requires
 with-source-requires c κs =
-    let read-record = c .before .before .before .before .before .read-record in
-    let pre = c .before .before .before .before .before .before .before .pre in
+    let read-record = after-struct-known (c .before) .before .read-record in
+    let pre = start (after-struct-known (c .before)) .pre in
     omega (arith, ap (λ (r : RecordHead). r .site) (read-record .ensures), pre .high)
 
 returns-2 : tie.Need-returns-2
 unfolding mergeState mergeStateCode mergerOutOf
 returns-2 c =
     let if1 = c .before .if1 in
-    let read-record = c .before .before .before .before .before .before .read-record in
+    let read-record = after-struct-known (c .before .before) .before .read-record in
     rw (← read-record .ensures, le-ltb _ _ (if1 .left)) (c .with-source .ensures)
 
 pub merge-state-spec : {M : Type 1} → statement M

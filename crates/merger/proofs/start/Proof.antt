@@ -6,6 +6,9 @@ use Rattle.rules.specs.Merger.{mergerOutOf, mergerStartOf}
 use Rattle.merger.proofs.start.Statement.{statement}
 use Rattle.merger.proofs.start.Tie as tie
 
+abbrev else1 : tie.After-queues → tie.Else1
+else1 c = c .before .before .before
+
 start-code-requires : tie.Need-start-code-requires
 start-code-requires c κs = search needs
 
@@ -36,8 +39,8 @@ returns-2 : tie.Need-returns-2
 unfolding mergerStartOf mergerOutOf
 returns-2 c =
     let fill-words = c .before .before .before .fill-words in
-    let if1 = c .before .before .before .before .before .if1 in
-    let start-code = c .before .before .before .before .before .before .start-code in
+    let if1 = else1 (c .before .before) .if1 in
+    let start-code = else1 (c .before .before) .before .start-code in
     rw (← start-code .ensures, eq-eqb _ 0 (if1 .left)) (rw (c .fresh2 .ensures) refl, fill-words .ensures)
 
 pub start-spec : {M : Type 1} → statement M

@@ -19,14 +19,22 @@ Inv-loop copy₀ ws n i₀ copy i = (i ≤ n) × ((length copy ≡ length copy�
 abbrev μ-loop : tie.MeasureT-loop
 μ-loop copy₀ ws n i₀ copy i = n - i
 
+abbrev start : tie.At-loop Inv-loop μ-loop → tie.Start Inv-loop μ-loop
+start c = c .before .before .before
+
+abbrev at-loop : tie.After-put-write Inv-loop μ-loop → tie.At-loop Inv-loop μ-loop
+at-loop c = c .before .before .before
+
 loop-holds : tie.Need-loop-holds Inv-loop μ-loop
 unfolding putWrites foldBelow
 loop-holds c = (search needs, (refl, refl))
 
 put-write-requires : tie.Need-put-write-requires Inv-loop μ-loop
 put-write-requires c κs =
-    let pre = c .before .before .before .before .before .pre in
-    (omega (arith, pre .0), ((omega arith, omega (arith, pre .1 .0 .1)), pre .1 .1 (c .before .before .loop .i) (c .before .loop-test .taken)))
+    let pre = start (c .before .before) .pre in (
+      omega (arith, pre .0),
+      ((omega arith, omega (arith, pre .1 .0 .1)), pre .1 .1 (c .before .before .loop .i) (c .before .loop-test .taken)),
+    )
 
 add-i : tie.Need-add-i Inv-loop μ-loop
 add-i c = search needs
@@ -37,8 +45,8 @@ loop-less c = search needs
 loop-again : tie.Need-loop-again Inv-loop μ-loop
 loop-again c =
     let put-write = c .before .before .put-write in
-    let args = c .before .before .before .before .before .before .before .before .args in
-    let l = c .before .before .before .before .before .loop in
+    let args = start (at-loop (c .before .before)) .args in
+    let l = at-loop (c .before .before) .loop in
     let s = ap (λ (x : List ℕ). set x (sizes.copyHeader + writeKey (args .ws .now) (l .i)) (writeValue (args .ws .now) (l .i))) (l .inv .1 .1) in
     (search needs, (search needs, put-write .ensures ∙ s ∙ sym (put-more (args .copy .now) (args .ws .now) (l .i))))
 
@@ -48,7 +56,7 @@ same-length c = c .before .loop .inv .1 .0
 returns : tie.Need-returns Inv-loop μ-loop
 returns c =
     let l = c .before .loop in
-    let e : l .i ≡ c .before .before .before .before .args .n = omega arith in
+    let e : l .i ≡ start (c .before) .args .n = omega arith in
     rw (← e) (l .inv .1 .1)
 
 pub put-writes-spec : {M : Type 1} → statement M

@@ -6,6 +6,9 @@ use Rattle.rules.specs.Effect.{takenOf}
 use Rattle.course.proofs.coordinator.abort_step.Statement.{statement}
 use Rattle.course.proofs.coordinator.abort_step.Tie as tie
 
+abbrev after-send-all : tie.After-no-sub → tie.After-send-all
+after-send-all c = c .before .before .before
+
 slice-aggregate-send-all : tie.Need-slice-aggregate-send-all
 slice-aggregate-send-all c = search needs
 
@@ -20,7 +23,8 @@ same-length c = search needs
 
 returns : tie.Need-returns
 unfolding abortStep takenOf
-returns c = (rw (c .before .no-sub .ensures, c .before .before .before .before .send-all .ensures .0), c .before .before .before .before .send-all .ensures .1)
+returns c =
+    (rw (c .before .no-sub .ensures, after-send-all (c .before) .send-all .ensures .0), after-send-all (c .before) .send-all .ensures .1)
 
 pub abort-step-spec : {M : Type 1} → statement M
 abort-step-spec =

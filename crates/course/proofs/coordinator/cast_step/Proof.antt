@@ -13,7 +13,10 @@ same-length c = search needs
 
 returns : tie.Need-returns
 unfolding castStep
-returns c = let e = c .before .before .before .before .if1 .taken in (rw e (c .before .before .cast-yes .ensures .0), rw e (c .before .before .cast-yes .ensures .1))
+returns c =
+    let after-out = c .before in
+    let then1 = after-out .before .before .before in
+    let e = then1 .if1 .taken in (rw e (c .before .before .cast-yes .ensures .0), rw e (c .before .before .cast-yes .ensures .1))
 
 abort-step-requires : tie.Need-abort-step-requires
 abort-step-requires c κs = search needs
@@ -23,7 +26,12 @@ same-length-2 c = search needs
 
 returns-2 : tie.Need-returns-2
 unfolding castStep
-returns-2 c = let e = ne-eqb (c .before .before .before .before .before .before .before .args .vote) 0 (c .before .before .before .before .if1 .left) in (rw e (c .before .before .abort-step .ensures .0), rw e (c .before .before .abort-step .ensures .1))
+returns-2 c =
+    let after-out2 = c .before in
+    let else1 = after-out2 .before .before .before in
+    let start = else1 .before .before .before in
+    let e = ne-eqb (start .args .vote) 0 (else1 .if1 .left) in
+    (rw e (c .before .before .abort-step .ensures .0), rw e (c .before .before .abort-step .ensures .1))
 
 pub cast-step-spec : {M : Type 1} → statement M
 cast-step-spec =

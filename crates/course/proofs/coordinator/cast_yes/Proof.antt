@@ -7,6 +7,15 @@ use Rattle.rules.specs.CourseLaws.{all-course}
 use Rattle.course.proofs.coordinator.cast_yes.Statement.{statement}
 use Rattle.course.proofs.coordinator.cast_yes.Tie as tie
 
+abbrev after-with-mark : tie.Then1 → tie.After-with-mark
+after-with-mark c = c .before .before .before
+
+abbrev start : tie.After-with-mark → tie.Start
+start c = c .before .before .before
+
+abbrev after-with-mark-2 : tie.Else1 → tie.After-with-mark
+after-with-mark-2 c = c .before .before .before
+
 with-mark-requires : tie.Need-with-mark-requires
 with-mark-requires c κs = search needs
 
@@ -18,29 +27,45 @@ all-heard-requires c κs = search needs
 
 decide-step-requires : tie.Need-decide-step-requires
 unfolding withMark
-decide-step-requires c κs = let m : c .before .before .before .before .with-mark .result .mask ≡ c .before .before .before .before .before .before .before .args .t .sub .course .mask = ap (λ (d : Course). d .mask) (c .before .before .before .before .with-mark .ensures) in
-    all-course (c .before .before .before .before .before .before .before .args .t) (c .before .before .before .with-course .result) (c .before .before .before .before .with-mark .result) _ (c .before .before .before .with-course .ensures) m (c .before .before .before .before .before .before .before .pre .0)
+decide-step-requires c κs =
+    let m : after-with-mark (c .before) .with-mark .result .mask ≡ start (after-with-mark (c .before)) .args .t .sub .course .mask =
+    ap (λ (d : Course). d .mask) (after-with-mark (c .before) .with-mark .ensures) in
+    all-course (start (after-with-mark (c .before)) .args .t) (c .before .before .before .with-course .result) (after-with-mark (c .before) .with-mark .result) _ (c .before .before .before .with-course .ensures) m (start (after-with-mark (c .before)) .pre .0)
 
 same-length : tie.Need-same-length
 same-length c = search needs
 
 returns : tie.Need-returns
 unfolding castStep
-returns c = let e = sym (c .before .before .before .before .before .all-heard .ensures) ∙ c .before .before .before .before .if1 .taken in
-    (rw (e, c .before .before .decide-step .ensures .0, c .before .before .before .before .before .before .with-course .ensures, c .before .before .before .before .before .before .before .with-mark .ensures), rw (e, c .before .before .decide-step .ensures .1, c .before .before .before .before .before .before .with-course .ensures, c .before .before .before .before .before .before .before .with-mark .ensures))
+returns c =
+    let after-out = c .before in
+    let then1 = after-out .before .before .before in
+    let after-with-mark = then1 .before .before .before in
+    let e = sym (then1 .before .all-heard .ensures) ∙ then1 .if1 .taken in (
+      rw (e, c .before .before .decide-step .ensures .0, then1 .before .before .with-course .ensures, after-with-mark .with-mark .ensures),
+      rw (e, c .before .before .decide-step .ensures .1, then1 .before .before .with-course .ensures, after-with-mark .with-mark .ensures),
+    )
 
 send-all-requires : tie.Need-send-all-requires
 unfolding withMark
-send-all-requires c κs = let m : c .before .before .before .before .with-mark .result .mask ≡ c .before .before .before .before .before .before .before .args .t .sub .course .mask = ap (λ (d : Course). d .mask) (c .before .before .before .before .with-mark .ensures) in
-    (all-course (c .before .before .before .before .before .before .before .args .t) (c .before .before .before .with-course .result) (c .before .before .before .before .with-mark .result) _ (c .before .before .before .with-course .ensures) m (c .before .before .before .before .before .before .before .pre .0), c .before .before .before .before .before .before .before .pre .1)
+send-all-requires c κs =
+    let m : after-with-mark-2 (c .before) .with-mark .result .mask ≡ start (after-with-mark-2 (c .before)) .args .t .sub .course .mask =
+    ap (λ (d : Course). d .mask) (after-with-mark-2 (c .before) .with-mark .ensures) in
+    (all-course (start (after-with-mark-2 (c .before)) .args .t) (c .before .before .before .with-course .result) (after-with-mark-2 (c .before) .with-mark .result) _ (c .before .before .before .with-course .ensures) m (start (after-with-mark-2 (c .before)) .pre .0), start (after-with-mark-2 (c .before)) .pre .1)
 
 same-length-2 : tie.Need-same-length-2
 same-length-2 c = search needs
 
 returns-2 : tie.Need-returns-2
 unfolding castStep
-returns-2 c = let e = sym (c .before .before .before .before .before .all-heard .ensures) ∙ c .before .before .before .before .if1 .left in
-    (rw (e, c .before .before .send-all .ensures .0, c .before .before .before .before .before .before .with-course .ensures, c .before .before .before .before .before .before .before .with-mark .ensures), rw (e, c .before .before .send-all .ensures .1, c .before .before .before .before .before .before .with-course .ensures, c .before .before .before .before .before .before .before .with-mark .ensures))
+returns-2 c =
+    let after-out2 = c .before in
+    let else1 = after-out2 .before .before .before in
+    let after-with-mark = else1 .before .before .before in
+    let e = sym (else1 .before .all-heard .ensures) ∙ else1 .if1 .left in (
+      rw (e, c .before .before .send-all .ensures .0, else1 .before .before .with-course .ensures, after-with-mark .with-mark .ensures),
+      rw (e, c .before .before .send-all .ensures .1, else1 .before .before .with-course .ensures, after-with-mark .with-mark .ensures),
+    )
 
 pub cast-yes-spec : {M : Type 1} → statement M
 cast-yes-spec =

@@ -7,6 +7,12 @@ use Rattle.rules.specs.CourseLaws.{all-course, no-entries}
 use Rattle.course.proofs.coordinator.commit_step.Statement.{statement}
 use Rattle.course.proofs.coordinator.commit_step.Tie as tie
 
+abbrev after-with-decision : tie.After-send-all-arg → tie.After-with-decision
+after-with-decision c = c .before .before .before
+
+abbrev start : tie.After-with-course → tie.Start
+start c = c .before .before .before
+
 with-decision-requires : tie.Need-with-decision-requires
 with-decision-requires c κs = search needs
 
@@ -18,8 +24,10 @@ slice-aggregate-send-all c = search needs
 
 send-all-requires : tie.Need-send-all-requires
 unfolding withDecision
-send-all-requires c κs = let m : c .before .before .before .before .with-decision .result .mask ≡ c .before .before .before .before .before .before .args .t .sub .course .mask = ap (λ (d : Course). d .mask) (c .before .before .before .before .with-decision .ensures) in
-    let q = all-course (c .before .before .before .before .before .before .args .t) (c .before .before .before .with-course .result) (c .before .before .before .before .with-decision .result) _ (c .before .before .before .with-course .ensures) m (c .before .before .before .before .before .before .pre) in
+send-all-requires c κs =
+    let m : after-with-decision (c .before) .with-decision .result .mask ≡ start (c .before .before .before) .args .t .sub .course .mask =
+    ap (λ (d : Course). d .mask) (after-with-decision (c .before) .with-decision .ensures) in
+    let q = all-course (start (c .before .before .before) .args .t) (c .before .before .before .with-course .result) (after-with-decision (c .before) .with-decision .result) _ (c .before .before .before .with-course .ensures) m (start (c .before .before .before) .pre) in
     (record { long = q .long; first = q .first; last = q .last; low = q .low }, no-entries)
 
 same-length : tie.Need-same-length
@@ -27,7 +35,20 @@ same-length c = search needs
 
 returns : tie.Need-returns
 unfolding commitStep
-returns c = (rw (c .before .before .send-all .ensures .0, c .before .before .before .before .before .before .with-course .ensures, c .before .before .before .before .before .before .before .with-decision .ensures), rw (c .before .before .send-all .ensures .1, c .before .before .before .before .before .before .with-course .ensures, c .before .before .before .before .before .before .before .with-decision .ensures))
+returns c =
+    let after-send-all-arg2 = c .before .before .before in
+    let after-with-course = after-send-all-arg2 .before .before .before in (
+      rw (
+        c .before .before .send-all .ensures .0,
+        after-with-course .with-course .ensures,
+        after-with-course .before .with-decision .ensures,
+      ),
+      rw (
+        c .before .before .send-all .ensures .1,
+        after-with-course .with-course .ensures,
+        after-with-course .before .with-decision .ensures,
+      ),
+    )
 
 pub commit-step-spec : {M : Type 1} → statement M
 commit-step-spec =

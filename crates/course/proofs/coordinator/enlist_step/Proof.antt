@@ -5,6 +5,9 @@ use Rattle.rules.specs.CourseLaws.{no-entries, to-course}
 use Rattle.course.proofs.coordinator.enlist_step.Statement.{statement}
 use Rattle.course.proofs.coordinator.enlist_step.Tie as tie
 
+abbrev start : tie.After-with-course → tie.Start
+start c = c .before .before .before
+
 with-participant-requires : tie.Need-with-participant-requires
 with-participant-requires c κs = search needs
 
@@ -15,14 +18,28 @@ slice-aggregate-send-to : tie.Need-slice-aggregate-send-to
 slice-aggregate-send-to c = search needs
 
 send-to-requires : tie.Need-send-to-requires
-send-to-requires c κs = (to-course (c .before .before .before .before .before .args .t) (c .before .before .with-course .result) (c .before .before .before .with-participant .result) (c .before .before .before .before .before .args .site) _ (c .before .before .with-course .ensures) (c .before .before .before .before .before .pre), no-entries)
+send-to-requires c κs =
+    (to-course (start (c .before .before) .args .t) (c .before .before .with-course .result) (c .before .before .before .with-participant .result) (start (c .before .before) .args .site) _ (c .before .before .with-course .ensures) (start (c .before .before) .pre), no-entries)
 
 same-length : tie.Need-same-length
 same-length c = search needs
 
 returns : tie.Need-returns
 unfolding enlistStep
-returns c = (rw (c .before .before .send-to .ensures .0, c .before .before .before .before .before .with-course .ensures, c .before .before .before .before .before .before .with-participant .ensures), rw (c .before .before .send-to .ensures .1, c .before .before .before .before .before .with-course .ensures, c .before .before .before .before .before .before .with-participant .ensures))
+returns c =
+    let after-send-to = c .before .before in
+    let after-with-course = after-send-to .before .before .before in (
+      rw (
+        c .before .before .send-to .ensures .0,
+        after-with-course .with-course .ensures,
+        after-with-course .before .with-participant .ensures,
+      ),
+      rw (
+        c .before .before .send-to .ensures .1,
+        after-with-course .with-course .ensures,
+        after-with-course .before .with-participant .ensures,
+      ),
+    )
 
 pub enlist-step-spec : {M : Type 1} → statement M
 enlist-step-spec =

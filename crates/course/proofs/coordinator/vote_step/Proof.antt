@@ -19,7 +19,13 @@ same-length c = search needs
 
 returns : tie.Need-returns
 unfolding voteStep
-returns c = let e = ne-eqb (c .before .before .before .before .before .before .args .vote) 0 (c .before .before .before .before .if1 .taken) in (rw e (c .before .before .abort-step .ensures .0), rw e (c .before .before .abort-step .ensures .1))
+returns c =
+    let after-out = c .before in
+    let after-abort-step-arg = after-out .before .before in
+    let then1 = after-out .before .before .before in
+    let start = after-abort-step-arg .before .before .before in
+    let e = ne-eqb (start .args .vote) 0 (then1 .if1 .taken) in
+    (rw e (c .before .before .abort-step .ensures .0), rw e (c .before .before .abort-step .ensures .1))
 
 with-heard-requires : tie.Need-with-heard-requires
 with-heard-requires c κs = search needs
@@ -32,31 +38,60 @@ all-heard-requires c κs = search needs
 
 decide-step-requires : tie.Need-decide-step-requires
 unfolding withReply voteDecides
-decide-step-requires c κs = let m : c .before .before .before .before .with-heard .result .mask ≡ c .before .before .before .before .before .before .before .args .t .sub .course .mask = ap (λ (d : Course). d .mask) (c .before .before .before .before .with-heard .ensures) in
+decide-step-requires c κs =
+    let then2 = c .before in
+    let after-with-heard = then2 .before .before .before in
+    let start = after-with-heard .before .before .before in
+    let m : after-with-heard .with-heard .result .mask ≡ start .args .t .sub .course .mask =
+    ap (λ (d : Course). d .mask) (after-with-heard .with-heard .ensures) in
     let e = sym (c .before .before .all-heard .ensures) ∙ c .before .if2 .taken in
-    let f = rw (c .before .before .before .before .with-heard .ensures) at e in
-    let q = c .before .before .before .before .before .before .before .pre .0 (rw (eq-eqb (c .before .before .before .before .before .before .before .args .vote) 0 (c .before .before .before .before .before .if1 .left), f)) in
-    all-course (c .before .before .before .before .before .before .before .args .t) (c .before .before .before .with-course .result) (c .before .before .before .before .with-heard .result) _ (c .before .before .before .with-course .ensures) m q
+    let f = rw (after-with-heard .with-heard .ensures) at e in
+    let q = start .pre .0 (rw (eq-eqb (start .args .vote) 0 (after-with-heard .before .if1 .left), f)) in
+    all-course (start .args .t) (c .before .before .before .with-course .result) (after-with-heard .with-heard .result) _ (c .before .before .before .with-course .ensures) m q
 
 same-length-2 : tie.Need-same-length-2
 same-length-2 c = search needs
 
 returns-2 : tie.Need-returns-2
 unfolding voteStep
-returns-2 c = let v = c .before .before .before .before .before .before .before .before .if1 .left in
-    let e = sym (c .before .before .before .before .before .all-heard .ensures) ∙ c .before .before .before .before .if2 .taken in
-    let f = rw (c .before .before .before .before .before .before .before .with-heard .ensures) at e in
-    (rw (v, f, c .before .before .decide-step .ensures .0, c .before .before .before .before .before .before .with-course .ensures, c .before .before .before .before .before .before .before .with-heard .ensures), rw (v, f, c .before .before .decide-step .ensures .1, c .before .before .before .before .before .before .with-course .ensures, c .before .before .before .before .before .before .before .with-heard .ensures))
+returns-2 c =
+    let after-out2 = c .before in
+    let then2 = after-out2 .before .before .before in
+    let after-with-heard = then2 .before .before .before in
+    let v = after-with-heard .before .if1 .left in
+    let e = sym (then2 .before .all-heard .ensures) ∙ then2 .if2 .taken in
+    let f = rw (after-with-heard .with-heard .ensures) at e in (
+      rw (
+        v,
+        f,
+        c .before .before .decide-step .ensures .0,
+        then2 .before .before .with-course .ensures,
+        after-with-heard .with-heard .ensures,
+      ),
+      rw (
+        v,
+        f,
+        c .before .before .decide-step .ensures .1,
+        then2 .before .before .with-course .ensures,
+        after-with-heard .with-heard .ensures,
+      ),
+    )
 
 quietly-requires : tie.Need-quietly-requires
 quietly-requires c κs = search needs
 
 returns-3 : tie.Need-returns-3
 unfolding voteStep quietly
-returns-3 c = let v = c .before .before .before .before .before .if1 .left in
+returns-3 c =
+    let else2 = c .before in
+    let after-with-heard = else2 .before .before .before in
+    let start = after-with-heard .before .before .before in
+    let v = after-with-heard .before .if1 .left in
     let e = sym (c .before .before .all-heard .ensures) ∙ c .before .if2 .left in
-    let f = rw (c .before .before .before .before .with-heard .ensures) at e in
-    (rw (v, f, c .quietly .ensures, c .before .before .before .with-course .ensures, c .before .before .before .before .with-heard .ensures), rw (v, f) (overlay-none (c .before .before .before .before .before .before .before .args .out .now)))
+    let f = rw (after-with-heard .with-heard .ensures) at e in (
+      rw (v, f, c .quietly .ensures, c .before .before .before .with-course .ensures, after-with-heard .with-heard .ensures),
+      rw (v, f) (overlay-none (start .args .out .now)),
+    )
 
 pub vote-step-spec : {M : Type 1} → statement M
 vote-step-spec =

@@ -6,6 +6,12 @@ use Rattle.rules.specs.CourseLaws.{no-entries, to-course}
 use Rattle.course.proofs.participant.certified_step.Statement.{statement}
 use Rattle.course.proofs.participant.certified_step.Tie as tie
 
+abbrev start : tie.After-with-mark → tie.Start
+start c = c .before .before .before
+
+abbrev start-2 : tie.After-with-stage → tie.Start
+start-2 c = c .before .before .before
+
 with-mark-requires : tie.Need-with-mark-requires
 with-mark-requires c κs = search needs
 
@@ -16,14 +22,23 @@ slice-aggregate-send-to : tie.Need-slice-aggregate-send-to
 slice-aggregate-send-to c = search needs
 
 send-to-requires : tie.Need-send-to-requires
-send-to-requires c κs = (to-course (c .before .before .before .before .before .before .args .t) (c .before .before .with-course .result) (c .before .before .before .with-mark .result) (c .before .before .before .before .before .before .args .to) _ (c .before .before .with-course .ensures) (c .before .before .before .before .before .before .pre), no-entries)
+send-to-requires c κs =
+    (to-course (start (c .before .before .before) .args .t) (c .before .before .with-course .result) (c .before .before .before .with-mark .result) (start (c .before .before .before) .args .to) _ (c .before .before .with-course .ensures) (start (c .before .before .before) .pre), no-entries)
 
 same-length : tie.Need-same-length
 same-length c = search needs
 
 returns : tie.Need-returns
 unfolding certifiedStep
-returns c = let v = c .before .before .before .before .before .before .before .if1 .taken in (rw (v, c .before .before .send-to .ensures .0, c .before .before .before .before .before .with-course .ensures, c .before .before .before .before .before .before .with-mark .ensures), rw (v, c .before .before .send-to .ensures .1, c .before .before .before .before .before .with-course .ensures, c .before .before .before .before .before .before .with-mark .ensures))
+returns c =
+    let after-send-to = c .before .before in
+    let after-send-to-arg2 = after-send-to .before in
+    let after-with-course = after-send-to .before .before .before in
+    let after-with-mark = after-send-to-arg2 .before .before .before in
+    let v = after-with-mark .before .if1 .taken in (
+      rw (v, c .before .before .send-to .ensures .0, after-with-course .with-course .ensures, after-with-mark .with-mark .ensures),
+      rw (v, c .before .before .send-to .ensures .1, after-with-course .with-course .ensures, after-with-mark .with-mark .ensures),
+    )
 
 with-stage-requires : tie.Need-with-stage-requires
 with-stage-requires c κs = search needs
@@ -35,14 +50,24 @@ slice-aggregate-send-to-2 : tie.Need-slice-aggregate-send-to-2
 slice-aggregate-send-to-2 c = search needs
 
 send-to-requires-2 : tie.Need-send-to-requires-2
-send-to-requires-2 c κs = (to-course (c .before .before .before .before .before .before .args .t) (c .before .before .with-course2 .result) (c .before .before .before .with-stage .result) (c .before .before .before .before .before .before .args .to) _ (c .before .before .with-course2 .ensures) (c .before .before .before .before .before .before .pre), no-entries)
+send-to-requires-2 c κs =
+    (to-course (start-2 (c .before .before .before) .args .t) (c .before .before .with-course2 .result) (c .before .before .before .with-stage .result) (start-2 (c .before .before .before) .args .to) _ (c .before .before .with-course2 .ensures) (start-2 (c .before .before .before) .pre), no-entries)
 
 same-length-2 : tie.Need-same-length-2
 same-length-2 c = search needs
 
 returns-2 : tie.Need-returns-2
 unfolding certifiedStep
-returns-2 c = let v = ne-eqb (c .before .before .before .before .before .before .before .before .before .args .vote) 0 (c .before .before .before .before .before .before .before .if1 .left) in (rw (v, c .before .before .send-to2 .ensures .0, c .before .before .before .before .before .with-course2 .ensures, c .before .before .before .before .before .before .with-stage .ensures), rw (v, c .before .before .send-to2 .ensures .1, c .before .before .before .before .before .with-course2 .ensures, c .before .before .before .before .before .before .with-stage .ensures))
+returns-2 c =
+    let after-send-to2 = c .before .before in
+    let after-send-to-arg4 = after-send-to2 .before in
+    let after-with-course2 = after-send-to2 .before .before .before in
+    let after-with-stage = after-send-to-arg4 .before .before .before in
+    let start = after-with-stage .before .before .before in
+    let v = ne-eqb (start .args .vote) 0 (after-with-stage .before .if1 .left) in (
+      rw (v, c .before .before .send-to2 .ensures .0, after-with-course2 .with-course2 .ensures, after-with-stage .with-stage .ensures),
+      rw (v, c .before .before .send-to2 .ensures .1, after-with-course2 .with-course2 .ensures, after-with-stage .with-stage .ensures),
+    )
 
 pub certified-step-spec : {M : Type 1} → statement M
 certified-step-spec =

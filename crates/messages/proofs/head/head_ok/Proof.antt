@@ -11,11 +11,18 @@ use Rattle.rules.specs.MessageLaws.{ends-clear, site-clear}
 use Rattle.messages.proofs.head.head_ok.Statement.{statement}
 use Rattle.messages.proofs.head.head_ok.Tie as tie
 
+abbrev start : tie.Else1 → tie.Start
+start c = c .before .before .before
+
+abbrev else1 : tie.After-argument-ok → tie.Else1
+else1 c = c .before .before .before
+
 -- what the tests passed have shown
 ends-are : (c : tie.Else1) → endsOk (c .before .before .before .args .o) (c .before .before .before .args .h) ≡ true
 ends-are c = sym (c .before .ends-ok .ensures) ∙ not-false _ (c .if1 .left)
 
-clock-is : (c : tie.Else2) → pick (carriesClock (c .before .before .before .before .before .args .h .kind)) true (eqb (c .before .before .before .before .before .args .h .clock) 0) ≡ true
+clock-is : (c : tie.Else2)
+    → pick (carriesClock (start (c .before .before) .args .h .kind)) true (eqb (start (c .before .before) .args .h .clock) 0) ≡ true
 clock-is c = sym (c .before .clock-ok .ensures) ∙ not-false _ (c .if2 .left)
 
 most-entries-requires : tie.Need-most-entries-requires
@@ -37,7 +44,7 @@ returns-2 c = search (← c .before .clock-ok .ensures, not-true (c .before .clo
 
 argument-ok-requires : tie.Need-argument-ok-requires
 argument-ok-requires c κs =
-    let a = c .before .before .before .before .before .args in
+    let a = start (c .before .before) .args in
     let k = ends-clear (a .o) (a .h) (ends-are (c .before .before)) in
     let f = site-clear (a .o) (a .h .from) (k .from) in
     let t = site-clear (a .o) (a .h .to) (k .to) in
@@ -45,17 +52,24 @@ argument-ok-requires c κs =
 
 returns-3 : tie.Need-returns-3
 unfolding headOk
-returns-3 c = search (← c .before .argument-ok .ensures, not-true (c .before .argument-ok .result) (c .if3 .taken), clock-is (c .before .before), ends-are (c .before .before .before .before), needs)
+returns-3 c =
+    search (
+      ← c .before .argument-ok .ensures,
+      not-true (c .before .argument-ok .result) (c .if3 .taken),
+      clock-is (c .before .before),
+      ends-are (else1 (c .before)),
+      needs,
+    )
 
 returns-4 : tie.Need-returns-4
 unfolding headOk
 returns-4 c =
     search (
-      ← c .before .before .before .before .before .before .most-entries .ensures,
+      ← else1 (c .before) .before .before .most-entries .ensures,
       ← c .before .argument-ok .ensures,
       not-false (c .before .argument-ok .result) (c .if3 .left),
       clock-is (c .before .before),
-      ends-are (c .before .before .before .before),
+      ends-are (else1 (c .before)),
       pick-self,
       le-leb,
       needs,

@@ -14,13 +14,20 @@ use Rattle.rules.specs.MessageLaws.{ShapeClear, shape-clear, HeadClear, head-cl
 use Rattle.messages.proofs.layout.message_ok.Statement.{statement}
 use Rattle.messages.proofs.layout.message_ok.Tie as tie
 
+abbrev start : tie.Else1 → tie.Start
+start c = c .before .before .before
+
+abbrev else1 : tie.Else2 → tie.Else1
+else1 c = c .before .before .before
+
 shaped : (c : tie.Else1) → ShapeClear (c .before .before .before .args .m .now)
 shaped c = shape-clear _ (sym (c .before .shape-ok .ensures) ∙ not-false _ (c .if1 .left))
 
-headed : (c : tie.Else2) → HeadClear (c .before .before .before .before .before .before .args .o) (c .before .before .read-head .result)
+headed : (c : tie.Else2) → HeadClear (start (c .before .before .before) .args .o) (c .before .before .read-head .result)
 headed c = head-clear _ _ (sym (c .before .head-ok .ensures) ∙ not-false _ (c .if2 .left))
 
-counted : (c : tie.Else2) → c .before .before .read-head .result .count ≡ getD (c .before .before .before .before .before .before .args .m .now) word.entryCount 0
+counted : (c : tie.Else2)
+    → c .before .before .read-head .result .count ≡ getD (start (c .before .before .before) .args .m .now) word.entryCount 0
 unfolding messageHead
 counted c = ap (λ (h : MessageHead). h .count) (c .before .before .read-head .ensures)
 
@@ -60,16 +67,16 @@ part-entries-ok-end c = search needs
 
 entries-ok-requires : tie.Need-entries-ok-requires
 entries-ok-requires c κs =
-    let s = shaped (c .before .before .before .before) in
+    let s = shaped (else1 (c .before)) in
     let h = headed (c .before) in
     let n = counted (c .before) in
-    let m = c .before .before .before .before .before .before .before .args .m .now in
+    let m = start (else1 (c .before)) .args .m .now in
     (search needs, omega (arith, most-at-most (c .before .before .before .read-head .result .kind), length-rest m sizes.messageHeader))
 
 returns-3 : tie.Need-returns-3
 unfolding messageOk messageEntries
 returns-3 c =
-    let p = c .before .before .before .before .before in
+    let p = else1 (c .before .before) in
     let h = c .before .before in
     simp (
       ← p .before .shape-ok .ensures,

@@ -19,12 +19,25 @@ Inv-loop out₀ h sent mask es at₀ i₀ out at i =
 abbrev μ-loop : tie.MeasureT-loop
 μ-loop out₀ h sent mask es at₀ i₀ out at i = sizes.sites - i
 
+abbrev start : tie.At-loop Inv-loop μ-loop → tie.Start Inv-loop μ-loop
+start c = c .before .before .before
+
+abbrev in-loop : tie.After-out Inv-loop μ-loop → tie.In-loop Inv-loop μ-loop
+in-loop c = c .before .before .before
+
+abbrev at-loop : tie.After-write-to Inv-loop μ-loop → tie.At-loop Inv-loop μ-loop
+at-loop c = c .before .before .before
+
 -- the message to the next site fits too
-room : (c : tie.In-loop Inv-loop μ-loop) → c .before .loop .at + length (wordsTo (c .before .before .before .before .args .h) (c .before .before .before .before .args .sent) (c .before .before .before .before .args .mask) (c .before .before .before .before .args .es .now) (c .before .loop .i)) ≤ sizes.outgoing
+room : (c : tie.In-loop Inv-loop μ-loop)
+    → c .before .loop .at + length (wordsTo (start (c .before) .args .h) (start (c .before) .args .sent) (start (c .before) .args .mask) (start (c .before) .args .es .now) (c .before .loop .i)) ≤ sizes.outgoing
 room c =
-    let a = c .before .before .before .before .args in
-    let p = c .before .before .before .before .pre in
-    omega (arith, messages-fit (a .h) (a .sent) (a .mask) (a .es .now) (p .1 .1 .0) (p .1 .1 .1) (c .before .loop .i) (p .0 .1 .0) (p .0 .1 .1) (c .loop-test .taken))
+    let a = start (c .before) .args in
+    let p = start (c .before) .pre in
+    omega (
+      arith,
+      messages-fit (a .h) (a .sent) (a .mask) (a .es .now) (p .1 .1 .0) (p .1 .1 .1) (c .before .loop .i) (p .0 .1 .0) (p .0 .1 .1) (c .loop-test .taken),
+    )
 
 loop-holds : tie.Need-loop-holds Inv-loop μ-loop
 loop-holds c =
@@ -47,11 +60,11 @@ part-write-to-end c = search needs
 write-to-requires : tie.Need-write-to-requires Inv-loop μ-loop
 write-to-requires c κs =
     let l = c .before .before .loop in
-    let p = c .before .before .before .before .before .pre in
+    let p = start (c .before .before) .pre in
     ((search needs, omega (arith, length-rest (l .out) (l .at), room (c .before))), (p .1 .0, p .1 .1))
 
 add-at : tie.Need-add-at Inv-loop μ-loop
-add-at c = omega (arith, room (c .before .before .before .before))
+add-at c = omega (arith, room (in-loop (c .before)))
 
 add-i : tie.Need-add-i Inv-loop μ-loop
 add-i c = search needs
@@ -61,13 +74,13 @@ loop-less c = search needs
 
 loop-again : tie.Need-loop-again Inv-loop μ-loop
 loop-again c =
-    let a = c .before .before .before .before .before .before .before .before .args in
-    let l = c .before .before .before .before .before .loop in
+    let a = start (at-loop (c .before .before)) .args in
+    let l = at-loop (c .before .before) .loop in
     let k = c .before .before .write-to in
     let ws = messagesTo (a .h) (a .sent) (a .mask) (a .es .now) (l .i) in
     let w = wordsTo (a .h) (a .sent) (a .mask) (a .es .now) (l .i) in
     let m = messages-more (a .h) (a .sent) (a .mask) (a .es .now) (l .i) in
-    let r = room (c .before .before .before .before) in
+    let r = room (in-loop (c .before)) in
     let e = behind (a .out .now) ws w (l .out) (k .last .0) (l .at) (l .inv .1 .1 .0) (omega arith) (l .inv .1 .1 .1) (k .ensures .1) in
     let n = length-append ws w in
     (omega arith, (ap length e ∙ length-overlay (a .out .now) (ws ++ w) (omega arith), (rw m (omega arith), rw m e)))

@@ -24,6 +24,9 @@ Inv-loop sent mask sender i₀ i = (i ≤ sizes.sites) × EachBelow (low sent ma
 abbrev μ-loop : tie.MeasureT-loop
 μ-loop sent mask sender i₀ i = sizes.sites - i
 
+abbrev start : tie.After-count-low Inv-loop μ-loop → tie.Start Inv-loop μ-loop
+start c = c .before .before .before
+
 loop-holds : tie.Need-loop-holds Inv-loop μ-loop
 loop-holds c = (search needs, each-none _)
 
@@ -33,8 +36,9 @@ count-low-requires c κs = search needs
 returns : tie.Need-returns Inv-loop μ-loop
 unfolding countsLow
 returns c =
-    let a = c .before .before .before .before .args in
-    not-all-below (low (a .sent) (a .mask) (a .sender)) _ _ (c .before .before .loop-test .taken) (sym (c .before .count-low .ensures) ∙ not-true _ (c .if1 .taken))
+    let a = start (c .before) .args in
+    not-all-below (low (a .sent) (a .mask) (a .sender)) _ _ (c .before .before .loop-test .taken) (sym (c .before .count-low .ensures)
+    ∙ not-true _ (c .if1 .taken))
 
 add-i : tie.Need-add-i Inv-loop μ-loop
 add-i c = search needs

@@ -12,7 +12,17 @@ use Rattle.rules.specs.SendLaws.{words-to-some, words-to-none}
 use Rattle.messages.proofs.send.write_to.Statement.{statement}
 use Rattle.messages.proofs.send.write_to.Tie as tie
 
-recipient : (c : tie.Else1) → isRecipient (c .before .before .before .before .args .mask) (c .before .before .before .before .args .h .from) (c .before .before .before .before .args .i) ≡ true
+abbrev start : tie.After-is-recipient → tie.Start
+start c = c .before .before .before
+
+abbrev after-is-recipient : tie.After-write-message → tie.After-is-recipient
+after-is-recipient c = c .before .before .before
+
+abbrev else1 : tie.After-out → tie.Else1
+else1 c = c .before .before .before
+
+recipient : (c : tie.Else1)
+    → isRecipient (start (c .before) .args .mask) (start (c .before) .args .h .from) (start (c .before) .args .i) ≡ true
 recipient c = sym (c .before .is-recipient .ensures) ∙ not-false _ (c .if1 .left)
 
 is-recipient-requires : tie.Need-is-recipient-requires
@@ -20,8 +30,9 @@ is-recipient-requires c κs = search needs
 
 returns : tie.Need-returns
 returns c =
-    let a = c .before .before .before .before .args in
-    let e = words-to-none (a .h) (a .t3) (a .mask) (a .es .now) (a .i) (sym (c .before .is-recipient .ensures) ∙ not-true _ (c .if1 .taken)) in
+    let a = start (c .before) .args in
+    let e = words-to-none (a .h) (a .t3) (a .mask) (a .es .now) (a .i) (sym (c .before .is-recipient .ensures)
+    ∙ not-true _ (c .if1 .taken)) in
     (rw e, rw e (overlay-none (a .out .now)))
 
 add-g : tie.Need-add-g
@@ -35,13 +46,13 @@ array-read-g c = search needs
 
 add-g-2 : tie.Need-add-g-2
 add-g-2 c =
-    let s = c .before .before .before .before in
+    let s = start (c .before) in
     omega (arith, s .pre .1 .0 (s .args .i) (s .pre .0 .0) (recipient c))
 
 write-message-requires : tie.Need-write-message-requires
 unfolding headTo
 write-message-requires c κs =
-    let a = c .before .before .before .before .before .args in
+    let a = start (c .before .before) .args in
     let e = words-to-some (a .h) (a .t3) (a .mask) (a .es .now) (a .i) (recipient (c .before)) in
     (search needs, (search needs, omega (arith, ap length e, length-message (headTo (a .h) (a .t3) (a .i)) (a .es .now) (omega arith))))
 
@@ -51,8 +62,8 @@ same-length c = search needs
 returns-2 : tie.Need-returns-2
 unfolding headTo
 returns-2 c =
-    let a = c .before .before .before .before .before .before .before .before .args in
-    let e = words-to-some (a .h) (a .t3) (a .mask) (a .es .now) (a .i) (recipient (c .before .before .before .before)) in
+    let a = start (after-is-recipient (c .before .before)) .args in
+    let e = words-to-some (a .h) (a .t3) (a .mask) (a .es .now) (a .i) (recipient (else1 (c .before))) in
     rw e (c .before .before .write-message .ensures)
 
 pub write-to-spec : {M : Type 1} → statement M

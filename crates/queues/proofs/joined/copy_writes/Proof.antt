@@ -12,6 +12,15 @@ use Rattle.kinds.specs.Sizes as sizes
 use Rattle.queues.proofs.joined.copy_writes.Statement.{statement}
 use Rattle.queues.proofs.joined.copy_writes.Tie as tie
 
+abbrev start : tie.After-in-mask → tie.Start
+start c = c .before .before .before
+
+abbrev after-in-mask : tie.After-ws → tie.After-in-mask
+after-in-mask c = c .before .before .before
+
+abbrev after-ws : tie.After-out → tie.After-ws
+after-ws c = c .before .before .before
+
 add-in-mask : tie.Need-add-in-mask
 add-in-mask c = search needs
 
@@ -25,22 +34,24 @@ returns c = let e = sym (c .before .in-mask .ensures) ∙ not-true _ (c .if1 .ta
 queued-part-requires : tie.Need-queued-part-requires
 queued-part-requires c κs =
     let in-mask = c .before .in-mask in
-    let pre = c .before .before .before .before .pre in
+    let pre = start (c .before) .pre in
     let p = part-fits _ _ _ (pre .1 .1) (sym (in-mask .ensures) ∙ not-false _ (c .if1 .left)) in (search needs, (search needs, p .short))
 
 sub-ws : tie.Need-sub-ws
 sub-ws c =
     let if1 = c .before .if1 in
     let in-mask = c .before .before .in-mask in
-    let pre = c .before .before .before .before .before .pre in
-    let p = part-fits _ _ _ (pre .1 .1) (sym (in-mask .ensures) ∙ not-false _ (if1 .left)) in omega (arith, ap length (c .queued-part .ensures))
+    let pre = start (c .before .before) .pre in
+    let p = part-fits _ _ _ (pre .1 .1) (sym (in-mask .ensures) ∙ not-false _ (if1 .left)) in
+    omega (arith, ap length (c .queued-part .ensures))
 
 part-ws-start : tie.Need-part-ws-start
 part-ws-start c =
     let if1 = c .before .if1 in
     let in-mask = c .before .before .in-mask in
-    let pre = c .before .before .before .before .before .pre in
-    let p = part-fits _ _ _ (pre .1 .1) (sym (in-mask .ensures) ∙ not-false _ (if1 .left)) in omega (arith, ap length (c .queued-part .ensures))
+    let pre = start (c .before .before) .pre in
+    let p = part-fits _ _ _ (pre .1 .1) (sym (in-mask .ensures) ∙ not-false _ (if1 .left)) in
+    omega (arith, ap length (c .queued-part .ensures))
 
 part-ws-end : tie.Need-part-ws-end
 part-ws-end c = search needs
@@ -50,9 +61,9 @@ unfolding recordWrites
 copy-words-requires c κs =
     let queued-part = c .before .before .queued-part in
     let if1 = c .before .before .before .if1 in
-    let in-mask = c .before .before .before .before .in-mask in
-    let pre = c .before .before .before .before .before .before .before .pre in
-    let args = c .before .before .before .before .before .before .before .args in
+    let in-mask = after-in-mask (c .before) .in-mask in
+    let pre = start (after-in-mask (c .before)) .pre in
+    let args = start (after-in-mask (c .before)) .args in
     let p = part-fits _ _ _ (pre .1 .1) (sym (in-mask .ensures) ∙ not-false _ (if1 .left)) in
     let m = queued-part .result .now in
     omega (
@@ -70,9 +81,9 @@ returns-2 : tie.Need-returns-2
 unfolding partWrites recordWrites
 returns-2 c =
     let copy-words = c .before .before .copy-words in
-    let queued-part = c .before .before .before .before .before .queued-part in
-    let if1 = c .before .before .before .before .before .before .if1 in
-    let in-mask = c .before .before .before .before .before .before .before .in-mask in
+    let queued-part = after-ws (c .before) .before .queued-part in
+    let if1 = after-ws (c .before) .before .before .if1 in
+    let in-mask = after-in-mask (after-ws (c .before)) .in-mask in
     let e = sym (in-mask .ensures) ∙ not-false _ (if1 .left) in
     let m = queued-part .result .now in
     rw (e, ← queued-part .ensures) (rw rest-is refl, rw rest-is at (copy-words .ensures))

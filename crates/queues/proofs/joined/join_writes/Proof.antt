@@ -21,12 +21,21 @@ Inv-loop out₀ queues mask n at₀ i₀ out at i = (i ≤ n)
 abbrev μ-loop : tie.MeasureT-loop
 μ-loop out₀ queues mask n at₀ i₀ out at i = n - i
 
+abbrev start : tie.At-loop Inv-loop μ-loop → tie.Start Inv-loop μ-loop
+start c = c .before .before .before
+
+abbrev in-loop : tie.After-out Inv-loop μ-loop → tie.In-loop Inv-loop μ-loop
+in-loop c = c .before .before .before
+
+abbrev at-loop : tie.After-copy-writes Inv-loop μ-loop → tie.At-loop Inv-loop μ-loop
+at-loop c = c .before .before .before
+
 -- the writes of the next site fit too
 room : (c : tie.In-loop Inv-loop μ-loop) → c .before .loop .at + sizes.write * sizes.writes ≤ sizes.write * sizes.mergedWrites
 room c =
-    let a = c .before .before .before .before .args in
+    let a = start (c .before) .args in
     let l = c .before .loop in
-    let w = joined-writes (a .queues .now) (a .mask) (l .i) (heads-fewer _ _ (a .n) _ (c .before .before .before .before .pre .1 .1) (omega arith)) in
+    let w = joined-writes (a .queues .now) (a .mask) (l .i) (heads-fewer _ _ (a .n) _ (start (c .before) .pre .1 .1) (omega arith)) in
     omega arith
 
 loop-holds : tie.Need-loop-holds Inv-loop μ-loop
@@ -48,15 +57,17 @@ part-copy-writes-end c = search needs
 copy-writes-requires : tie.Need-copy-writes-requires Inv-loop μ-loop
 copy-writes-requires c κs =
     let loop-test = c .before .loop-test in
-    let pre = c .before .before .before .before .before .pre in
-    let l = c .before .before .loop in
-    (search needs, ((search needs, omega (arith, length-rest (l .out) (l .at), room (c .before))), head-fits _ _ _ _ (pre .1 .1) (loop-test .taken)))
+    let pre = start (c .before .before) .pre in
+    let l = c .before .before .loop in (
+      search needs,
+      ((search needs, omega (arith, length-rest (l .out) (l .at), room (c .before))), head-fits _ _ _ _ (pre .1 .1) (loop-test .taken)),
+    )
 
 add-at : tie.Need-add-at Inv-loop μ-loop
 add-at c =
-    let loop-test = c .before .before .before .before .loop-test in
-    let pre = c .before .before .before .before .before .before .before .before .pre in
-    let p = part-writes _ _ _ (head-fits _ _ _ _ (pre .1 .1) (loop-test .taken)) in omega (arith, room (c .before .before .before .before))
+    let loop-test = in-loop (c .before) .loop-test in
+    let pre = start (at-loop (c .before .before)) .pre in
+    let p = part-writes _ _ _ (head-fits _ _ _ _ (pre .1 .1) (loop-test .taken)) in omega (arith, room (in-loop (c .before)))
 
 add-i : tie.Need-add-i Inv-loop μ-loop
 add-i c = search needs
@@ -67,17 +78,22 @@ loop-less c = search needs
 loop-again : tie.Need-loop-again Inv-loop μ-loop
 loop-again c =
     let copy-writes = c .before .before .copy-writes in
-    let loop-test = c .before .before .before .before .loop-test in
-    let pre = c .before .before .before .before .before .before .before .before .pre in
-    let a = c .before .before .before .before .before .before .before .before .args in
-    let l = c .before .before .before .before .before .loop in
+    let loop-test = in-loop (c .before) .loop-test in
+    let pre = start (at-loop (c .before .before)) .pre in
+    let a = start (at-loop (c .before .before)) .args in
+    let l = at-loop (c .before .before) .loop in
     let ws = joinedWrites (a .queues .now) (a .mask) (l .i) in
     let w = partWrites (a .queues .now) (a .mask) (l .i) in
     let m = joined-more (a .queues .now) (a .mask) (l .i) in
     let p = part-writes (a .queues .now) (a .mask) (l .i) (head-fits _ _ _ _ (pre .1 .1) (loop-test .taken)) in
-    let r = room (c .before .before .before .before) in
-    let e = behind (a .out .now) ws w (l .out) (copy-writes .last .0) (l .at) (l .inv .1 .1 .0) (omega arith) (l .inv .1 .1 .1) (copy-writes .ensures .1) in
-    (omega arith, (ap length e ∙ length-overlay (a .out .now) (ws ++ w) (omega (arith, length-append ws w)), (rw m (omega (arith, length-append ws w)), rw m e)))
+    let r = room (in-loop (c .before)) in
+    let e = behind (a .out .now) ws w (l .out) (copy-writes .last .0) (l .at) (l .inv .1 .1 .0) (omega arith) (l .inv .1 .1 .1) (copy-writes .ensures .1) in (
+      omega arith,
+      (
+        ap length e ∙ length-overlay (a .out .now) (ws ++ w) (omega (arith, length-append ws w)),
+        (rw m (omega (arith, length-append ws w)), rw m e),
+      ),
+    )
 
 same-length : tie.Need-same-length Inv-loop μ-loop
 same-length c = c .before .loop .inv .1 .0
@@ -85,7 +101,7 @@ same-length c = c .before .loop .inv .1 .0
 returns : tie.Need-returns Inv-loop μ-loop
 returns c =
     let loop = c .before .loop in
-    let args = c .before .before .before .before .args in
+    let args = start (c .before) .args in
     let e : loop .i ≡ args .n = omega arith in (rw (← e) (loop .inv .1 .1 .0), rw (← e) (loop .inv .1 .1 .1))
 
 pub join-writes-spec : {M : Type 1} → statement M

@@ -8,6 +8,12 @@ use Rattle.rules.specs.MergerWords.{front-back, joined-writes}
 use Rattle.queues.proofs.joined.write_merged.Statement.{statement}
 use Rattle.queues.proofs.joined.write_merged.Tie as tie
 
+abbrev after-ws : tie.After-write-record-arg → tie.After-ws
+after-ws c = c .before .before .before
+
+abbrev start : tie.After-ws → tie.Start
+start c = c .before .before .before
+
 slice-aggregate-join-writes : tie.Need-slice-aggregate-join-writes
 slice-aggregate-join-writes c = search needs
 
@@ -23,8 +29,8 @@ slice-aggregate-write-record c =
 
 write-record-requires : tie.Need-write-record-requires
 write-record-requires c κs = let j = c .before .before .before .join-writes in
-    let a = c .before .before .before .before .before .before .before .args in
-    let w = joined-writes (a .queues .now) (a .r .mask) (a .n) (c .before .before .before .before .before .before .before .pre .1 .1) in
+    let a = start (after-ws (c .before)) .args in
+    let w = joined-writes (a .queues .now) (a .r .mask) (a .n) (start (after-ws (c .before)) .pre .1 .1) in
     let n = length-take-le (j .result) (j .last .0) (front-back _ _ _ _ (j .ensures .0) (j .ensures .1) .0) in
     (omega arith, (omega arith, omega arith))
 
@@ -33,8 +39,11 @@ same-length c = search needs
 
 returns : tie.Need-returns
 unfolding mergedWords
-returns c = let j = c .before .before .before .before .before .before .join-writes in
-    let w = rw (front-back _ _ _ _ (j .ensures .0) (j .ensures .1) .1, j .ensures .0) at (c .before .before .write-record .ensures) in
+returns c =
+    let wrote = c .before .before in
+    let lent = wrote .before .before in
+    let j = lent .before .before .join-writes in
+    let w = rw (front-back _ _ _ _ (j .ensures .0) (j .ensures .1) .1, j .ensures .0) at (wrote .write-record .ensures) in
     w
 
 pub write-merged-spec : {M : Type 1} → statement M

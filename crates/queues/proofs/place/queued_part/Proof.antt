@@ -11,6 +11,9 @@ use Rattle.kinds.specs.Word as word
 use Rattle.queues.proofs.place.queued_part.Statement.{statement}
 use Rattle.queues.proofs.place.queued_part.Tie as tie
 
+abbrev start : tie.After-shared-slice-known2 → tie.Start
+start c = c .before .before .before
+
 place-words-requires : tie.Need-place-words-requires
 place-words-requires c κs = search needs
 
@@ -19,7 +22,7 @@ shared-slice-read-n c = search needs
 
 slice-aggregate-result : tie.Need-slice-aggregate-result
 slice-aggregate-result c = let w = c .before .before .place-words in
-    let h : getD (w .result .now) word.length 0 ≤ sizes.part = rw (w .ensures .1) (c .before .before .before .before .pre .1 .1) in
+    let h : getD (w .result .now) word.length 0 ≤ sizes.part = rw (w .ensures .1) (start (c .before) .pre .1 .1) in
     sym (length-take-le (getD (w .result .now) word.length 0) (w .result .now) (omega arith))
 
 returns : tie.Need-returns

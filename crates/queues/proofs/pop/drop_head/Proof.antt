@@ -10,18 +10,24 @@ use Rattle.kinds.specs.Sizes as sizes
 use Rattle.queues.proofs.pop.drop_head.Statement.{statement}
 use Rattle.queues.proofs.pop.drop_head.Tie as tie
 
+abbrev start : tie.After-move-up → tie.Start
+start c = c .before .before .before
+
+abbrev after-move-up : tie.After-fill-words-arg → tie.After-move-up
+after-move-up c = c .before .before .before
+
 move-up-requires : tie.Need-move-up-requires
 move-up-requires c κs = search needs
 
 moved : (c : tie.After-slice-known2) → c .before .before .move-up .result ≤ length (c .before .before .move-up .last .0)
 moved c =
-    let d = c .before .before .before .before .before .args .ws .now in
+    let d = start (c .before .before) .args .ws .now in
     let n = length-drop sizes.part d in
     let m = c .before .before .move-up .ensures in
     omega (arith, m .0, ap length (m .1), length-overlay d (drop sizes.part d) (omega arith))
 
 mul-fill-words : tie.Need-mul-fill-words
-mul-fill-words c = omega (arith, length-drop sizes.part (c .before .before .before .before .before .args .ws .now))
+mul-fill-words c = omega (arith, length-drop sizes.part (start (c .before .before) .args .ws .now))
 
 sub-fill-words : tie.Need-sub-fill-words
 sub-fill-words c = omega (arith, moved c)
@@ -41,9 +47,9 @@ same-length c = search needs
 returns : tie.Need-returns
 returns c =
     let fill-words = c .before .before .fill-words in
-    let move-up = c .before .before .before .before .before .before .move-up in
-    let args = c .before .before .before .before .before .before .before .before .before .args in
-    let pre = c .before .before .before .before .before .before .before .before .before .pre in
+    let move-up = after-move-up (c .before .before .before) .move-up in
+    let args = start (after-move-up (c .before .before .before)) .args in
+    let pre = start (after-move-up (c .before .before .before)) .pre in
     head-dropped (args .ws .now) (move-up .last .0) (fill-words .last .0) (move-up .result) (pre) (move-up .ensures .1) (move-up .ensures .0) (fill-words .ensures)
 
 pub drop-head-spec : {M : Type 1} → statement M

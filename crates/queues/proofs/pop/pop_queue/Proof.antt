@@ -10,6 +10,12 @@ use Rattle.kinds.specs.Sizes as sizes
 use Rattle.queues.proofs.pop.pop_queue.Statement.{statement}
 use Rattle.queues.proofs.pop.pop_queue.Tie as tie
 
+abbrev else1 : tie.After-queues → tie.Else1
+else1 c = c .before .before .before
+
+abbrev start : tie.Else1 → tie.Start
+start c = c .before .before .before
+
 add-in-mask : tie.Need-add-in-mask
 add-in-mask c = search needs
 
@@ -48,10 +54,10 @@ returns-2 : tie.Need-returns-2
 unfolding popQueueAt
 returns-2 c =
     let drop-head = c .before .before .drop-head in
-    let if1 = c .before .before .before .before .if1 in
-    let in-mask = c .before .before .before .before .before .in-mask in
-    let args = c .before .before .before .before .before .before .before .args in
-    let pre = c .before .before .before .before .before .before .before .pre in
+    let if1 = else1 (c .before) .if1 in
+    let in-mask = else1 (c .before) .before .in-mask in
+    let args = start (else1 (c .before)) .args in
+    let pre = start (else1 (c .before)) .pre in
     let n = sizes.siteQueue * args .i + sizes.siteQueue - sizes.siteQueue * args .i in
     rw (sym (in-mask .ensures) ∙ not-false _ (if1 .left))
     (queue-popped (args .queues .now) (drop-head .last .0) (args .i) n (pre .0) (pre .1) (omega arith) (drop-head .ensures))

@@ -16,6 +16,12 @@ Inv-loop queues₀ mask n i₀ queues i = (i ≤ n) × ((length queues ≡ lengt
 abbrev μ-loop : tie.MeasureT-loop
 μ-loop queues₀ mask n i₀ queues i = n - i
 
+abbrev in-loop : tie.After-queues Inv-loop μ-loop → tie.In-loop Inv-loop μ-loop
+in-loop c = c .before .before .before
+
+abbrev start : tie.In-loop Inv-loop μ-loop → tie.Start Inv-loop μ-loop
+start c = c .before .before .before
+
 loop-holds : tie.Need-loop-holds Inv-loop μ-loop
 unfolding popQueues foldBelow
 loop-holds c = (search needs, (refl, refl))
@@ -32,9 +38,15 @@ loop-less c = search needs
 loop-again : tie.Need-loop-again Inv-loop μ-loop
 loop-again c =
     let pop-queue = c .before .before .pop-queue in
-    let args = c .before .before .before .before .before .before .before .args in
-    let l = c .before .before .before .before .before .loop in
-    (search needs, (search needs, pop-queue .ensures ∙ ap (popQueueAt (args .mask) (l .i)) (l .inv .1 .1) ∙ sym (pops-more (args .queues .now) (args .mask) (l .i))))
+    let args = start (in-loop (c .before)) .args in
+    let l = in-loop (c .before) .before .loop in (
+      search needs,
+      (
+        search needs,
+        pop-queue .ensures ∙ ap (popQueueAt (args .mask) (l .i)) (l .inv .1 .1)
+            ∙ sym (pops-more (args .queues .now) (args .mask) (l .i)),
+      ),
+    )
 
 same-length : tie.Need-same-length Inv-loop μ-loop
 same-length c = c .before .loop .inv .1 .0

@@ -10,6 +10,12 @@ use Rattle.rules.specs.Record.{recordHead}
 use Rattle.queues.proofs.possible.queued_ok.Statement.{statement}
 use Rattle.queues.proofs.possible.queued_ok.Tie as tie
 
+abbrev after-shared-slice-known2 : tie.After-part-ok → tie.After-shared-slice-known2
+after-shared-slice-known2 c = c .before .before .before
+
+abbrev else1 : tie.Else2 → tie.Else1
+else1 c = c .before .before .before
+
 place-words-requires : tie.Need-place-words-requires
 place-words-requires c κs = search needs
 
@@ -32,9 +38,14 @@ returns-2 c =
     let part-ok = c .before .part-ok in
     let queued-part = c .before .before .queued-part in
     let if1 = c .before .before .before .if1 in
-    let place-words = c .before .before .before .before .before .place-words in
-    simp
-    (← place-words .ensures .1, le-leb _ _ (if1 .left), ← queued-part .ensures, ← part-ok .ensures, not-true (part-ok .result) (c .if2 .taken))
+    let place-words = after-shared-slice-known2 (c .before) .before .place-words in
+    simp (
+      ← place-words .ensures .1,
+      le-leb _ _ (if1 .left),
+      ← queued-part .ensures,
+      ← part-ok .ensures,
+      not-true (part-ok .result) (c .if2 .taken),
+    )
 
 shared-slice-read-result : tie.Need-shared-slice-read-result
 shared-slice-read-result c = omega (arith, part-long _ _ (sym (c .before .before .part-ok .ensures) ∙ not-false _ (c .before .if2 .left)))
@@ -48,10 +59,16 @@ returns-3 c =
     let if2 = c .before .if2 in
     let part-ok = c .before .before .part-ok in
     let queued-part = c .before .before .before .queued-part in
-    let if1 = c .before .before .before .before .if1 in
-    let place-words = c .before .before .before .before .before .before .place-words in
-    simp
-    (← place-words .ensures .1, le-leb _ _ (if1 .left), ← queued-part .ensures, ← part-ok .ensures, not-false (part-ok .result) (if2 .left), pick-self)
+    let if1 = else1 (c .before) .if1 in
+    let place-words = after-shared-slice-known2 (c .before .before) .before .place-words in
+    simp (
+      ← place-words .ensures .1,
+      le-leb _ _ (if1 .left),
+      ← queued-part .ensures,
+      ← part-ok .ensures,
+      not-false (part-ok .result) (if2 .left),
+      pick-self,
+    )
 
 pub queued-ok-spec : {M : Type 1} → statement M
 queued-ok-spec =

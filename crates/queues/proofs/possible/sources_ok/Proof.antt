@@ -15,6 +15,9 @@ Inv-loop queues g o i₀ i = (i ≤ 8) × EachBelow (λ k. sourceOk (g .house) q
 abbrev μ-loop : tie.MeasureT-loop
 μ-loop queues g o i₀ i = 8 - i
 
+abbrev at-loop : tie.After-source-ok Inv-loop μ-loop → tie.At-loop Inv-loop μ-loop
+at-loop c = c .before .before .before
+
 loop-holds : tie.Need-loop-holds Inv-loop μ-loop
 loop-holds c = (search needs, each-none _)
 
@@ -39,7 +42,7 @@ loop-less c = search needs
 loop-again : tie.Need-loop-again Inv-loop μ-loop
 loop-again c =
     let source-ok = c .before .source-ok in
-    let loop = c .before .before .before .before .loop in
+    let loop = at-loop (c .before) .loop in
     (search needs, below-more _ _ (loop .inv .1) (sym (source-ok .ensures) ∙ not-false _ (c .if1 .left)))
 
 returns-2 : tie.Need-returns-2 Inv-loop μ-loop

@@ -8,6 +8,9 @@ use Rattle.rules.specs.Record.{mergedHeadOk}
 use Rattle.records.proofs.head.merged_head_ok.Statement.{statement}
 use Rattle.records.proofs.head.merged_head_ok.Tie as tie
 
+abbrev after-whole-house : tie.After-pair-ok → tie.After-whole-house
+after-whole-house c = c .before .before .before
+
 whole-house-requires : tie.Need-whole-house-requires
 whole-house-requires c κs = search needs
 
@@ -25,11 +28,26 @@ pair-ok-requires c κs = rw (c .before .before .whole-house .ensures) (omega ari
 
 returns-3 : tie.Need-returns-3
 unfolding mergedHeadOk
-returns-3 c = search (← c .before .pair-ok .ensures, ← c .before .before .before .before .whole-house .ensures, not-true (c .before .pair-ok .result) (c .if3 .taken), eq-eqb, needs)
+returns-3 c =
+    search (
+      ← c .before .pair-ok .ensures,
+      ← after-whole-house (c .before) .whole-house .ensures,
+      not-true (c .before .pair-ok .result) (c .if3 .taken),
+      eq-eqb,
+      needs,
+    )
 
 returns-4 : tie.Need-returns-4
 unfolding mergedHeadOk
-returns-4 c = search (← c .before .pair-ok .ensures, ← c .before .before .before .before .whole-house .ensures, not-false (c .before .pair-ok .result) (c .if3 .left), pick-self, eq-eqb, needs)
+returns-4 c =
+    search (
+      ← c .before .pair-ok .ensures,
+      ← after-whole-house (c .before) .whole-house .ensures,
+      not-false (c .before .pair-ok .result) (c .if3 .left),
+      pick-self,
+      eq-eqb,
+      needs,
+    )
 
 pub merged-head-ok-spec : {M : Type 1} → statement M
 merged-head-ok-spec =

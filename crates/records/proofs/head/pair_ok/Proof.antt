@@ -6,6 +6,9 @@ use Rattle.rules.specs.Record.{pairOk}
 use Rattle.records.proofs.head.pair_ok.Statement.{statement}
 use Rattle.records.proofs.head.pair_ok.Tie as tie
 
+abbrev after-coordinator-of : tie.Else2 → tie.After-coordinator-of
+after-coordinator-of c = c .before .before .before
+
 coordinator-of-requires : tie.Need-coordinator-of-requires
 coordinator-of-requires c κs = search needs
 
@@ -25,7 +28,15 @@ is-mask-requires c κs = search needs
 
 returns-3 : tie.Need-returns-3
 unfolding pairOk
-returns-3 c = search (← c .before .before .before .is-tx .ensures, ← c .before .before .before .before .coordinator-of .ensures, not-false (c .before .before .before .is-tx .result) (c .before .before .if1 .left), pick-self, eq-eqb, needs)
+returns-3 c =
+    search (
+      ← c .before .before .before .is-tx .ensures,
+      ← after-coordinator-of (c .before) .coordinator-of .ensures,
+      not-false (c .before .before .before .is-tx .result) (c .before .before .if1 .left),
+      pick-self,
+      eq-eqb,
+      needs,
+    )
 
 pub pair-ok-spec : {M : Type 1} → statement M
 pair-ok-spec =

@@ -11,11 +11,17 @@ use Rattle.rules.specs.Record.{pairOk, partHeadOk}
 use Rattle.records.proofs.head.part_head_ok.Statement.{statement}
 use Rattle.records.proofs.head.part_head_ok.Tie as tie
 
+abbrev start : tie.Else2 → tie.Start
+start c = c .before .before .before
+
+abbrev else2 : tie.After-in-mask → tie.Else2
+else2 c = c .before .before .before
+
 -- what the tests passed have shown
 site-is : (c : tie.Else2) → isSite (c .before .before .before .args .o) (c .before .before .before .args .r .site) ≡ true
 site-is c = sym (c .before .is-site .ensures) ∙ not-false _ (c .if2 .left)
 
-pair-is : (c : tie.Else3) → pairOk (c .before .before .before .before .before .args .o) (c .before .before .before .before .before .args .r) ≡ true
+pair-is : (c : tie.Else3) → pairOk (start (c .before .before) .args .o) (start (c .before .before) .args .r) ≡ true
 pair-is c = sym (c .before .pair-ok .ensures) ∙ not-false _ (c .if3 .left)
 
 returns : tie.Need-returns
@@ -38,17 +44,35 @@ returns-3 c = search (← c .before .pair-ok .ensures, not-true (c .before .pair
 
 in-mask-requires : tie.Need-in-mask-requires
 in-mask-requires c κs =
-    let a = c .before .before .before .before .before .args in
+    let a = start (c .before .before) .args in
     let k = site-clear (a .o) (a .r .site) (site-is (c .before .before)) in
     omega arith
 
 returns-4 : tie.Need-returns-4
 unfolding partHeadOk
-returns-4 c = search (← c .before .in-mask .ensures, not-true (c .before .in-mask .result) (c .if4 .taken), pair-is (c .before .before), site-is (c .before .before .before .before), eq-eqb, needs)
+returns-4 c =
+    search (
+      ← c .before .in-mask .ensures,
+      not-true (c .before .in-mask .result) (c .if4 .taken),
+      pair-is (c .before .before),
+      site-is (else2 (c .before)),
+      eq-eqb,
+      needs,
+    )
 
 returns-5 : tie.Need-returns-5
 unfolding partHeadOk
-returns-5 c = search (← c .before .in-mask .ensures, not-false (c .before .in-mask .result) (c .if4 .left), pair-is (c .before .before), site-is (c .before .before .before .before), pick-self, eq-eqb, le-leb, needs)
+returns-5 c =
+    search (
+      ← c .before .in-mask .ensures,
+      not-false (c .before .in-mask .result) (c .if4 .left),
+      pair-is (c .before .before),
+      site-is (else2 (c .before)),
+      pick-self,
+      eq-eqb,
+      le-leb,
+      needs,
+    )
 
 pub part-head-ok-spec : {M : Type 1} → statement M
 part-head-ok-spec =

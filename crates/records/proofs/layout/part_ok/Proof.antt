@@ -14,13 +14,20 @@ use Rattle.rules.specs.RecordLaws.{ShapeClear, shape-clear, PartClear, part-cle
 use Rattle.records.proofs.layout.part_ok.Statement.{statement}
 use Rattle.records.proofs.layout.part_ok.Tie as tie
 
+abbrev start : tie.Else1 → tie.Start
+start c = c .before .before .before
+
+abbrev else1 : tie.Else2 → tie.Else1
+else1 c = c .before .before .before
+
 shaped : (c : tie.Else1) → ShapeClear (c .before .before .before .args .m .now)
 shaped c = shape-clear _ (sym (c .before .shape-ok .ensures) ∙ not-false _ (c .if1 .left))
 
-headed : (c : tie.Else2) → PartClear (c .before .before .before .before .before .before .args .o) (c .before .before .read-record .result)
+headed : (c : tie.Else2) → PartClear (start (c .before .before .before) .args .o) (c .before .before .read-record .result)
 headed c = part-clear _ _ (sym (c .before .part-head-ok .ensures) ∙ not-false _ (c .if2 .left))
 
-counted : (c : tie.Else2) → c .before .before .read-record .result .count ≡ getD (c .before .before .before .before .before .before .args .m .now) word.writeCount 0
+counted : (c : tie.Else2)
+    → c .before .before .read-record .result .count ≡ getD (start (c .before .before .before) .args .m .now) word.writeCount 0
 unfolding recordHead
 counted c = ap (λ (r : RecordHead). r .count) (c .before .before .read-record .ensures)
 
@@ -60,16 +67,16 @@ part-part-writes-ok-end c = search needs
 
 part-writes-ok-requires : tie.Need-part-writes-ok-requires
 part-writes-ok-requires c κs =
-    let s = shaped (c .before .before .before .before) in
+    let s = shaped (else1 (c .before)) in
     let h = headed (c .before) in
     let n = counted (c .before) in
-    let m = c .before .before .before .before .before .before .before .args .m .now in
+    let m = start (else1 (c .before)) .args .m .now in
     omega (arith, length-rest m sizes.recordHeader)
 
 returns-3 : tie.Need-returns-3
 unfolding partOk recordWrites
 returns-3 c =
-    let p = c .before .before .before .before .before in
+    let p = else1 (c .before .before) in
     let h = c .before .before in
     simp (
       ← p .before .shape-ok .ensures,

@@ -9,6 +9,12 @@ use Rattle.rules.specs.Record.{recordLength, recordShape}
 use Rattle.records.proofs.layout.shape_ok.Statement.{statement}
 use Rattle.records.proofs.layout.shape_ok.Tie as tie
 
+abbrev after-shared-slice-known2 : tie.After-write-offset → tie.After-shared-slice-known2
+after-shared-slice-known2 c = c .before .before .before
+
+abbrev start : tie.After-shared-slice-known2 → tie.Start
+start c = c .before .before .before
+
 returns : tie.Need-returns
 unfolding recordShape
 returns c = search (lt-leb, needs)
@@ -32,7 +38,7 @@ returns-2 c = search (le-leb, ne-eqb, needs)
 returns-3 : tie.Need-returns-3
 unfolding recordShape
 returns-3 c =
-    let m = c .before .before .before .before .before .before .before .before .args .m .now in
+    let m = start (after-shared-slice-known2 (c .before .before)) .args .m .now in
     let d = ne-eqb (length m) (recordLength (getD m word.writeCount 0)) (λ q. omega arith) in
     search (d, le-leb, eq-eqb, needs)
 

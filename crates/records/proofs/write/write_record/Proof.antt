@@ -8,6 +8,15 @@ use Rattle.rules.specs.Record.{recordHeadWords, recordWords}
 use Rattle.records.proofs.write.write_record.Statement.{statement}
 use Rattle.records.proofs.write.write_record.Tie as tie
 
+abbrev after-slice-known2 : tie.After-out2 → tie.After-slice-known2
+after-slice-known2 c = c .before .before .before
+
+abbrev after-write-head-arg : tie.After-slice-known2 → tie.After-write-head-arg
+after-write-head-arg c = c .before .before .before
+
+abbrev start : tie.After-write-head-arg → tie.Start
+start c = c .before .before .before
+
 write-head-requires : tie.Need-write-head-requires
 write-head-requires c κs = search needs
 
@@ -32,10 +41,12 @@ same-length c = search needs
 returns : tie.Need-returns
 unfolding recordWords
 returns c =
-    let a = c .before .before .before .before .before .before .before .before .before .before .args in
-    let w = c .before .before .before .before .before .before .write-head in
-    let k = c .before .before .copy-words in
-    (omega arith, behind (a .out .now) (recordHeadWords (a .r)) (a .ws .now) (w .last .0) (k .last .0) sizes.recordHeader refl (omega arith) (w .ensures) (k .ensures))
+    let a = start (after-write-head-arg (after-slice-known2 (c .before))) .args in
+    let w = after-slice-known2 (c .before) .before .before .write-head in
+    let k = c .before .before .copy-words in (
+      omega arith,
+      behind (a .out .now) (recordHeadWords (a .r)) (a .ws .now) (w .last .0) (k .last .0) sizes.recordHeader refl (omega arith) (w .ensures) (k .ensures),
+    )
 
 pub write-record-spec : {M : Type 1} → statement M
 write-record-spec =

@@ -5,6 +5,9 @@ use Rattle.kinds.specs.Sizes as sizes
 use Rattle.site.proofs.access.write_code.Statement.{statement}
 use Rattle.site.proofs.access.write_code.Tie as tie
 
+abbrev start : tie.Else3 → tie.Start
+start c = c .before .before .before
+
 returns : tie.Need-returns
 unfolding writeCode
 returns c = simp (c .if1 .taken)
@@ -19,11 +22,23 @@ returns-3 c = simp (c .before .before .if1 .left, c .before .if2 .left, c .if3 .
 
 returns-4 : tie.Need-returns-4
 unfolding writeCode
-returns-4 c = simp (c .before .before .before .if1 .left, c .before .before .if2 .left, c .before .if3 .left, le-leb sizes.writes (c .before .before .before .before .args .wrote) (c .if4 .taken))
+returns-4 c =
+    simp (
+      c .before .before .before .if1 .left,
+      c .before .before .if2 .left,
+      c .before .if3 .left,
+      le-leb sizes.writes (start (c .before) .args .wrote) (c .if4 .taken),
+    )
 
 returns-5 : tie.Need-returns-5
 unfolding writeCode
-returns-5 c = simp (c .before .before .before .if1 .left, c .before .before .if2 .left, c .before .if3 .left, lt-leb sizes.writes (c .before .before .before .before .args .wrote) (c .if4 .left))
+returns-5 c =
+    simp (
+      c .before .before .before .if1 .left,
+      c .before .before .if2 .left,
+      c .before .if3 .left,
+      lt-leb sizes.writes (start (c .before) .args .wrote) (c .if4 .left),
+    )
 
 pub write-code-spec : {M : Type 1} → statement M
 write-code-spec = tie.close (tie.spec returns returns-2 returns-3 returns-4 returns-5)

@@ -17,6 +17,9 @@ Inv-loop self number n i₀ i = (i ≤ n) × EachBelow (isDueAt (self .merger) n
 abbrev μ-loop : tie.MeasureT-loop
 μ-loop self number n i₀ i = n - i
 
+abbrev start : tie.In-loop Inv-loop μ-loop → tie.Start Inv-loop μ-loop
+start c = c .before .before .before
+
 sites-requires : tie.Need-sites-requires Inv-loop μ-loop
 sites-requires c κs = search needs
 
@@ -30,8 +33,9 @@ returns : tie.Need-returns Inv-loop μ-loop
 returns c =
     let is-due-at = c .before .is-due-at in
     let loop = c .before .before .before .loop in
-    let args = c .before .before .before .before .before .args in
-    not-all-below (isDueAt (args .self .merger) (args .number)) (sitesIn (args .self)) (loop .i) (omega arith) (sym (is-due-at .ensures) ∙ not-true _ (c .if1 .taken))
+    let args = start (c .before .before) .args in
+    not-all-below (isDueAt (args .self .merger) (args .number)) (sitesIn (args .self)) (loop .i) (omega arith) (sym (is-due-at .ensures)
+    ∙ not-true _ (c .if1 .taken))
 
 add-i : tie.Need-add-i Inv-loop μ-loop
 add-i c = search needs

@@ -5,6 +5,9 @@ use Rattle.rules.specs.Merger.{betterHead}
 use Rattle.merger.proofs.heads.Heads.better.Statement.{statement}
 use Rattle.merger.proofs.heads.Heads.better.Tie as tie
 
+abbrev else2 : tie.After-precedes → tie.Else2
+else2 c = c .before .before .before
+
 has-head-requires : tie.Need-has-head-requires
 has-head-requires c κs = search needs
 
@@ -38,18 +41,18 @@ returns-3 : tie.Need-returns-3
 unfolding betterHead
 returns-3 c =
     let precedes = c .before .precedes in
-    let if2 = c .before .before .before .before .if2 in
-    let if1 = c .before .before .before .before .before .if1 in
-    let has-head = c .before .before .before .before .before .before .has-head in
+    let if2 = else2 (c .before) .if2 in
+    let if1 = else2 (c .before) .before .if1 in
+    let has-head = else2 (c .before) .before .before .has-head in
     simp (← has-head .ensures, not-false (has-head .result) (if1 .left), lt-ltb _ _ (if2 .left), ← precedes .ensures, c .if3 .taken)
 
 returns-4 : tie.Need-returns-4
 unfolding betterHead
 returns-4 c =
     let precedes = c .before .precedes in
-    let if2 = c .before .before .before .before .if2 in
-    let if1 = c .before .before .before .before .before .if1 in
-    let has-head = c .before .before .before .before .before .before .has-head in
+    let if2 = else2 (c .before) .if2 in
+    let if1 = else2 (c .before) .before .if1 in
+    let has-head = else2 (c .before) .before .before .has-head in
     simp (← has-head .ensures, not-false (has-head .result) (if1 .left), lt-ltb _ _ (if2 .left), ← precedes .ensures, c .if3 .left)
 
 pub better-spec : {M : Type 1} → statement M

@@ -8,6 +8,9 @@ use Rattle.rules.specs.MergerLaws.{is-due}
 use Rattle.merger.proofs.heads.Heads.due_code.Statement.{statement}
 use Rattle.merger.proofs.heads.Heads.due_code.Tie as tie
 
+abbrev after-is-due : tie.After-is-whole → tie.After-is-due
+after-is-due c = c .before .before .before
+
 is-due-requires : tie.Need-is-due-requires
 is-due-requires c κs = search needs
 
@@ -29,16 +32,26 @@ unfolding dueCode
 returns-2 c =
     let is-whole = c .before .is-whole in
     let if1 = c .before .before .before .if1 in
-    let is-due-call = c .before .before .before .before .is-due in
-    simp (← is-due-call .ensures, not-false (is-due-call .result) (if1 .left), ← is-whole .ensures, not-true (is-whole .result) (c .if2 .taken))
+    let is-due-call = after-is-due (c .before) .is-due in
+    simp (
+      ← is-due-call .ensures,
+      not-false (is-due-call .result) (if1 .left),
+      ← is-whole .ensures,
+      not-true (is-whole .result) (c .if2 .taken),
+    )
 
 returns-3 : tie.Need-returns-3
 unfolding dueCode
 returns-3 c =
     let is-whole = c .before .is-whole in
     let if1 = c .before .before .before .if1 in
-    let is-due-call = c .before .before .before .before .is-due in
-    simp (← is-due-call .ensures, not-false (is-due-call .result) (if1 .left), ← is-whole .ensures, not-false (is-whole .result) (c .if2 .left))
+    let is-due-call = after-is-due (c .before) .is-due in
+    simp (
+      ← is-due-call .ensures,
+      not-false (is-due-call .result) (if1 .left),
+      ← is-whole .ensures,
+      not-false (is-whole .result) (c .if2 .left),
+    )
 
 pub due-code-spec : {M : Type 1} → statement M
 due-code-spec =

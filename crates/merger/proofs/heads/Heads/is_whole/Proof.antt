@@ -17,6 +17,9 @@ Inv-loop self r n i₀ i = (i ≤ n) × EachBelow (isWholeAt (self .merger) (sel
 abbrev μ-loop : tie.MeasureT-loop
 μ-loop self r n i₀ i = n - i
 
+abbrev start : tie.In-loop Inv-loop μ-loop → tie.Start Inv-loop μ-loop
+start c = c .before .before .before
+
 sites-requires : tie.Need-sites-requires Inv-loop μ-loop
 sites-requires c κs = search needs
 
@@ -31,7 +34,7 @@ unfolding isWhole
 returns c =
     let is-whole-at = c .before .is-whole-at in
     let loop = c .before .before .before .loop in
-    let args = c .before .before .before .before .before .args in
+    let args = start (c .before .before) .args in
     not-all-below (isWholeAt (args .self .merger) (args .self .heads) (args .r)) (sitesIn (args .self)) (loop .i) (omega arith)
     (sym (is-whole-at .ensures) ∙ not-true _ (c .if1 .taken))
 

@@ -6,6 +6,15 @@ use Rattle.rules.specs.Merger.{isWholeAt}
 use Rattle.merger.proofs.heads.Heads.is_whole_at.Statement.{statement}
 use Rattle.merger.proofs.heads.Heads.is_whole_at.Tie as tie
 
+abbrev else1 : tie.After-struct-known2 → tie.Else1
+else1 c = c .before .before .before
+
+abbrev after-in-mask : tie.After-struct-known → tie.After-in-mask
+after-in-mask c = c .before .before .before
+
+abbrev after-struct-known : tie.After-struct-known3 → tie.After-struct-known
+after-struct-known c = c .before .before .before
+
 mul-a : tie.Need-mul-a
 mul-a c = search needs
 
@@ -37,9 +46,9 @@ returns-3 : tie.Need-returns-3
 unfolding isWholeAt
 returns-3 c =
     let if2 = c .before .before .before .if2 in
-    let if1 = c .before .before .before .before .if1 in
-    let in-mask = c .before .before .before .before .before .in-mask in
-    let has-part = c .before .before .before .before .before .before .has-part in
+    let if1 = else1 (c .before) .if1 in
+    let in-mask = after-in-mask (c .before .before) .in-mask in
+    let has-part = after-in-mask (c .before .before) .before .has-part in
     simp (
       ← in-mask .ensures,
       not-false (in-mask .result) (if1 .left),
@@ -52,10 +61,10 @@ returns-4 : tie.Need-returns-4
 unfolding isWholeAt
 returns-4 c =
     let if3 = c .before .before .if3 in
-    let if2 = c .before .before .before .before .before .if2 in
-    let if1 = c .before .before .before .before .before .before .if1 in
-    let in-mask = c .before .before .before .before .before .before .before .in-mask in
-    let has-part = c .before .before .before .before .before .before .before .before .has-part in
+    let if2 = after-struct-known (c .before) .before .if2 in
+    let if1 = after-struct-known (c .before) .before .before .if1 in
+    let in-mask = after-in-mask (after-struct-known (c .before)) .in-mask in
+    let has-part = after-in-mask (after-struct-known (c .before)) .before .has-part in
     simp (
       ← in-mask .ensures,
       not-false (in-mask .result) (if1 .left),

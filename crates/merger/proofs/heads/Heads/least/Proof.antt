@@ -16,6 +16,9 @@ Inv-loop self n best₀ i₀ best i = (i ≤ n) × (best ≡ leastHead (self .me
 abbrev μ-loop : tie.MeasureT-loop
 μ-loop self n best₀ i₀ best i = n - i
 
+abbrev start : tie.In-loop Inv-loop μ-loop → tie.Start Inv-loop μ-loop
+start c = c .before .before .before
+
 sites-requires : tie.Need-sites-requires Inv-loop μ-loop
 sites-requires c κs = search needs
 
@@ -35,7 +38,7 @@ loop-less c = search needs
 loop-again : tie.Need-loop-again Inv-loop μ-loop
 loop-again c =
     let loop = c .before .before .loop in
-    let args = c .before .before .before .before .args in (
+    let args = start (c .before) .args in (
       search needs,
       c .better .ensures ∙ ap (betterHead (args .self .merger) (args .self .heads) (loop .i)) (loop .inv .1)
           ∙ sym (least-head-more (args .self .merger) (args .self .heads) (loop .i)),

@@ -16,6 +16,9 @@ Inv-loop g queues n heads₀ i₀ heads i = (i ≤ n) × (heads ≡ headsOf queu
 abbrev μ-loop : tie.MeasureT-loop
 μ-loop g queues n heads₀ i₀ heads i = n - i
 
+abbrev start : tie.At-loop Inv-loop μ-loop → tie.Start Inv-loop μ-loop
+start c = c .before .before .before
+
 no-head-requires : tie.Need-no-head-requires Inv-loop μ-loop
 no-head-requires c κs = search needs
 
@@ -41,14 +44,14 @@ loop-less c = search needs
 loop-again : tie.Need-loop-again Inv-loop μ-loop
 loop-again c =
     let loop = c .before .before .loop in
-    let args = c .before .before .before .before .before .args in
+    let args = start (c .before .before) .args in
     (search needs, rw (loop .inv .1, c .read-head .ensures) (sym (heads-more (args .queues .now) (loop .i))))
 
 returns : tie.Need-returns Inv-loop μ-loop
 unfolding orderOf
 returns c =
     let loop = c .before .loop in
-    let args = c .before .before .before .before .args in
+    let args = start (c .before) .args in
     let e : loop .i ≡ args .g .house .sites = omega arith in rw (← e, loop .inv .1) refl
 
 pub read-spec : {M : Type 1} → statement M

@@ -9,6 +9,15 @@ use Rattle.rules.specs.MergerLaws.{due-clear, due-queued, is-due}
 use Rattle.merger.proofs.heads.Heads.take_due.Statement.{statement}
 use Rattle.merger.proofs.heads.Heads.take_due.Tie as tie
 
+abbrev start : tie.Then1 → tie.Start
+start c = c .before .before .before
+
+abbrev after-least : tie.After-head → tie.After-least
+after-least c = c .before .before .before
+
+abbrev start-2 : tie.Else1 → tie.Start
+start-2 c = c .before .before .before
+
 least-requires : tie.Need-least-requires
 least-requires c κs = search needs
 
@@ -24,9 +33,10 @@ returns c =
     let if1 = c .before .if1 in
     let due-code = c .before .before .due-code in
     let least = c .before .before .before .least in
-    let args = c .before .before .before .before .args in
+    let args = start (c .before) .args in
     let h = args .t1 in
-    let e : due-code .result ≡ dueCode (h .merger) (h .heads) (leastIn h) = due-code .ensures ∙ ap (dueCode (h .merger) (h .heads)) (least .ensures) in
+    let e : due-code .result ≡ dueCode (h .merger) (h .heads) (leastIn h) = due-code .ensures
+    ∙ ap (dueCode (h .merger) (h .heads)) (least .ensures) in
     rw (← e, ne-eqb _ 0 (if1 .taken), c .no-head .ensures)
 
 mul-head : tie.Need-mul-head
@@ -43,10 +53,11 @@ unfolding dueOf codeIn
 returns-2 c =
     let if1 = c .before .before .if1 in
     let due-code = c .before .before .before .due-code in
-    let least = c .before .before .before .before .least in
-    let args = c .before .before .before .before .before .args in
+    let least = after-least (c .before) .least in
+    let args = start-2 (c .before .before) .args in
     let h = args .t1 in
-    let e : due-code .result ≡ dueCode (h .merger) (h .heads) (leastIn h) = due-code .ensures ∙ ap (dueCode (h .merger) (h .heads)) (least .ensures) in
+    let e : due-code .result ≡ dueCode (h .merger) (h .heads) (leastIn h) = due-code .ensures
+    ∙ ap (dueCode (h .merger) (h .heads)) (least .ensures) in
     rw (← e, eq-eqb _ 0 (if1 .left), ← least .ensures, c .without .ensures)
 
 pub take-due-spec : {M : Type 1} → statement M

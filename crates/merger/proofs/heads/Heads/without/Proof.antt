@@ -14,6 +14,9 @@ Inv-loop mask n h₀ i₀ h i = (i ≤ n) × (h ≡ withoutTo mask h₀ i)
 abbrev μ-loop : tie.MeasureT-loop
 μ-loop mask n h₀ i₀ h i = n - i
 
+abbrev start : tie.In-loop Inv-loop μ-loop → tie.Start Inv-loop μ-loop
+start c = c .before .before .before
+
 sites-requires : tie.Need-sites-requires Inv-loop μ-loop
 sites-requires c κs = search needs
 
@@ -37,8 +40,11 @@ loop-less c = search needs
 loop-again : tie.Need-loop-again Inv-loop μ-loop
 loop-again c =
     let loop = c .before .before .loop in
-    let args = c .before .before .before .before .args in
-    (search needs, c .without-at .ensures ∙ ap (withoutAt (args .mask) (loop .i)) (loop .inv .1) ∙ sym (without-more (args .mask) (args .self) (loop .i)))
+    let args = start (c .before) .args in (
+      search needs,
+      c .without-at .ensures ∙ ap (withoutAt (args .mask) (loop .i)) (loop .inv .1)
+          ∙ sym (without-more (args .mask) (args .self) (loop .i)),
+    )
 
 returns : tie.Need-returns Inv-loop μ-loop
 unfolding without

@@ -8,6 +8,15 @@ use Rattle.rules.specs.Merger.{popMergerAt}
 use Rattle.merger.proofs.heads.Heads.without_at.Statement.{statement}
 use Rattle.merger.proofs.heads.Heads.without_at.Tie as tie
 
+abbrev after-in-mask : tie.After-c → tie.After-in-mask
+after-in-mask c = c .before .before .before
+
+abbrev start : tie.After-g → tie.Start
+start c = c .before .before .before
+
+abbrev else1 : tie.After-struct-known → tie.Else1
+else1 c = c .before .before .before
+
 add-in-mask : tie.Need-add-in-mask
 add-in-mask c = search needs
 
@@ -27,8 +36,8 @@ element-copy-out-c c = search needs
 sub-c : tie.Need-sub-c
 sub-c c =
     let if1 = c .before .before .before .if1 in
-    let in-mask = c .before .before .before .before .in-mask in
-    let pre = c .before .before .before .before .before .pre in
+    let in-mask = after-in-mask (c .before) .in-mask in
+    let pre = start (c .before .before) .pre in
     omega (arith, pre .1 (sym (in-mask .ensures) ∙ not-false _ (if1 .left)))
 
 mul-c-2 : tie.Need-mul-c-2
@@ -40,8 +49,8 @@ element-set-from-c c = search needs
 returns-2 : tie.Need-returns-2
 unfolding withoutAt popMergerAt
 returns-2 c =
-    let if1 = c .before .before .before .before .if1 in
-    let in-mask = c .before .before .before .before .before .in-mask in
+    let if1 = else1 (c .before) .if1 in
+    let in-mask = after-in-mask (c .before .before) .in-mask in
     simp (← in-mask .ensures, not-false (in-mask .result) (if1 .left))
 
 pub without-at-spec : {M : Type 1} → statement M
