@@ -30,7 +30,8 @@ fn put_write(copy: &mut [u64], ws: &[u64], i: usize)
     requires { ⌜ length (now copy) ≡ sizes.copy ⌝ }
     requires { ⌜ (i < sizes.mergedWrites) × (sizes.write * i + 1 < length (now ws)) ⌝ }
     requires { ⌜ writeKey (now ws) i < sizes.keys ⌝ }
-    ensures { λ _. ⌜ now (copy .exit) ≡ set (now (copy .entry)) (sizes.copyHeader + writeKey (now (ws .entry)) i) (writeValue (now (ws .entry)) i) ⌝ }
+    ensures { λ _. ⌜ now (copy .exit)
+        ≡ set (now (copy .entry)) (sizes.copyHeader + writeKey (now (ws .entry)) i) (writeValue (now (ws .entry)) i) ⌝ }
 {
     let key = ws[WRITE * i + word::WRITE_KEY];
     let v = ws[WRITE * i + word::WRITE_VALUE];

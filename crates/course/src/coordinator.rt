@@ -25,7 +25,8 @@ ghost use lib.ListN.{length};
 ghost use Rattle.laws.specs.Overlay.{overlay};
 ghost use Rattle.kinds.specs.Sizes as sizes;
 ghost use Rattle.rules.specs.Effect.{takenOf};
-ghost use Rattle.rules.specs.Course.{enlistStep, abortStep, commitStep, decideStep, castStep, prepareStep, voteDecides, voteStep, Entries, CanSendTo, CanSendAll};
+ghost use Rattle.rules.specs.Course.{enlistStep, abortStep, commitStep, decideStep, castStep, prepareStep, voteDecides, voteStep, Entries};
+ghost use Rattle.rules.specs.Course.{CanSendTo, CanSendAll};
 
 // A participant more, and JOIN to it.
 pub fn enlist_step(t: Turn, site: u64, out: &mut [u64]) -> Taken

@@ -26,7 +26,8 @@ ghost use Rattle.kinds.specs.Sizes as sizes;
 ghost use Rattle.kinds.specs.State.{noKeys, noSub};
 ghost use Rattle.rules.specs.House.{maskOf};
 ghost use Rattle.rules.specs.Effect.{takenOf};
-ghost use Rattle.rules.specs.Course.{newSub, raise as raiseOf, takenFrom, channelSpent, isOutstanding, quietly as quietlyOf, withSubOf, withCourseOf, withParticipant, withReply, withDecision, withMark, withRequest, withStage};
+ghost use Rattle.rules.specs.Course.{newSub, raise as raiseOf, takenFrom, channelSpent, isOutstanding, quietly as quietlyOf, withSubOf};
+ghost use Rattle.rules.specs.Course.{withCourseOf, withParticipant, withReply, withDecision, withMark, withRequest, withStage};
 
 pub fn no_keys() -> Keys
     ensures { λ r. ⌜ r ≡ noKeys ⌝ }

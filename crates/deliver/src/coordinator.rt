@@ -16,7 +16,9 @@ ghost use Rattle.handlers.specs.Held.{Reached};
 
 pub fn on_joined(p: Core, live: &mut [u64], history: &[u64], h: MessageHead, place: usize) -> Reply
     requires { ⌜ Reached p (now live) (now history) (h .from) ⌝ }
-    ensures { λ r. ⌜ Replied p (now (live .entry)) (now (history .entry)) r (now (live .exit)) (now (history .exit)) (orPassed (siteOf p (now (live .entry)) (now (history .entry))) h place (takeJoined (siteOf p (now (live .entry)) (now (history .entry))) h place)) ⌝ }
+    ensures { λ r. ⌜ Replied p (now (live .entry)) (now (history .entry)) r (now (live .exit)) (now (history .exit))
+        (orPassed (siteOf p (now (live .entry)) (now (history .entry))) h place
+        (takeJoined (siteOf p (now (live .entry)) (now (history .entry))) h place)) ⌝ }
 {
     if LIVE <= place {
         return shell::passed(p, h.from);
@@ -36,9 +38,13 @@ pub fn on_conc(
 ) -> Reply
     requires { ⌜ Incoming (siteOf p (now live) (now history)) h (now es) × (h .kind ≡ kind.conc) ⌝ }
     requires { ⌜ (length (now lists) ≡ sizes.lists) × (sizes.outgoing ≤ length (now out)) ⌝ }
-    ensures { λ r. ⌜ Replied p (now (live .entry)) (now (history .entry)) r (now (live .exit)) (now (history .exit)) (takeKind kind.conc (siteOf p (now (live .entry)) (now (history .entry))) h (now (es .entry)) (now (lists .entry)) place) ⌝ }
-    ensures { λ _. ⌜ now (lists .exit) ≡ takeKind kind.conc (siteOf p (now (live .entry)) (now (history .entry))) h (now (es .entry)) (now (lists .entry)) place .lent ⌝ }
-    ensures { λ _. ⌜ now (out .exit) ≡ overlay (now (out .entry)) (takeKind kind.conc (siteOf p (now (live .entry)) (now (history .entry))) h (now (es .entry)) (now (lists .entry)) place .words) ⌝ }
+    ensures { λ r. ⌜ Replied p (now (live .entry)) (now (history .entry)) r (now (live .exit)) (now (history .exit))
+        (takeKind kind.conc (siteOf p (now (live .entry)) (now (history .entry))) h (now (es .entry)) (now (lists .entry)) place) ⌝ }
+    ensures { λ _. ⌜ now (lists .exit)
+        ≡ takeKind kind.conc (siteOf p (now (live .entry)) (now (history .entry))) h (now (es .entry)) (now (lists .entry)) place .lent ⌝ }
+    ensures { λ _. ⌜ now (out .exit)
+        ≡ overlay (now (out .entry))
+        (takeKind kind.conc (siteOf p (now (live .entry)) (now (history .entry))) h (now (es .entry)) (now (lists .entry)) place .words) ⌝ }
 {
     if LIVE <= place {
         return shell::passed(p, h.from);
@@ -55,8 +61,13 @@ pub fn on_vote(
     out: &mut [u64],
 ) -> Reply
     requires { ⌜ Reached p (now live) (now history) (h .from) × (sizes.outgoing ≤ length (now out)) ⌝ }
-    ensures { λ r. ⌜ Replied p (now (live .entry)) (now (history .entry)) r (now (live .exit)) (now (history .exit)) (orPassed (siteOf p (now (live .entry)) (now (history .entry))) h place (takeVote (siteOf p (now (live .entry)) (now (history .entry))) h place)) ⌝ }
-    ensures { λ _. ⌜ now (out .exit) ≡ overlay (now (out .entry)) ((orPassed (siteOf p (now (live .entry)) (now (history .entry))) h place (takeVote (siteOf p (now (live .entry)) (now (history .entry))) h place)) .words) ⌝ }
+    ensures { λ r. ⌜ Replied p (now (live .entry)) (now (history .entry)) r (now (live .exit)) (now (history .exit))
+        (orPassed (siteOf p (now (live .entry)) (now (history .entry))) h place
+        (takeVote (siteOf p (now (live .entry)) (now (history .entry))) h place)) ⌝ }
+    ensures { λ _. ⌜ now (out .exit)
+        ≡ overlay (now (out .entry))
+        ((orPassed (siteOf p (now (live .entry)) (now (history .entry))) h place
+        (takeVote (siteOf p (now (live .entry)) (now (history .entry))) h place)) .words) ⌝ }
 {
     if LIVE <= place {
         return shell::passed(p, h.from);

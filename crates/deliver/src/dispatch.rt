@@ -31,9 +31,13 @@ pub fn take_kind(
 ) -> Reply
     requires { ⌜ Incoming (siteOf p (now live) (now history)) h (now es) ⌝ }
     requires { ⌜ (length (now lists) ≡ sizes.lists) × (sizes.outgoing ≤ length (now out)) ⌝ }
-    ensures { λ r. ⌜ Replied p (now (live .entry)) (now (history .entry)) r (now (live .exit)) (now (history .exit)) (takeKind (h .kind) (siteOf p (now (live .entry)) (now (history .entry))) h (now (es .entry)) (now (lists .entry)) place) ⌝ }
-    ensures { λ _. ⌜ now (lists .exit) ≡ takeKind (h .kind) (siteOf p (now (live .entry)) (now (history .entry))) h (now (es .entry)) (now (lists .entry)) place .lent ⌝ }
-    ensures { λ _. ⌜ now (out .exit) ≡ overlay (now (out .entry)) (takeKind (h .kind) (siteOf p (now (live .entry)) (now (history .entry))) h (now (es .entry)) (now (lists .entry)) place .words) ⌝ }
+    ensures { λ r. ⌜ Replied p (now (live .entry)) (now (history .entry)) r (now (live .exit)) (now (history .exit))
+        (takeKind (h .kind) (siteOf p (now (live .entry)) (now (history .entry))) h (now (es .entry)) (now (lists .entry)) place) ⌝ }
+    ensures { λ _. ⌜ now (lists .exit)
+        ≡ takeKind (h .kind) (siteOf p (now (live .entry)) (now (history .entry))) h (now (es .entry)) (now (lists .entry)) place .lent ⌝ }
+    ensures { λ _. ⌜ now (out .exit)
+        ≡ overlay (now (out .entry))
+        (takeKind (h .kind) (siteOf p (now (live .entry)) (now (history .entry))) h (now (es .entry)) (now (lists .entry)) place .words) ⌝ }
 {
     let kind = h.kind;
     match kind {

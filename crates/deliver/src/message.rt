@@ -35,9 +35,16 @@ pub fn message(
     lists: &mut [u64],
     out: &mut [u64],
 ) -> Reply
-    ensures { λ r. ⌜ Replied p (now (live .entry)) (now (history .entry)) r (now (live .exit)) (now (history .exit)) (messageOf (siteOf p (now (live .entry)) (now (history .entry))) (length (now (out .entry))) (now (lists .entry)) (now (m .entry))) ⌝ }
-    ensures { λ _. ⌜ now (lists .exit) ≡ messageOf (siteOf p (now (live .entry)) (now (history .entry))) (length (now (out .entry))) (now (lists .entry)) (now (m .entry)) .lent ⌝ }
-    ensures { λ _. ⌜ now (out .exit) ≡ overlay (now (out .entry)) (messageOf (siteOf p (now (live .entry)) (now (history .entry))) (length (now (out .entry))) (now (lists .entry)) (now (m .entry)) .words) ⌝ }
+    ensures { λ r. ⌜ Replied p (now (live .entry)) (now (history .entry)) r (now (live .exit)) (now (history .exit))
+        (messageOf (siteOf p (now (live .entry)) (now (history .entry))) (length (now (out .entry))) (now (lists .entry))
+        (now (m .entry))) ⌝ }
+    ensures { λ _. ⌜ now (lists .exit)
+        ≡ messageOf (siteOf p (now (live .entry)) (now (history .entry))) (length (now (out .entry))) (now (lists .entry))
+        (now (m .entry)) .lent ⌝ }
+    ensures { λ _. ⌜ now (out .exit)
+        ≡ overlay (now (out .entry))
+        (messageOf (siteOf p (now (live .entry)) (now (history .entry))) (length (now (out .entry))) (now (lists .entry))
+        (now (m .entry)) .words) ⌝ }
 {
     let ok = valid::handed_ok(p, live, history, lists);
     let house = tables::lent_house(p.house, live.len(), history.len());

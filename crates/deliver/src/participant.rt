@@ -23,8 +23,10 @@ pub fn on_prepare(
     out: &mut [u64],
 ) -> Reply
     requires { ⌜ Reached p (now live) (now history) (h .from) × (sizes.outgoing ≤ length (now out)) ⌝ }
-    ensures { λ r. ⌜ Replied p (now (live .entry)) (now (history .entry)) r (now (live .exit)) (now (history .exit)) (preparedOr (siteOf p (now (live .entry)) (now (history .entry))) h place) ⌝ }
-    ensures { λ _. ⌜ now (out .exit) ≡ overlay (now (out .entry)) ((preparedOr (siteOf p (now (live .entry)) (now (history .entry))) h place) .words) ⌝ }
+    ensures { λ r. ⌜ Replied p (now (live .entry)) (now (history .entry)) r (now (live .exit)) (now (history .exit))
+        (preparedOr (siteOf p (now (live .entry)) (now (history .entry))) h place) ⌝ }
+    ensures { λ _. ⌜ now (out .exit)
+        ≡ overlay (now (out .entry)) ((preparedOr (siteOf p (now (live .entry)) (now (history .entry))) h place) .words) ⌝ }
 {
     if LIVE <= place {
         return handlers::participant::pass_prepare(p, live, history, h, out);
@@ -43,8 +45,13 @@ pub fn on_cert(
 ) -> Reply
     requires { ⌜ Incoming (siteOf p (now live) (now history)) h (now es) × (h .kind ≡ kind.cert) ⌝ }
     requires { ⌜ sizes.outgoing ≤ length (now out) ⌝ }
-    ensures { λ r. ⌜ Replied p (now (live .entry)) (now (history .entry)) r (now (live .exit)) (now (history .exit)) (orPassed (siteOf p (now (live .entry)) (now (history .entry))) h place (takeCert (siteOf p (now (live .entry)) (now (history .entry))) h (now (es .entry)) place)) ⌝ }
-    ensures { λ _. ⌜ now (out .exit) ≡ overlay (now (out .entry)) ((orPassed (siteOf p (now (live .entry)) (now (history .entry))) h place (takeCert (siteOf p (now (live .entry)) (now (history .entry))) h (now (es .entry)) place)) .words) ⌝ }
+    ensures { λ r. ⌜ Replied p (now (live .entry)) (now (history .entry)) r (now (live .exit)) (now (history .exit))
+        (orPassed (siteOf p (now (live .entry)) (now (history .entry))) h place
+        (takeCert (siteOf p (now (live .entry)) (now (history .entry))) h (now (es .entry)) place)) ⌝ }
+    ensures { λ _. ⌜ now (out .exit)
+        ≡ overlay (now (out .entry))
+        ((orPassed (siteOf p (now (live .entry)) (now (history .entry))) h place
+        (takeCert (siteOf p (now (live .entry)) (now (history .entry))) h (now (es .entry)) place)) .words) ⌝ }
 {
     if LIVE <= place {
         return shell::passed(p, h.from);
@@ -54,7 +61,9 @@ pub fn on_cert(
 
 pub fn on_commit(p: Core, live: &mut [u64], history: &[u64], h: MessageHead, place: usize) -> Reply
     requires { ⌜ Reached p (now live) (now history) (h .from) ⌝ }
-    ensures { λ r. ⌜ Replied p (now (live .entry)) (now (history .entry)) r (now (live .exit)) (now (history .exit)) (orPassed (siteOf p (now (live .entry)) (now (history .entry))) h place (takeCommit (siteOf p (now (live .entry)) (now (history .entry))) h place)) ⌝ }
+    ensures { λ r. ⌜ Replied p (now (live .entry)) (now (history .entry)) r (now (live .exit)) (now (history .exit))
+        (orPassed (siteOf p (now (live .entry)) (now (history .entry))) h place
+        (takeCommit (siteOf p (now (live .entry)) (now (history .entry))) h place)) ⌝ }
 {
     if LIVE <= place {
         return shell::passed(p, h.from);
@@ -64,7 +73,9 @@ pub fn on_commit(p: Core, live: &mut [u64], history: &[u64], h: MessageHead, pla
 
 pub fn on_abort(p: Core, live: &mut [u64], history: &[u64], h: MessageHead, place: usize) -> Reply
     requires { ⌜ Reached p (now live) (now history) (h .from) ⌝ }
-    ensures { λ r. ⌜ Replied p (now (live .entry)) (now (history .entry)) r (now (live .exit)) (now (history .exit)) (orPassed (siteOf p (now (live .entry)) (now (history .entry))) h place (takeAbort (siteOf p (now (live .entry)) (now (history .entry))) h place)) ⌝ }
+    ensures { λ r. ⌜ Replied p (now (live .entry)) (now (history .entry)) r (now (live .exit)) (now (history .exit))
+        (orPassed (siteOf p (now (live .entry)) (now (history .entry))) h place
+        (takeAbort (siteOf p (now (live .entry)) (now (history .entry))) h place)) ⌝ }
 {
     if LIVE <= place {
         return shell::passed(p, h.from);

@@ -42,7 +42,8 @@ pub fn take_joined(
     place: usize,
 ) -> Reply
     requires { ⌜ Held p (now live) (now history) place (h .from) ⌝ }
-    ensures { λ r. ⌜ Replied p (now (live .entry)) (now (history .entry)) r (now (live .exit)) (now (history .exit)) (takeJoined (siteOf p (now (live .entry)) (now (history .entry))) h place) ⌝ }
+    ensures { λ r. ⌜ Replied p (now (live .entry)) (now (history .entry)) r (now (live .exit)) (now (history .exit))
+        (takeJoined (siteOf p (now (live .entry)) (now (history .entry))) h place) ⌝ }
 {
     let t = shell::arrived(p, live, place, h.from);
     let c = t.sub.course;
@@ -107,8 +108,10 @@ pub fn take_vote(
 ) -> Reply
     requires { ⌜ Held p (now live) (now history) place (h .from) ⌝ }
     requires { ⌜ sizes.outgoing ≤ length (now out) ⌝ }
-    ensures { λ r. ⌜ Replied p (now (live .entry)) (now (history .entry)) r (now (live .exit)) (now (history .exit)) (takeVote (siteOf p (now (live .entry)) (now (history .entry))) h place) ⌝ }
-    ensures { λ _. ⌜ now (out .exit) ≡ overlay (now (out .entry)) (takeVote (siteOf p (now (live .entry)) (now (history .entry))) h place .words) ⌝ }
+    ensures { λ r. ⌜ Replied p (now (live .entry)) (now (history .entry)) r (now (live .exit)) (now (history .exit))
+        (takeVote (siteOf p (now (live .entry)) (now (history .entry))) h place) ⌝ }
+    ensures { λ _. ⌜ now (out .exit)
+        ≡ overlay (now (out .entry)) (takeVote (siteOf p (now (live .entry)) (now (history .entry))) h place .words) ⌝ }
 {
     let first = shell::arrived(p, live, place, h.from);
     let t = course::turn::raise(first, h.clock);

@@ -38,7 +38,9 @@ fn joined_step(
     requires { ⌜ Gathered p (now live) (now history) place (now lists) × (n ≤ sizes.certEntries) ⌝ }
     requires { ⌜ CanSendAll t (length (now out)) ⌝ }
     ensures { λ r. ⌜ r ≡ takenOf (castJoined (siteOf p (now (live .entry)) (now (history .entry))) place (now (lists .entry)) n t) ⌝ }
-    ensures { λ _. ⌜ now (out .exit) ≡ overlay (now (out .entry)) (castJoined (siteOf p (now (live .entry)) (now (history .entry))) place (now (lists .entry)) n t .words) ⌝ }
+    ensures { λ _. ⌜ now (out .exit)
+        ≡ overlay (now (out .entry))
+        (castJoined (siteOf p (now (live .entry)) (now (history .entry))) place (now (lists .entry)) n t .words) ⌝ }
 {
     let at = GATHERED * place;
     let mut list = [0u64; GATHERED];
@@ -60,9 +62,14 @@ fn gather_step(
 ) -> Taken
     requires { ⌜ Held p (now live) (now history) place (h .from) × (length (now lists) ≡ sizes.lists) ⌝ }
     requires { ⌜ subAt (siteOf p (now live) (now history)) place .course .listed + h .count ≤ sizes.certEntries ⌝ }
-    requires { ⌜ ((allHeard (p .counters .own) (withReply (subAt (siteOf p (now live) (now history)) place .course) (h .from) 0 (h .count) .heard) (subAt (siteOf p (now live) (now history)) place .course .mask) ≡ true) → CanSendAll (turnAt (siteOf p (now live) (now history)) place) (length (now out))) ⌝ }
+    requires { ⌜ ((allHeard (p .counters .own)
+        (withReply (subAt (siteOf p (now live) (now history)) place .course) (h .from) 0 (h .count) .heard)
+        (subAt (siteOf p (now live) (now history)) place .course .mask) ≡ true)
+        → CanSendAll (turnAt (siteOf p (now live) (now history)) place) (length (now out))) ⌝ }
     ensures { λ r. ⌜ r ≡ takenOf (gatherChange (siteOf p (now (live .entry)) (now (history .entry))) h place (now (lists .entry))) ⌝ }
-    ensures { λ _. ⌜ now (out .exit) ≡ overlay (now (out .entry)) (gatherChange (siteOf p (now (live .entry)) (now (history .entry))) h place (now (lists .entry)) .words) ⌝ }
+    ensures { λ _. ⌜ now (out .exit)
+        ≡ overlay (now (out .entry))
+        (gatherChange (siteOf p (now (live .entry)) (now (history .entry))) h place (now (lists .entry)) .words) ⌝ }
 {
     let t = shell::arrived(p, live, place, h.from);
     let n = h.count as usize;
@@ -86,9 +93,13 @@ pub fn take_conc(
 ) -> Reply
     requires { ⌜ Held p (now live) (now history) place (h .from) × (length (now lists) ≡ sizes.lists) ⌝ }
     requires { ⌜ Listing h (now es) (p .counters .own) × (sizes.outgoing ≤ length (now out)) ⌝ }
-    ensures { λ r. ⌜ Replied p (now (live .entry)) (now (history .entry)) r (now (live .exit)) (now (history .exit)) (takeConc (siteOf p (now (live .entry)) (now (history .entry))) h (now (es .entry)) (now (lists .entry)) place) ⌝ }
-    ensures { λ _. ⌜ now (lists .exit) ≡ takeConc (siteOf p (now (live .entry)) (now (history .entry))) h (now (es .entry)) (now (lists .entry)) place .lent ⌝ }
-    ensures { λ _. ⌜ now (out .exit) ≡ overlay (now (out .entry)) (takeConc (siteOf p (now (live .entry)) (now (history .entry))) h (now (es .entry)) (now (lists .entry)) place .words) ⌝ }
+    ensures { λ r. ⌜ Replied p (now (live .entry)) (now (history .entry)) r (now (live .exit)) (now (history .exit))
+        (takeConc (siteOf p (now (live .entry)) (now (history .entry))) h (now (es .entry)) (now (lists .entry)) place) ⌝ }
+    ensures { λ _. ⌜ now (lists .exit)
+        ≡ takeConc (siteOf p (now (live .entry)) (now (history .entry))) h (now (es .entry)) (now (lists .entry)) place .lent ⌝ }
+    ensures { λ _. ⌜ now (out .exit)
+        ≡ overlay (now (out .entry))
+        (takeConc (siteOf p (now (live .entry)) (now (history .entry))) h (now (es .entry)) (now (lists .entry)) place .words) ⌝ }
 {
     let part = shell::turn_at(p, live, place);
     let b = part.sub.course;

@@ -43,8 +43,10 @@ pub fn take_join(
     out: &mut [u64],
 ) -> Reply
     requires { ⌜ Reached p (now live) (now history) (h .from) × (sizes.outgoing ≤ length (now out)) ⌝ }
-    ensures { λ r. ⌜ Replied p (now (live .entry)) (now (history .entry)) r (now (live .exit)) (now (history .exit)) (takeJoin (siteOf p (now (live .entry)) (now (history .entry))) h place) ⌝ }
-    ensures { λ _. ⌜ now (out .exit) ≡ overlay (now (out .entry)) (takeJoin (siteOf p (now (live .entry)) (now (history .entry))) h place .words) ⌝ }
+    ensures { λ r. ⌜ Replied p (now (live .entry)) (now (history .entry)) r (now (live .exit)) (now (history .exit))
+        (takeJoin (siteOf p (now (live .entry)) (now (history .entry))) h place) ⌝ }
+    ensures { λ _. ⌜ now (out .exit)
+        ≡ overlay (now (out .entry)) (takeJoin (siteOf p (now (live .entry)) (now (history .entry))) h place .words) ⌝ }
 {
     let spent = course::turn::channel_spent(p.channels, h.from);
     let code = reply_code(LIVE <= place, spent);
@@ -75,8 +77,13 @@ fn prepare_taken(
 ) -> Taken
     requires { ⌜ (siteOk (siteOf p (now live) (now history)) ≡ true) × (place < sizes.live) ⌝ }
     requires { ⌜ CanSendTo t (h .from) (length (now out)) ⌝ }
-    ensures { λ r. ⌜ r ≡ takenOf (preparedStep t (h .from) (h .argument) (isForgotten (p .counters .installs) (t .sub .snapshot)) (concurrent (siteOf p (now (live .entry)) (now (history .entry))) place)) ⌝ }
-    ensures { λ _. ⌜ now (out .exit) ≡ overlay (now (out .entry)) (preparedStep t (h .from) (h .argument) (isForgotten (p .counters .installs) (t .sub .snapshot)) (concurrent (siteOf p (now (live .entry)) (now (history .entry))) place) .words) ⌝ }
+    ensures { λ r. ⌜ r
+        ≡ takenOf (preparedStep t (h .from) (h .argument) (isForgotten (p .counters .installs) (t .sub .snapshot))
+        (concurrent (siteOf p (now (live .entry)) (now (history .entry))) place)) ⌝ }
+    ensures { λ _. ⌜ now (out .exit)
+        ≡ overlay (now (out .entry))
+        (preparedStep t (h .from) (h .argument) (isForgotten (p .counters .installs) (t .sub .snapshot))
+        (concurrent (siteOf p (now (live .entry)) (now (history .entry))) place) .words) ⌝ }
 {
     let lost = history::is_forgotten(p.counters.installs, t.sub.snapshot);
     let mut list = [0u64; LIST];
@@ -94,8 +101,10 @@ pub fn take_prepare(
     out: &mut [u64],
 ) -> Reply
     requires { ⌜ Held p (now live) (now history) place (h .from) × (sizes.outgoing ≤ length (now out)) ⌝ }
-    ensures { λ r. ⌜ Replied p (now (live .entry)) (now (history .entry)) r (now (live .exit)) (now (history .exit)) (takePrepare (siteOf p (now (live .entry)) (now (history .entry))) h place) ⌝ }
-    ensures { λ _. ⌜ now (out .exit) ≡ overlay (now (out .entry)) (takePrepare (siteOf p (now (live .entry)) (now (history .entry))) h place .words) ⌝ }
+    ensures { λ r. ⌜ Replied p (now (live .entry)) (now (history .entry)) r (now (live .exit)) (now (history .exit))
+        (takePrepare (siteOf p (now (live .entry)) (now (history .entry))) h place) ⌝ }
+    ensures { λ _. ⌜ now (out .exit)
+        ≡ overlay (now (out .entry)) (takePrepare (siteOf p (now (live .entry)) (now (history .entry))) h place .words) ⌝ }
 {
     let first = shell::arrived(p, live, place, h.from);
     let t = course::turn::raise(first, h.clock);
@@ -117,8 +126,10 @@ pub fn pass_prepare(
     out: &mut [u64],
 ) -> Reply
     requires { ⌜ Reached p (now live) (now history) (h .from) × (sizes.outgoing ≤ length (now out)) ⌝ }
-    ensures { λ r. ⌜ Replied p (now (live .entry)) (now (history .entry)) r (now (live .exit)) (now (history .exit)) (passPrepare (siteOf p (now (live .entry)) (now (history .entry))) h) ⌝ }
-    ensures { λ _. ⌜ now (out .exit) ≡ overlay (now (out .entry)) (passPrepare (siteOf p (now (live .entry)) (now (history .entry))) h .words) ⌝ }
+    ensures { λ r. ⌜ Replied p (now (live .entry)) (now (history .entry)) r (now (live .exit)) (now (history .exit))
+        (passPrepare (siteOf p (now (live .entry)) (now (history .entry))) h) ⌝ }
+    ensures { λ _. ⌜ now (out .exit)
+        ≡ overlay (now (out .entry)) (passPrepare (siteOf p (now (live .entry)) (now (history .entry))) h .words) ⌝ }
 {
     let spent = course::turn::channel_spent(p.channels, h.from);
     let code = reply_code(true, spent);
@@ -144,8 +155,10 @@ pub fn take_cert(
 ) -> Reply
     requires { ⌜ Held p (now live) (now history) place (h .from) × (sizes.outgoing ≤ length (now out)) ⌝ }
     requires { ⌜ (h .count ≤ sizes.certEntries) × (sizes.entry * h .count ≤ length (now es)) ⌝ }
-    ensures { λ r. ⌜ Replied p (now (live .entry)) (now (history .entry)) r (now (live .exit)) (now (history .exit)) (takeCert (siteOf p (now (live .entry)) (now (history .entry))) h (now (es .entry)) place) ⌝ }
-    ensures { λ _. ⌜ now (out .exit) ≡ overlay (now (out .entry)) (takeCert (siteOf p (now (live .entry)) (now (history .entry))) h (now (es .entry)) place .words) ⌝ }
+    ensures { λ r. ⌜ Replied p (now (live .entry)) (now (history .entry)) r (now (live .exit)) (now (history .exit))
+        (takeCert (siteOf p (now (live .entry)) (now (history .entry))) h (now (es .entry)) place) ⌝ }
+    ensures { λ _. ⌜ now (out .exit)
+        ≡ overlay (now (out .entry)) (takeCert (siteOf p (now (live .entry)) (now (history .entry))) h (now (es .entry)) place .words) ⌝ }
 {
     let t = shell::arrived(p, live, place, h.from);
     let spent = course::turn::channel_spent(p.channels, h.from);
@@ -167,7 +180,8 @@ pub fn take_commit(
     place: usize,
 ) -> Reply
     requires { ⌜ Held p (now live) (now history) place (h .from) ⌝ }
-    ensures { λ r. ⌜ Replied p (now (live .entry)) (now (history .entry)) r (now (live .exit)) (now (history .exit)) (takeCommit (siteOf p (now (live .entry)) (now (history .entry))) h place) ⌝ }
+    ensures { λ r. ⌜ Replied p (now (live .entry)) (now (history .entry)) r (now (live .exit)) (now (history .exit))
+        (takeCommit (siteOf p (now (live .entry)) (now (history .entry))) h place) ⌝ }
 {
     let first = shell::arrived(p, live, place, h.from);
     let t = course::turn::raise(first, h.clock);
@@ -184,7 +198,8 @@ pub fn take_commit(
 
 pub fn take_abort(p: Core, live: &mut [u64], history: &[u64], h: MessageHead, place: usize) -> Reply
     requires { ⌜ Held p (now live) (now history) place (h .from) ⌝ }
-    ensures { λ r. ⌜ Replied p (now (live .entry)) (now (history .entry)) r (now (live .exit)) (now (history .exit)) (takeAbort (siteOf p (now (live .entry)) (now (history .entry))) h place) ⌝ }
+    ensures { λ r. ⌜ Replied p (now (live .entry)) (now (history .entry)) r (now (live .exit)) (now (history .exit))
+        (takeAbort (siteOf p (now (live .entry)) (now (history .entry))) h place) ⌝ }
 {
     let t = shell::arrived(p, live, place, h.from);
     let code = reply_code(t.sub.course.stage != DECIDED, false);

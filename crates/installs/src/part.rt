@@ -81,7 +81,9 @@ fn least_place(ok: bool, seats: [Seat; LIVE], live: &[u64]) -> usize
 fn forget_oldest(base: &mut [u64], history: &[u64], installs: u64)
     requires { ⌜ length (now history) ≡ sizesOf.historyWords ⌝ }
     requires { ⌜ Forgettable (oldest (historyOf (now history)) installs) (length (now base)) ⌝ }
-    ensures { λ _. ⌜ now (base .exit) ≡ pick (leb sizesOf.history installs) (forgetInto (now (base .entry)) (oldest (historyOf (now (history .entry))) installs)) (now (base .entry)) ⌝ }
+    ensures { λ _. ⌜ now (base .exit)
+        ≡ pick (leb sizesOf.history installs) (forgetInto (now (base .entry)) (oldest (historyOf (now (history .entry))) installs))
+        (now (base .entry)) ⌝ }
 {
     if installs < HISTORY as u64 {
         return;
@@ -136,7 +138,9 @@ fn write_part(out: &mut [u64], own: u64, b: Sub) -> usize
 fn kept(p: Core, live: &mut [u64], history: &mut [u64], place: usize, b: Sub) -> Core
     requires { ⌜ Lengths (now live) (now history) × (p .counters .installs < sizesOf.last) ⌝ }
     requires { ⌜ (place < sizesOf.live) × (b ≡ subAt (siteOf p (now live) (now history)) place) ⌝ }
-    ensures { λ r. ⌜ ((base : List ℕ) → Left p (now (live .entry)) (now (history .entry)) r (now (live .exit)) (now (history .exit)) (installedAt (siteOf p (now (live .entry)) (now (history .entry))) base place .site)) ⌝ }
+    ensures { λ r. ⌜ ((base : List ℕ)
+        → Left p (now (live .entry)) (now (history .entry)) r (now (live .exit)) (now (history .exit))
+        (installedAt (siteOf p (now (live .entry)) (now (history .entry))) base place .site)) ⌝ }
 {
     let mut c = p.counters;
     let slot = next_slot(c.installs);
@@ -162,9 +166,13 @@ fn install_at(
 ) -> Reply
     requires { ⌜ Installable p (now live) (now history) place ⌝ }
     requires { ⌜ (length (now base) ≡ sizesOf.keys) × (sizesOf.part ≤ length (now out)) ⌝ }
-    ensures { λ r. ⌜ Replied p (now (live .entry)) (now (history .entry)) r (now (live .exit)) (now (history .exit)) (installedAt (siteOf p (now (live .entry)) (now (history .entry))) (now (base .entry)) place) ⌝ }
-    ensures { λ _. ⌜ now (base .exit) ≡ installedAt (siteOf p (now (live .entry)) (now (history .entry))) (now (base .entry)) place .lent ⌝ }
-    ensures { λ _. ⌜ now (out .exit) ≡ overlay (now (out .entry)) (installedAt (siteOf p (now (live .entry)) (now (history .entry))) (now (base .entry)) place .words) ⌝ }
+    ensures { λ r. ⌜ Replied p (now (live .entry)) (now (history .entry)) r (now (live .exit)) (now (history .exit))
+        (installedAt (siteOf p (now (live .entry)) (now (history .entry))) (now (base .entry)) place) ⌝ }
+    ensures { λ _. ⌜ now (base .exit)
+        ≡ installedAt (siteOf p (now (live .entry)) (now (history .entry))) (now (base .entry)) place .lent ⌝ }
+    ensures { λ _. ⌜ now (out .exit)
+        ≡ overlay (now (out .entry))
+        (installedAt (siteOf p (now (live .entry)) (now (history .entry))) (now (base .entry)) place .words) ⌝ }
 {
     let seats = p.seats;
     let b = tables::part_at(seats, live, place);
@@ -189,9 +197,13 @@ pub fn install(
     base: &mut [u64],
     out: &mut [u64],
 ) -> Reply
-    ensures { λ r. ⌜ Replied p (now (live .entry)) (now (history .entry)) r (now (live .exit)) (now (history .exit)) (installOf (siteOf p (now (live .entry)) (now (history .entry))) (length (now (out .entry))) (now (base .entry))) ⌝ }
-    ensures { λ _. ⌜ now (base .exit) ≡ installOf (siteOf p (now (live .entry)) (now (history .entry))) (length (now (out .entry))) (now (base .entry)) .lent ⌝ }
-    ensures { λ _. ⌜ now (out .exit) ≡ overlay (now (out .entry)) ((installOf (siteOf p (now (live .entry)) (now (history .entry))) (length (now (out .entry))) (now (base .entry))) .words) ⌝ }
+    ensures { λ r. ⌜ Replied p (now (live .entry)) (now (history .entry)) r (now (live .exit)) (now (history .exit))
+        (installOf (siteOf p (now (live .entry)) (now (history .entry))) (length (now (out .entry))) (now (base .entry))) ⌝ }
+    ensures { λ _. ⌜ now (base .exit)
+        ≡ installOf (siteOf p (now (live .entry)) (now (history .entry))) (length (now (out .entry))) (now (base .entry)) .lent ⌝ }
+    ensures { λ _. ⌜ now (out .exit)
+        ≡ overlay (now (out .entry))
+        ((installOf (siteOf p (now (live .entry)) (now (history .entry))) (length (now (out .entry))) (now (base .entry))) .words) ⌝ }
 {
     let ok = valid::site_ok(p, live, history);
     let seats = p.seats;

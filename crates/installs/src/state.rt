@@ -45,8 +45,11 @@ fn write_state(out: &mut [u64], own: u64, state: u64) -> usize
 }
 
 pub fn report(p: Core, live: &[u64], history: &[u64], out: &mut [u64]) -> Reply
-    ensures { λ r. ⌜ Replied p (now (live .entry)) (now (history .entry)) r (now (live .exit)) (now (history .exit)) (reportOf (siteOf p (now (live .entry)) (now (history .entry))) (length (now (out .entry)))) ⌝ }
-    ensures { λ _. ⌜ now (out .exit) ≡ overlay (now (out .entry)) ((reportOf (siteOf p (now (live .entry)) (now (history .entry))) (length (now (out .entry)))) .words) ⌝ }
+    ensures { λ r. ⌜ Replied p (now (live .entry)) (now (history .entry)) r (now (live .exit)) (now (history .exit))
+        (reportOf (siteOf p (now (live .entry)) (now (history .entry))) (length (now (out .entry)))) ⌝ }
+    ensures { λ _. ⌜ now (out .exit)
+        ≡ overlay (now (out .entry))
+        ((reportOf (siteOf p (now (live .entry)) (now (history .entry))) (length (now (out .entry)))) .words) ⌝ }
 {
     let ok = valid::site_ok(p, live, history);
     let code = report_code(ok, out.len());

@@ -43,7 +43,13 @@ pastSeat = record { tx = 0; stage = stage.free }
 
 -- empty: a free place is all zeros
 unfoldable pub noKeys : Keys
-noKeys = record { read = 0; wrote = 0; reads = replicate sizes.reads 0; writes = replicate sizes.writes 0; values = replicate sizes.writes fresh }
+noKeys = record {
+  read = 0;
+  wrote = 0;
+  reads = replicate sizes.reads 0;
+  writes = replicate sizes.writes 0;
+  values = replicate sizes.writes fresh;
+}
 
 unfoldable pub noSub : Sub
 noSub = record { tx = 0; snapshot = noSnapshot; course = noCourse; keys = noKeys }
@@ -69,7 +75,8 @@ abbrev pub withSub : Site → ℕ → Sub → Site
 withSub s i b = record { house = s .house; counters = s .counters; channels = s .channels; live = set (s .live) i b; history = s .history }
 
 abbrev pub withEntry : Site → ℕ → Entry → Site
-withEntry s i e = record { house = s .house; counters = s .counters; channels = s .channels; live = s .live; history = set (s .history) i e }
+withEntry s i e =
+    record { house = s .house; counters = s .counters; channels = s .channels; live = s .live; history = set (s .history) i e }
 
 abbrev pub withClock : Counters → ℕ → Counters
 withClock c n = record { own = c .own; clock = n; serial = c .serial; installs = c .installs }

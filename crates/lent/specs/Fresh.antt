@@ -75,7 +75,8 @@ no-install n o = rw (zero-at n (o + 0), zero-at n (o + 1), zero-at n (o + 2), no
 pub fresh-seen : (sites own : ℕ) → siteOf (freshCore sites own) (zeros sizes.liveWords) (zeros sizes.historyWords) ≡ freshSite sites own
 unfolding freshSite lentHouse liveOf historyOf rows
 fresh-seen sites own =
-    let live = rows-same (λ i. subFrom (getD (freshCore sites own .seats) i pastSeat) (zeros sizes.liveWords) (sizes.place * i)) (λ i. noSub) sizes.live
+    let live = rows-same (λ i. subFrom (getD (freshCore sites own .seats) i pastSeat) (zeros sizes.liveWords) (sizes.place * i))
+    (λ i. noSub) sizes.live
     (λ i h. rw (getD-replicate sizes.live i pastSeat pastSeat h) (no-part sizes.liveWords (sizes.place * i))) in
     let past = rows-same (λ i. entryFrom (zeros sizes.historyWords) (sizes.slot * i)) (λ i. noEntry) sizes.history
     (λ i h. no-install sizes.historyWords (sizes.slot * i)) in
@@ -103,7 +104,8 @@ started-refused sites own w h base lists code e n =
     }
 
 pub started-fresh : (sites own : ℕ) (w h : List ℕ) (base lists : ℕ) → startedCode sites own w h base lists ≡ 0
-    → Started sites own w h base lists (record { answer = Done; words = 0; core = freshCore sites own }) (zeros (length w)) (zeros (length h))
+    → Started sites own w h base lists (record { answer = Done; words = 0; core = freshCore sites own }) (zeros (length w))
+    (zeros (length h))
 unfolding startOf startTable
 started-fresh sites own w h base lists e =
     let l = started-lengths sites own w h base lists e in

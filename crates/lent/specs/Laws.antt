@@ -20,8 +20,10 @@ use Rattle.kinds.specs.declared.Entry.{Entry}
 use Rattle.kinds.specs.State.{pastSeat, pastSub, pastEntry}
 use Rattle.rules.specs.House.{houseOk}
 use Rattle.rules.specs.Valid.{siteOk, countersOk, liveOk, historyOk}
-use Rattle.lent.specs.Rows.{rows, rows-at, rows-length, rows-same, rows-read, rows-append, each, each-rows, each-set, flat, flat-rows, flat-set}
-use Rattle.lent.specs.Layout.{wordsFrom, keysFrom, subFrom, entryFrom, liveOf, historyOf, keysWords, seatOf, placeWords, slotWords, liveWords, historyWords}
+use Rattle.lent.specs.Rows.{rows, rows-at, rows-length, rows-same, rows-read, rows-append, each, each-rows, each-set, flat, flat-rows}
+use Rattle.lent.specs.Rows.{flat-set}
+use Rattle.lent.specs.Layout.{wordsFrom, keysFrom, subFrom, entryFrom, liveOf, historyOf, keysWords, seatOf, placeWords, slotWords}
+use Rattle.lent.specs.Layout.{liveWords, historyWords}
 use Rattle.lent.specs.Lent.{lentHouse, siteOf, coreOf, liveLeft, historyLeft, Left}
 
 -- the part at a place, the install in a slot
@@ -98,7 +100,8 @@ live-again seats w e =
 pub history-again : (h : List ℕ) → length h ≡ sizes.historyWords → historyWords (historyOf h) ≡ h
 unfolding historyWords historyOf wordsFrom
 history-again h e =
-    flat-rows slotWords (λ i. entryFrom h (sizes.slot * i)) (λ j. getD h j 0) sizes.slot sizes.history (λ i l. slot-words h (sizes.slot * i))
+    flat-rows slotWords (λ i. entryFrom h (sizes.slot * i)) (λ j. getD h j 0) sizes.slot sizes.history
+    (λ i l. slot-words h (sizes.slot * i))
     ∙ rows-read h sizes.historyWords 0 e
 
 places-long : (seats : List Seat) (w : List ℕ) (j : ℕ) (d : Sub) → j < length (liveOf seats w)

@@ -47,7 +47,13 @@ history-kept h s e =
 -- other counters and channels
 pub left-counted : (p : Core) (w h : List ℕ) (c : Counters) (d : Channels) → length (p .seats) ≡ sizes.live
     → Left p w h (record { house = p .house; counters = c; channels = d; seats = p .seats }) w h
-    (record { house = lentHouse (p .house) (length w) (length h); counters = c; channels = d; live = liveOf (p .seats) w; history = historyOf h })
+    (record {
+      house = lentHouse (p .house) (length w) (length h);
+      counters = c;
+      channels = d;
+      live = liveOf (p .seats) w;
+      history = historyOf h;
+    })
 left-counted p w h c d e =
     record {
       core = rw (seats-again (p .seats) w e);
@@ -63,7 +69,8 @@ left-same p w h e = left-counted p w h (p .counters) (p .channels) e
 -- a part put back with its step's counters and channels
 pub left-settled : (p : Core) (w h : List ℕ) (place : ℕ) (t : Turn) → length (p .seats) ≡ sizes.live → length w ≡ sizes.liveWords
     → place < sizes.live → Shaped (t .sub)
-    → Left p w h (record { house = p .house; counters = t .counters; channels = t .channels; seats = set (p .seats) place (seatOf (t .sub)) })
+    → Left p w h
+    (record { house = p .house; counters = t .counters; channels = t .channels; seats = set (p .seats) place (seatOf (t .sub)) })
     (putAt (sizes.place * place) w (placeWords (t .sub))) h (settle (siteOf p w h) place t)
 unfolding settle liveLeft
 left-settled p w h place t e f l s =
@@ -71,7 +78,8 @@ left-settled p w h place t e f l s =
     let long : length v ≡ length w = length-put (sizes.place * place) w (placeWords (t .sub)) (omega (arith, s .long)) in
     let table =
     live-set (p .seats) w (placeWords (t .sub)) place (t .sub) f e l (s .long)
-    (s .back v (sizes.place * place) (λ j q. put-inside (sizes.place * place) w (placeWords (t .sub)) j (omega arith) (omega (arith, s .long)))) in
+    (s .back v (sizes.place * place)
+    (λ j q. put-inside (sizes.place * place) w (placeWords (t .sub)) j (omega arith) (omega (arith, s .long)))) in
     record {
       core = rw (each-set seatOf (liveOf (p .seats) w) place (t .sub), seats-again (p .seats) w e);
       live = rw (eq-eqb (length w) sizes.liveWords f) (sym (live-put (p .seats) w place (t .sub) f l (s .long)));

@@ -89,13 +89,16 @@ put-elsewhere s i k j d v e h n l =
     other q = by-test (ltb i k) (λ t. ltb-true i k t) (λ f. absurd (n (omega (arith, ltb-false i k f))))
 
     below : k < i → s * k + j < s * i
-    below q = let m = mul-le-mul-left {m = k + 1} {n = i} s (omega arith) in let r : s * (k + 1) ≡ s * k + s = omega arith in omega (arith, m, r)
+    below q = let m = mul-le-mul-left {m = k + 1} {n = i} s (omega arith) in let r : s * (k + 1) ≡ s * k + s = omega arith in
+        omega (arith, m, r)
 
     above : i < k → s * i + length v ≤ s * k + j
-    above q = let m = mul-le-mul-left {m = i + 1} {n = k} s (omega arith) in let r : s * (i + 1) ≡ s * i + s = omega arith in omega (arith, m, r, e)
+    above q = let m = mul-le-mul-left {m = i + 1} {n = k} s (omega arith) in let r : s * (i + 1) ≡ s * i + s = omega arith in
+        omega (arith, m, r, e)
 
 -- a table with the words of one row laid at its place
-pub live-set : (seats : List Seat) (w v : List ℕ) (i : ℕ) (b : Sub) → length w ≡ sizes.liveWords → length seats ≡ sizes.live → i < sizes.live
+pub live-set : (seats : List Seat) (w v : List ℕ) (i : ℕ) (b : Sub) → length w ≡ sizes.liveWords → length seats ≡ sizes.live
+    → i < sizes.live
     → length v ≡ sizes.place → subFrom (seatOf b) (putAt (sizes.place * i) w v) (sizes.place * i) ≡ b
     → liveOf (set seats i (seatOf b)) (putAt (sizes.place * i) w v) ≡ set (liveOf seats w) i b
 unfolding liveOf

@@ -32,7 +32,8 @@ pub rows-set : {A : Type 0} (f g : ℕ → A) (n i : ℕ) (b : A) → i < n → 
     → rows g n ≡ set (rows f n) i b
 unfolding rows
 rows-set f g zero i b h e p = absurd (omega arith)
-rows-set f g (suc n) zero b h e p = rw (e, rows-same (λ j. g (suc j)) (λ j. f (suc j)) n (λ j l. p (suc j) (omega arith) (λ q. omega arith)))
+rows-set f g (suc n) zero b h e p =
+    rw (e, rows-same (λ j. g (suc j)) (λ j. f (suc j)) n (λ j l. p (suc j) (omega arith) (λ q. omega arith)))
 rows-set f g (suc n) (suc i) b h e p =
     rw (
       p 0 (omega arith) (λ q. omega arith),
@@ -94,7 +95,8 @@ flat-rows f g w s (suc n) p =
     rw (e, first, others) (sym (rows-append w s (s * n)))
 
 -- one row replaced
-pub flat-set : {A : Type 0} (f : A → List ℕ) (l : List A) (s i : ℕ) (b : A) → ((j : ℕ) (d : A) → j < length l → length (f (getD l j d)) ≡ s) → length (f b) ≡ s
+pub flat-set : {A : Type 0} (f : A → List ℕ) (l : List A) (s i : ℕ) (b : A) → ((j : ℕ) (d : A) → j < length l → length (f (getD l j d)) ≡ s)
+    → length (f b) ≡ s
     → i < length l → flat f (set l i b) ≡ putAt (s * i) (flat f l) (f b)
 unfolding flat putAt
 flat-set f [] s i b p e h = absurd (omega arith)

@@ -22,7 +22,8 @@ letter v x = pick (ltb x 97) grew.Spoilt (pick (ltb 122 x) grew.Spoilt (pick (le
 
 -- a digit more of a number below 2^64
 unfoldable pub digit : ℕ → ℕ → Grown
-digit v x = pick (ltb x 48) grew.Spoilt (pick (ltb 57 x) grew.Spoilt (pick (leb 18446744073709551616 (v * 10 + (x - 48))) grew.Spoilt (grew.To (v * 10 + (x - 48)))))
+digit v x = pick (ltb x 48) grew.Spoilt
+    (pick (ltb 57 x) grew.Spoilt (pick (leb 18446744073709551616 (v * 10 + (x - 48))) grew.Spoilt (grew.To (v * 10 + (x - 48)))))
 
 unfoldable pub grown : ℕ → ℕ → ℕ → Grown
 grown ended v x = pick (eqb ended 0) (letter v x) (digit v x)
@@ -124,7 +125,8 @@ pub read-none : (l : List ℕ) (from : ℕ) (s : Scan) → s ≡ readOn l from (
 unfolding readOn foldBelow
 read-none l from s = let e : from - from ≡ 0 = omega arith in rw e
 
-pub read-more : (l : List ℕ) (from at : ℕ) (s t r : Scan) → from ≤ at → t ≡ readOn l from (at - from) s → r ≡ stepped t (getD l at 0) → r ≡ readOn l from (at + 1 - from) s
+pub read-more : (l : List ℕ) (from at : ℕ) (s t r : Scan) → from ≤ at → t ≡ readOn l from (at - from) s → r ≡ stepped t (getD l at 0)
+    → r ≡ readOn l from (at + 1 - from) s
 unfolding readOn foldBelow
 read-more l from at s t r h e q =
     let n : at + 1 - from ≡ suc (at - from) = omega arith in
@@ -134,7 +136,8 @@ read-more l from at s t r h e q =
 pub no-newline-none : (l : List ℕ) (from k : ℕ) → k < from - from → getD l (from + k) 0 ≡ 10 → ⊥
 no-newline-none l from k h e = omega arith
 
-pub no-newline-more : (l : List ℕ) (from at : ℕ) → from ≤ at → ((k : ℕ) → k < at - from → getD l (from + k) 0 ≡ 10 → ⊥) → (getD l at 0 ≡ 10 → ⊥) → (k : ℕ) → k < at + 1 - from → getD l (from + k) 0 ≡ 10 → ⊥
+pub no-newline-more : (l : List ℕ) (from at : ℕ) → from ≤ at → ((k : ℕ) → k < at - from → getD l (from + k) 0 ≡ 10 → ⊥)
+    → (getD l at 0 ≡ 10 → ⊥) → (k : ℕ) → k < at + 1 - from → getD l (from + k) 0 ≡ 10 → ⊥
 no-newline-more l from at h p q k b e =
     ⊎-elim
     (λ (w : k ≡ at - from). let m : from + k ≡ at = omega arith in q (rw m at e))

@@ -4,10 +4,13 @@ use mathlib.Core.List.{List, [], _∷_}
 use Rattle.laws.specs.Scan.{foldBelow}
 use Rattle.lines.specs.declared.Command.{Command}
 use Rattle.lines.specs.declared.Command.the-variants as command
-use Rattle.lines.specs.Line.{lineOf, readOn, stepped, took, grown, letter, digit, start, commandOf, noneOf, oneOf, twoOf, threeOf, fourOf}
+use Rattle.lines.specs.Line.{lineOf, readOn, stepped, took, grown, letter, digit, start, commandOf, noneOf, oneOf, twoOf, threeOf}
+use Rattle.lines.specs.Line.{fourOf}
 
 -- write 1 4294967297 5 700
-write-line : lineOf (119 ∷ 114 ∷ 105 ∷ 116 ∷ 101 ∷ 32 ∷ 49 ∷ 32 ∷ 52 ∷ 50 ∷ 57 ∷ 52 ∷ 57 ∷ 54 ∷ 55 ∷ 50 ∷ 57 ∷ 55 ∷ 32 ∷ 53 ∷ 32 ∷ 55 ∷ 48 ∷ 48 ∷ []) ≡ command.Write 1 4294967297 5 700
+write-line : lineOf
+    (119 ∷ 114 ∷ 105 ∷ 116 ∷ 101 ∷ 32 ∷ 49 ∷ 32 ∷ 52 ∷ 50 ∷ 57 ∷ 52 ∷ 57 ∷ 54 ∷ 55 ∷ 50 ∷ 57 ∷ 55 ∷ 32 ∷ 53 ∷ 32 ∷ 55 ∷ 48 ∷ 48 ∷ [])
+    ≡ command.Write 1 4294967297 5 700
 unfolding lineOf readOn foldBelow stepped took grown letter digit start commandOf noneOf oneOf twoOf threeOf fourOf
 write-line = refl
 

@@ -24,7 +24,8 @@ pub struct Heads {
     pub heads: [RecordHead; SITES],
 }
 
-// The due head, with the order after it: at each site of its mask one part fewer is queued. Or the refusal's code, with the order as it was.
+// The due head, with the order after it: at each site of its mask one part fewer is queued. Or the refusal's code, with the order as it
+// was.
 pub struct Due {
     pub code: u64,
     pub head: RecordHead,

@@ -34,7 +34,8 @@ ghost use Prim.Native.Nat.{_≤_, _<_};
 ghost use lib.ListN.{length};
 ghost use Rattle.laws.specs.Overlay.{overlay};
 ghost use Rattle.kinds.specs.Sizes as sizes;
-ghost use Rattle.rules.specs.Merger.{mergerOutOf, doneMerger, refusedMerger, withSource, freshMerger, mergerStartCode, mergerStartOf, mergeCode, mergePartCode, mergePart, mergeState, mergeOf, emitCode, emitDue, emitOf};
+ghost use Rattle.rules.specs.Merger.{mergerOutOf, doneMerger, refusedMerger, withSource, freshMerger, mergerStartCode, mergerStartOf};
+ghost use Rattle.rules.specs.Merger.{mergeCode, mergePartCode, mergePart, mergeState, mergeOf, emitCode, emitDue, emitOf};
 ghost use Rattle.rules.specs.MergerClear.{MergerClear, PartReady, StateReady};
 ghost use Rattle.merger.specs.Order.{leastIn};
 
@@ -208,7 +209,8 @@ fn emit_due(h: Heads, queues: &mut [u64], out: &mut [u64]) -> MergerOut
     requires { ⌜ MergerClear (h .merger) (now queues) × (sizes.merged ≤ length (now out)) ⌝ }
     ensures { λ r. ⌜ r ≡ mergerOutOf (emitDue (h .merger) (now (queues .entry)) (h .heads) (leastIn h)) ⌝ }
     ensures { λ _. ⌜ now (queues .exit) ≡ emitDue (h .merger) (now (queues .entry)) (h .heads) (leastIn h) .queues ⌝ }
-    ensures { λ _. ⌜ now (out .exit) ≡ overlay (now (out .entry)) (emitDue (h .merger) (now (queues .entry)) (h .heads) (leastIn h) .words) ⌝ }
+    ensures { λ _. ⌜ now (out .exit)
+        ≡ overlay (now (out .entry)) (emitDue (h .merger) (now (queues .entry)) (h .heads) (leastIn h) .words) ⌝ }
 {
     let n = h.sites();
     let due = h.take_due();

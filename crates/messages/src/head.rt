@@ -74,7 +74,8 @@ fn joined_ok(argument: u64) -> bool
 }
 
 fn vote_ok(argument: u64) -> bool
-    ensures { λ r. ⌜ r ≡ some (eqb argument 0 ∷ eqb argument reason.unknown ∷ eqb argument reason.conflict ∷ eqb argument reason.uncertain ∷ []) ⌝ }
+    ensures { λ r. ⌜ r
+        ≡ some (eqb argument 0 ∷ eqb argument reason.unknown ∷ eqb argument reason.conflict ∷ eqb argument reason.uncertain ∷ []) ⌝ }
 {
     if argument == 0 {
         return true;

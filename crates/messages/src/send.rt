@@ -86,7 +86,8 @@ fn write_to(
     requires { ⌜ (i < sizes.sites) × (length (wordsTo h sent mask (now es) i) ≤ length (now out)) ⌝ }
     requires { ⌜ CountsLow sent mask (h .from) ⌝ }
     requires { ⌜ (length (now es) ≡ sizes.entry * h .count) × (h .count ≤ sizes.certEntries) ⌝ }
-    ensures { λ r. ⌜ (r ≡ length (wordsTo h sent mask (now (es .entry)) i)) × (now (out .exit) ≡ overlay (now (out .entry)) (wordsTo h sent mask (now (es .entry)) i)) ⌝ }
+    ensures { λ r. ⌜ (r ≡ length (wordsTo h sent mask (now (es .entry)) i))
+        × (now (out .exit) ≡ overlay (now (out .entry)) (wordsTo h sent mask (now (es .entry)) i)) ⌝ }
 {
     if !is_recipient(mask, h.from, i) {
         return 0;
@@ -108,7 +109,8 @@ pub fn broadcast(
     requires { ⌜ (sizes.outgoing ≤ length (now out)) × ((1 ≤ h .from) × (h .from ≤ sizes.sites)) ⌝ }
     requires { ⌜ CountsLow sent mask (h .from) ⌝ }
     requires { ⌜ (length (now es) ≡ sizes.entry * h .count) × (h .count ≤ sizes.certEntries) ⌝ }
-    ensures { λ r. ⌜ (r ≡ length (messagesTo h sent mask (now (es .entry)) sizes.sites)) × (now (out .exit) ≡ overlay (now (out .entry)) (messagesTo h sent mask (now (es .entry)) sizes.sites)) ⌝ }
+    ensures { λ r. ⌜ (r ≡ length (messagesTo h sent mask (now (es .entry)) sizes.sites))
+        × (now (out .exit) ≡ overlay (now (out .entry)) (messagesTo h sent mask (now (es .entry)) sizes.sites)) ⌝ }
 {
     let mut at: usize = 0;
     let mut i: usize = 0;

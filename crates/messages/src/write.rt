@@ -32,8 +32,10 @@ fn write_head(out: &mut [u64], h: MessageHead)
 
 // Writes the message, and returns how many words it has.
 pub fn write_message(out: &mut [u64], h: MessageHead, es: &[u64]) -> usize
-    requires { ⌜ (length (now es) ≡ sizes.entry * h .count) × ((h .count ≤ sizes.certEntries) × (messageLength (h .count) ≤ length (now out))) ⌝ }
-    ensures { λ r. ⌜ (r ≡ length (messageWords h (now (es .entry)))) × (now (out .exit) ≡ overlay (now (out .entry)) (messageWords h (now (es .entry)))) ⌝ }
+    requires { ⌜ (length (now es) ≡ sizes.entry * h .count)
+        × ((h .count ≤ sizes.certEntries) × (messageLength (h .count) ≤ length (now out))) ⌝ }
+    ensures { λ r. ⌜ (r ≡ length (messageWords h (now (es .entry))))
+        × (now (out .exit) ≡ overlay (now (out .entry)) (messageWords h (now (es .entry)))) ⌝ }
 {
     write_head(out, h);
     copy_words(&mut out[MESSAGE_HEADER..], es);

@@ -6,7 +6,8 @@ use kinds::sizes::SITES;
 ghost use mathlib.Core.Path.{_≡_};
 ghost use Prim.Native.Nat.{_≤_, _<_};
 ghost use Rattle.laws.specs.Pair.{precedes as precedesOf};
-ghost use Rattle.rules.specs.House.{houseOk, isSite, siteOf, isKey, txOf, coordinatorOf, serialOf, isTx, maskOf, inMask, isMask, participants as participantsOf, repliesWanted};
+ghost use Rattle.rules.specs.House.{houseOk, isSite, siteOf, isKey, txOf, coordinatorOf, serialOf, isTx, maskOf, inMask, isMask};
+ghost use Rattle.rules.specs.House.{participants as participantsOf, repliesWanted};
 
 pub fn house_ok(h: House) -> bool
     ensures { λ r. ⌜ r ≡ houseOk h ⌝ }

@@ -10,7 +10,8 @@ use lib.ListN.{length, getD}
 use lib.Dec.{ltb, leb}
 use Rattle.laws.specs.Choice.{pick, picked-left, picked-right}
 use Rattle.rules.specs.World.{World, Is, here, there, Reached, Handed, Lawful, step}
-use Rattle.played.specs.Script.{Line, begin, enlist, read, write, commit, abandon, take, install, report, merge, emit, replay, value, sentAt, callOf, callsFrom}
+use Rattle.played.specs.Script.{Line, begin, enlist, read, write, commit, abandon, take, install, report, merge, emit, replay, value}
+use Rattle.played.specs.Script.{sentAt, callOf, callsFrom}
 
 -- place i of a list of records, of which so many were taken, is there and may be handed in
 unfoldable pub reachable : List (List ℕ) → ℕ → ℕ → Bool

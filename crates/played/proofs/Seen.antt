@@ -120,4 +120,5 @@ none-half-seen = rw (← second-book) (demand3 2 secondCalls (lit< tt) (lit< tt)
 
 pub none-committed : (n c : ℕ) → Committed secondBook halfSeeing n c → ⊥
 none-committed n c m =
-    none-half-seen halfSeeing spanning n c 1 2 (λ e. absurd (omega arith)) m half-touches (half-parts .0) half-saw-1 (half-parts .1) half-missed-2
+    none-half-seen halfSeeing spanning n c 1 2 (λ e. absurd (omega arith)) m half-touches (half-parts .0) half-saw-1 (half-parts .1)
+    half-missed-2

@@ -2,13 +2,15 @@
 -- at site 1 and missed it at site 2: it is voted 18 and aborts. `later` saw it at both, and writes over it. `lone` stays at site 1.
 use Prim.Native.Nat.{ℕ}
 use mathlib.Core.List.{List, [], _∷_}
-use Rattle.kinds.specs.declared.Answer.the-variants.{Refused, Done, Begun, Found, Committed, Aborted, Installed, Reported, Emitted, Standing}
+use Rattle.kinds.specs.declared.Answer.the-variants.{Refused, Done, Begun, Found, Committed, Aborted, Installed, Reported, Emitted}
+use Rattle.kinds.specs.declared.Answer.the-variants.{Standing}
 use Rattle.kinds.specs.Kind as kind
 use Rattle.rules.specs.Message.{messageWords, entryCount}
 use Rattle.rules.specs.Course.{headOf}
 use Rattle.rules.specs.World.{Call}
 use Rattle.rules.specs.Book.{Fact, began, used, wrote, committed, installed, replayed}
-use Rattle.played.specs.Script.{Told, _⟶_, begin, enlist, read, write, commit, abandon, take, install, report, merge, emit, replay, value, callsOf}
+use Rattle.played.specs.Script.{Told, _⟶_, begin, enlist, read, write, commit, abandon, take, install, report, merge, emit, replay}
+use Rattle.played.specs.Script.{value, callsOf}
 
 -- the first, second and third of site 1, the first and second of site 2
 abbrev pub spanning : ℕ

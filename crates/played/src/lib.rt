@@ -1,4 +1,5 @@
-// Demand 3 speaks of lists that there are: each script is a lawful list, its calls answer what it tells, and the copies hold what is said here.
+// Demand 3 speaks of lists that there are: each script is a lawful list, its calls answer what it tells, and the copies hold what is said
+// here.
 ghost use mathlib.Core.Path.{_≡_};
 ghost use Prim.Native.Nat.{ℕ};
 ghost use Rattle.kinds.specs.declared.Answer.the-variants.{Standing};

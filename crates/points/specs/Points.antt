@@ -60,7 +60,8 @@ points =
     ∷ point (said (readOf versions (replicate sizes.keys 0) 4294967301 5 .answer)) (0 ∷ 70 ∷ [])
     ∷ point (said (writeOf versions 4294967301 5 90 .answer)) (2 ∷ 10 ∷ [])
     ∷ point (said (emitOf (merging 4) sizes.merged (headWords ++ replicate (sizes.queues - length headWords) 0) .answer)) (2 ∷ 17 ∷ [])
-    ∷ point (said (emitOf (merging 5) sizes.merged (headWords ++ replicate (sizes.queues - length headWords) 0) .answer)) (0 ∷ 5 ∷ 1 ∷ 4294967297 ∷ [])
+    ∷ point (said (emitOf (merging 5) sizes.merged (headWords ++ replicate (sizes.queues - length headWords) 0) .answer))
+    (0 ∷ 5 ∷ 1 ∷ 4294967297 ∷ [])
     ∷ point (yes (dependent (read 5) (read 5)) ++ yes (dependent (wrote 5 1) (read 5))) (0 ∷ 1 ∷ [])
     ∷ []
 

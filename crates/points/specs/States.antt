@@ -42,10 +42,22 @@ queueing live =
 
 -- one key written
 unfoldable pub wrote : ℕ → ℕ → Keys
-wrote k v = record { read = 0; wrote = 1; reads = replicate sizes.reads 0; writes = set (replicate sizes.writes 0) 0 k; values = set (replicate sizes.writes 0) 0 v }
+wrote k v = record {
+  read = 0;
+  wrote = 1;
+  reads = replicate sizes.reads 0;
+  writes = set (replicate sizes.writes 0) 0 k;
+  values = set (replicate sizes.writes 0) 0 v;
+}
 
 unfoldable pub read : ℕ → Keys
-read k = record { read = 1; wrote = 0; reads = set (replicate sizes.reads 0) 0 k; writes = replicate sizes.writes 0; values = replicate sizes.writes 0 }
+read k = record {
+  read = 1;
+  wrote = 0;
+  reads = set (replicate sizes.reads 0) 0 k;
+  writes = replicate sizes.writes 0;
+  values = replicate sizes.writes 0;
+}
 
 unfoldable pub installed : ℕ → Keys → Entry
 installed n b = record { tx = txOf 1 n; mask = 1; number = n; keys = b }
@@ -66,7 +78,8 @@ versions =
             keys = noKeys;
           });
       history =
-          set (set (set (set (replicate sizes.history noEntry) 0 (installed 1 noKeys)) 1 (installed 2 (wrote 5 70))) 2 (installed 3 noKeys)) 3 (installed 4 (wrote 5 80));
+          set (set (set (set (replicate sizes.history noEntry) 0 (installed 1 noKeys)) 1 (installed 2 (wrote 5 70))) 2 (installed 3 noKeys))
+          3 (installed 4 (wrote 5 80));
     }
 
 -- a merger of two sites: site 1's head is (5, 1) of mask 1, site 2's queue is empty and its state is n

@@ -31,8 +31,10 @@ fn write_head(out: &mut [u64], r: RecordHead)
 
 // Writes the record, and returns how many words it has.
 pub fn write_record(out: &mut [u64], r: RecordHead, ws: &[u64]) -> usize
-    requires { ⌜ (length (now ws) ≡ sizes.write * r .count) × ((r .count ≤ sizes.mergedWrites) × (recordLength (r .count) ≤ length (now out))) ⌝ }
-    ensures { λ n. ⌜ (n ≡ length (recordWords r (now (ws .entry)))) × (now (out .exit) ≡ overlay (now (out .entry)) (recordWords r (now (ws .entry)))) ⌝ }
+    requires { ⌜ (length (now ws) ≡ sizes.write * r .count)
+        × ((r .count ≤ sizes.mergedWrites) × (recordLength (r .count) ≤ length (now out))) ⌝ }
+    ensures { λ n. ⌜ (n ≡ length (recordWords r (now (ws .entry))))
+        × (now (out .exit) ≡ overlay (now (out .entry)) (recordWords r (now (ws .entry)))) ⌝ }
 {
     write_head(out, r);
     copy_words(&mut out[RECORD_HEADER..], ws);

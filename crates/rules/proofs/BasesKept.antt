@@ -102,12 +102,14 @@ module _ {sites : ℕ} {w x : World} {p q : Protocol} (r : Refines sites w p) (t
           sym (t .site j l h .counters .installs-are) ∙ rw e (i .count) ∙ ap (λ (a : ℕ). a + 1) (y .counters .installs-are) in
           let d : x .base j ≡ baseAfter (w .site j) (w .base j) = rw e (i .base) in
           rw (d, m)
-          (base-after (w .site j) (w .base j) (inst p j) k (y .history) (y .counters .installs-are) (y .base-size) low (o .entry j) (b j k l h low)
+          (base-after (w .site j) (w .base j) (inst p j) k (y .history) (y .counters .installs-are) (y .base-size) low (o .entry j)
+          (b j k l h low)
           ∙ left-kept j k (forgotten (length (inst p j) + 1)) (few (length (inst p j)) .1))
 
       there : (j ≡ s → ⊥) → getD (x .base j) k fresh ≡ leftBelow (at q j) k (forgotten (length (inst q j)))
       there f =
           let (d, e) = i .others j f in
           let m : length (inst q j) ≡ length (inst p j) =
-          sym (t .site j l h .counters .installs-are) ∙ ap (λ (a : Site). a .counters .installs) e ∙ r .site j l h .counters .installs-are in
+          sym (t .site j l h .counters .installs-are) ∙ ap (λ (a : Site). a .counters .installs) e
+          ∙ r .site j l h .counters .installs-are in
           rw (d, m) (b j k l h low ∙ left-kept j k (forgotten (length (inst p j))) (few (length (inst p j)) .0))

@@ -27,7 +27,8 @@ pub record Tells (sites s t : ℕ) (old new : Keys) (fs : List Fact) : Type 0 wh
   pub used : (u k : ℕ) → Is (book.used u k) fs → (u ≡ t) × (home sites k ≡ s) × UsedIn new k
   pub wrote : (u k : ℕ) (v : Value) → Is (book.wrote u k v) fs → (u ≡ t) × (home sites k ≡ s) × (wroteKey new k ≡ true)
   pub read : (k : ℕ) → readKey old k ≡ true → readKey new k ≡ true
-  pub last : (b : List Fact) (k : ℕ) → wroteKey new k ≡ true → (wroteKey old k ≡ true → (home sites k ≡ s) × LastWrite b t k (wroteValue old k))
+  pub last : (b : List Fact) (k : ℕ) → wroteKey new k ≡ true
+      → (wroteKey old k ≡ true → (home sites k ≡ s) × LastWrite b t k (wroteValue old k))
       → (home sites k ≡ s) × LastWrite (b ++ fs) t k (wroteValue new k)
 
 is-wrote : {u t k j n : ℕ} {x v : Value} → Is (book.wrote u k x) (book.used t n ∷ book.wrote t j v ∷ []) → (u ≡ t) × (k ≡ j)
@@ -91,10 +92,12 @@ module _ {sites : ℕ} {b fs : List Fact} {p q : Protocol} {s t : ℕ} {new : Ke
   still P f = rw (c .keys) (upd₂-cases (λ j u z. P (p .keys j u) → P z) (p .keys) s t new f (λ j u n x. x))
 
   -- what the access told is of t at s
-  now : (P : Keys → Type 0) (k u : ℕ) → (u ≡ t) × (home sites k ≡ s) × P new → (q .has (home sites k) u ≡ true) × P (q .keys (home sites k) u)
+  now : (P : Keys → Type 0) (k u : ℕ) → (u ≡ t) × (home sites k ≡ s) × P new
+      → (q .has (home sites k) u ≡ true) × P (q .keys (home sites k) u)
   now P k u (e, h, x) = rw (c .has, c .keys, e, h) (c .begun, rw (upd₂-same (p .keys) s t new) x)
 
-  wrote : (u k : ℕ) (v : Value) → Is (book.wrote u k v) b ⊎ Is (book.wrote u k v) fs → (q .has (home sites k) u ≡ true) × (wroteKey (q .keys (home sites k) u) k ≡ true)
+  wrote : (u k : ℕ) (v : Value) → Is (book.wrote u k v) b ⊎ Is (book.wrote u k v) fs
+      → (q .has (home sites k) u ≡ true) × (wroteKey (q .keys (home sites k) u) k ≡ true)
   wrote u k v (inl x) =
       let (h, y) = i .writes .wrote u k v x in
       (rw (c .has) h, still (λ z. wroteKey z k ≡ true) (w k) (home sites k) u y)
@@ -106,11 +109,14 @@ module _ {sites : ℕ} {b fs : List Fact} {p q : Protocol} {s t : ℕ} {new : Ke
       (rw (c .has) h, still (λ z. UsedIn z k) (⊎-elim (λ e. inl (a .read k e)) (λ e. inr (w k e))) (home sites k) u y)
   used u k (inr x) = now (λ z. UsedIn z k) k u (a .used u k x)
 
-  last : (k j u : ℕ) → q .has j u ≡ true → wroteKey (q .keys j u) k ≡ true → (home sites k ≡ j) × LastWrite (b ++ fs) u k (wroteValue (q .keys j u) k)
+  last : (k j u : ℕ) → q .has j u ≡ true → wroteKey (q .keys j u) k ≡ true
+      → (home sites k ≡ j) × LastWrite (b ++ fs) u k (wroteValue (q .keys j u) k)
   last k = rw (c .has, c .keys)
-      (upd₂-cases (λ j u z. p .has j u ≡ true → wroteKey z k ≡ true → (home sites k ≡ j) × LastWrite (b ++ fs) u k (wroteValue z k)) (p .keys) s t new
+      (upd₂-cases (λ j u z. p .has j u ≡ true → wroteKey z k ≡ true → (home sites k ≡ j) × LastWrite (b ++ fs) u k (wroteValue z k))
+      (p .keys) s t new
       (λ h x. a .last b k x (i .writes .last s t k h))
-      (λ j u n h x. let (o, m) = i .writes .last j u k h x in (o, last-kept fs (λ v y. let (e, f, g) = a .wrote u k v y in n (sym o ∙ f, e)) m)))
+      (λ j u n h x. let (o, m) = i .writes .last j u k h x in
+      (o, last-kept fs (λ v y. let (e, f, g) = a .wrote u k v y in n (sym o ∙ f, e)) m)))
 
   pub booked-accessed : Booked sites (b ++ fs) q
   booked-accessed =

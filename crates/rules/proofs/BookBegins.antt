@@ -17,7 +17,8 @@ use Rattle.rules.specs.Claim.{Before, LastWrite}
 use Rattle.rules.proofs.Tables.{upd₂, upd₂-same, upd₂-cases, all-one, upd₂-both, all-is, is-append}
 use Rattle.rules.proofs.Protocol.{Protocol, inst}
 use Rattle.rules.proofs.Frames.{kept₂, was₂}
-use Rattle.rules.proofs.BookLists.{is-kept, is-last, OfKind, old, before-second, before-kept, before-here, before-append, not-alone, last-kept}
+use Rattle.rules.proofs.BookLists.{is-kept, is-last, OfKind, old, before-second, before-kept, before-here, before-append, not-alone}
+use Rattle.rules.proofs.BookLists.{last-kept}
 use Rattle.rules.proofs.Booked.{home, PairAt, UsedIn, Begins, Writes, Booked}
 use Rattle.rules.proofs.BookKept.{commits-kept, installs-kept}
 
@@ -42,7 +43,9 @@ module _ {sites : ℕ} {b : List Fact} {p q : Protocol} {s t : ℕ} (c : BeganAs
   a = all-one refl
 
   -- it had not begun before
-  once : (j u : ℕ) → Before (book.began j u) (book.began j u) b ⊎ ((Is (book.began j u) b × Is (book.began j u) l) ⊎ Before (book.began j u) (book.began j u) l) → ⊥
+  once : (j u : ℕ)
+      → Before (book.began j u) (book.began j u) b
+      ⊎ ((Is (book.began j u) b × Is (book.began j u) l) ⊎ Before (book.began j u) (book.began j u) l) → ⊥
   once j u (inl x) = i .begins .once j u x
   once j u (inr (inl (x, y))) = let (d, e) = is-began y in c .none (rw (d, e) at (i .begins .began j u x))
   once j u (inr (inr x)) = not-alone x
@@ -63,14 +66,19 @@ module _ {sites : ℕ} {b : List Fact} {p q : Protocol} {s t : ℕ} (c : BeganAs
 
   -- the keys of a part that had begun
   other : (P : Keys → Type 0) (j u : ℕ) → p .has j u ≡ true → P (p .keys j u) → P (q .keys j u)
-  other P j u x y = rw (c .keys) (upd₂-cases (λ j u z. p .has j u ≡ true → P (p .keys j u) → P z) (p .keys) s t noKeys (λ x y. absurd (c .none x)) (λ j u n x y. y) j u x y)
+  other P j u x y =
+      rw (c .keys)
+      (upd₂-cases (λ j u z. p .has j u ≡ true → P (p .keys j u) → P z) (p .keys) s t noKeys (λ x y. absurd (c .none x))
+      (λ j u n x y. y) j u x y)
 
   had : (j u : ℕ) → p .has j u ≡ true → q .has j u ≡ true
   had j u x = rw (c .has) (kept₂ (p .has) s t j u x)
 
-  last : (k j u : ℕ) → q .has j u ≡ true → wroteKey (q .keys j u) k ≡ true → (home sites k ≡ j) × LastWrite (b ++ l) u k (wroteValue (q .keys j u) k)
+  last : (k j u : ℕ) → q .has j u ≡ true → wroteKey (q .keys j u) k ≡ true
+      → (home sites k ≡ j) × LastWrite (b ++ l) u k (wroteValue (q .keys j u) k)
   last k = rw (c .has, c .keys)
-      (upd₂-both (λ j u h z. h ≡ true → wroteKey z k ≡ true → (home sites k ≡ j) × LastWrite (b ++ l) u k (wroteValue z k)) (p .has) (p .keys) s t true noKeys
+      (upd₂-both (λ j u h z. h ≡ true → wroteKey z k ≡ true → (home sites k ≡ j) × LastWrite (b ++ l) u k (wroteValue z k)) (p .has)
+      (p .keys) s t true noKeys
       (λ x w. absurd (none-written k w))
       (λ j u n x w. let (o, z) = i .writes .last j u k x w in (o, last-kept l (λ v y. clash (all-is a y)) z)))
     where
@@ -94,13 +102,20 @@ module _ {sites : ℕ} {b : List Fact} {p q : Protocol} {s t : ℕ} (c : BeganAs
 
   -- what a part that had begun saw
   sight : (j u n e m : ℕ) → p .has j u ≡ true → m < p .snap j u → PairAt p j m n e → Sight j u n e
-  sight j u n e m x d z =
-      (m, rw (c .snap) (upd₂-cases (λ j u y. p .has j u ≡ true → m < p .snap j u → m < y) (p .snap) s t _ (λ x d. absurd (c .none x)) (λ j u n x d. d) j u x d), rw (c .parts j) z)
+  sight j u n e m x d z = (
+    m,
+    rw (c .snap)
+        (upd₂-cases (λ j u y. p .has j u ≡ true → m < p .snap j u → m < y) (p .snap) s t _ (λ x d. absurd (c .none x)) (λ j u n x d. d) j
+        u x d),
+    rw (c .parts j) z,
+  )
 
   new-snap : (j u : ℕ) → (j ≡ s) × (u ≡ t) → q .snap j u ≡ length (inst p j)
   new-snap j u (f, g) = rw (c .snap, f, g) (upd₂-same (p .snap) s t (length (inst p s)))
 
-  seen : (j u n e : ℕ) → Before (book.installed j n e) (book.began j u) b ⊎ ((Is (book.installed j n e) b × Is (book.began j u) l) ⊎ Before (book.installed j n e) (book.began j u) l)
+  seen : (j u n e : ℕ)
+      → Before (book.installed j n e) (book.began j u) b
+      ⊎ ((Is (book.installed j n e) b × Is (book.began j u) l) ⊎ Before (book.installed j n e) (book.began j u) l)
       → Sight j u n e
   seen j u n e (inl x) = let (m, d, z) = i .sees .seen j u n e x in sight j u n e m (i .begins .began j u (before-second x)) d z
   seen j u n e (inr (inl (x, y))) =
@@ -108,9 +123,11 @@ module _ {sites : ℕ} {b : List Fact} {p q : Protocol} {s t : ℕ} (c : BeganAs
       (m, rw (new-snap j u (is-began y)) d, rw (c .parts j) z)
   seen j u n e (inr (inr x)) = absurd (not-alone x)
 
-  before : (m n e j u : ℕ) → q .has j u ≡ true → m < q .snap j u → PairAt p j m n e → Before (book.installed j n e) (book.began j u) (b ++ l)
+  before : (m n e j u : ℕ) → q .has j u ≡ true → m < q .snap j u → PairAt p j m n e
+      → Before (book.installed j n e) (book.began j u) (b ++ l)
   before m n e = rw (c .has, c .snap)
-      (upd₂-both (λ j u h y. h ≡ true → m < y → PairAt p j m n e → Before (book.installed j n e) (book.began j u) (b ++ l)) (p .has) (p .snap) s t true (length (inst p s))
+      (upd₂-both (λ j u h y. h ≡ true → m < y → PairAt p j m n e → Before (book.installed j n e) (book.began j u) (b ++ l)) (p .has)
+      (p .snap) s t true (length (inst p s))
       (λ x d z. before-here (i .installs .installs s m n e d z) here)
       (λ j u o x d z. before-kept l (i .sees .before j u m n e x d z)))
 

@@ -55,7 +55,8 @@ module _ {o : House} {b : List Fact} {p : Protocol} (i : BookIs o b p) (n c k : 
       )
 
 -- what is claimed of a copy
-pub copy-holds : {sites : ℕ} {b : List Fact} {p : Protocol} {w : World} {c k : ℕ} → BookIs (record { sites = sites }) b p → CopyStands sites p (w .copy c) k
+pub copy-holds : {sites : ℕ} {b : List Fact} {p : Protocol} {w : World} {c k : ℕ} → BookIs (record { sites = sites }) b p
+    → CopyStands sites p (w .copy c) k
     → LastReplay c b (copyNumber (w .copy c)) (copyCoordinator (w .copy c)) → CopyHolds b w c k
 copy-holds {b = b} {p = p} i s r =
     record {
@@ -68,5 +69,6 @@ copy-holds {b = b} {p = p} i s r =
       left = left-by i (s .number) (s .coordinator) _ (s .value) (s .low) (s .left);
     }
   where
-    committed-pair : (t : ℕ) × (0 < p .num t) × (p .num t ≡ s .number) × (coordinatorOf t ≡ s .coordinator) → (t : ℕ) × Committed b t (s .number) (s .coordinator)
+    committed-pair : (t : ℕ) × (0 < p .num t) × (p .num t ≡ s .number) × (coordinatorOf t ≡ s .coordinator)
+        → (t : ℕ) × Committed b t (s .number) (s .coordinator)
     committed-pair (t, z, e, f) = (t, rw (e, f) at (i .committed t z))

@@ -42,10 +42,13 @@ module _ {sites : ℕ} {b : List Fact} {p q : Protocol} {t n : ℕ} (c : Decided
   decided-kind : OfKind 2 told
   decided-kind = all-one refl
 
-  commit : (u m d : ℕ) → Is (book.committed u m d) b ⊎ Is (book.committed u m d) told → (0 < q .num u) × (q .num u ≡ m) × (coordinatorOf u ≡ d)
+  commit : (u m d : ℕ) → Is (book.committed u m d) b ⊎ Is (book.committed u m d) told
+      → (0 < q .num u) × (q .num u ≡ m) × (coordinatorOf u ≡ d)
   commit u m d (inl x) =
       let (z, e, f) = i .commits .commit u m d x in
-      let y : q .num u ≡ p .num u = rw (c .num) (upd-cases (λ u k. 0 < p .num u → k ≡ p .num u) (p .num) t n (λ z. absurd (omega (arith, c .undecided))) (λ u o z. refl) u z) in
+      let y : q .num u ≡ p .num u =
+      rw (c .num) (upd-cases (λ u k. 0 < p .num u → k ≡ p .num u) (p .num) t n (λ z. absurd (omega (arith, c .undecided)))
+      (λ u o z. refl) u z) in
       (rw y z, y ∙ e, f)
   commit u m d (inr x) =
       let (e, f, g) = is-committed x in
@@ -54,7 +57,8 @@ module _ {sites : ℕ} {b : List Fact} {p q : Protocol} {t n : ℕ} (c : Decided
 
   committed : (u : ℕ) → 0 < q .num u → Is (book.committed u (q .num u) (coordinatorOf u)) (b ++ told)
   committed = rw (c .num)
-      (upd-cases (λ u k. 0 < k → Is (book.committed u k (coordinatorOf u)) (b ++ told)) (p .num) t n (λ z. is-last b) (λ u o z. is-kept told (i .commits .committed u z)))
+      (upd-cases (λ u k. 0 < k → Is (book.committed u k (coordinatorOf u)) (b ++ told)) (p .num) t n (λ z. is-last b)
+      (λ u o z. is-kept told (i .commits .committed u z)))
 
   pub booked-decided : Booked sites (b ++ (book.committed t n (coordinatorOf t) ∷ [])) q
   booked-decided =
@@ -93,21 +97,28 @@ module _ {sites : ℕ} {b : List Fact} {p q : Protocol} {s : ℕ} {e : Entry} (c
   -- the installs before it stay in their places
   stays : (m j : ℕ) → m < length (inst p j) → at q j m ≡ at p j m
   stays m = rw (c .log)
-      (inst-cases p (λ j l. m < length (inst p j) → getD l m pastEntry ≡ at p j m) s e (λ h. List·getD-append (inst p s) (e ∷ []) pastEntry m h) (λ j h. refl))
+      (inst-cases p (λ j l. m < length (inst p j) → getD l m pastEntry ≡ at p j m) s e
+      (λ h. List·getD-append (inst p s) (e ∷ []) pastEntry m h) (λ j h. refl))
 
   longer : (j : ℕ) → length (inst p j) ≤ length (inst q j)
-  longer = rw (c .log) (inst-cases p (λ j l. length (inst p j) ≤ length l) s e (omega (arith, length-append (inst p s) (e ∷ []))) (λ j. omega arith))
+  longer = rw (c .log)
+      (inst-cases p (λ j l. length (inst p j) ≤ length l) s e (omega (arith, length-append (inst p s) (e ∷ []))) (λ j. omega arith))
 
   new : inst q s ≡ inst p s ++ (e ∷ [])
   new = rw (c .log, upd-same (p .log) s (p .log s ++ (rPart e ∷ []))) (parts-append (p .log s) (rPart e ∷ []))
 
-  installed : (j n d : ℕ) → Is (book.installed j n d) b ⊎ Is (book.installed j n d) fact → (m : ℕ) × (m < length (inst q j)) × PairAt q j m n d
+  installed : (j n d : ℕ) → Is (book.installed j n d) b ⊎ Is (book.installed j n d) fact
+      → (m : ℕ) × (m < length (inst q j)) × PairAt q j m n d
   installed j n d (inl x) =
       let (m, h, y) = i .installs .installed j n d x in
       (m, omega (arith, longer j), rw (stays m j h) y)
   installed j n d (inr x) =
       let (f, g, h) = is-installed x in
-      rw (f, new) (length (inst p s), omega (arith, length-append (inst p s) (e ∷ [])), rw (getD-append-seam (inst p s) e [] pastEntry) (sym g, sym h))
+      rw (f, new) (
+        length (inst p s),
+        omega (arith, length-append (inst p s) (e ∷ [])),
+        rw (getD-append-seam (inst p s) e [] pastEntry) (sym g, sym h),
+      )
 
   installs : (n d j m : ℕ) → m < length (inst q j) → PairAt q j m n d → Is (book.installed j n d) (b ++ fact)
   installs n d = rw (c .log)
@@ -117,7 +128,9 @@ module _ {sites : ℕ} {b : List Fact} {p q : Protocol} {s : ℕ} {e : Entry} (c
       (λ j m h y. is-kept fact (i .installs .installs j m n d h y)))
 
   -- its pair was not installed here before
-  once : (j n d : ℕ) → Before (book.installed j n d) (book.installed j n d) b ⊎ ((Is (book.installed j n d) b × Is (book.installed j n d) fact) ⊎ Before (book.installed j n d) (book.installed j n d) fact) → ⊥
+  once : (j n d : ℕ)
+      → Before (book.installed j n d) (book.installed j n d) b
+      ⊎ ((Is (book.installed j n d) b × Is (book.installed j n d) fact) ⊎ Before (book.installed j n d) (book.installed j n d) fact) → ⊥
   once j n d (inl x) = i .installs .once j n d x
   once j n d (inr (inl (x, y))) =
       let (f, g, h) = is-installed y in
@@ -131,6 +144,11 @@ module _ {sites : ℕ} {b : List Fact} {p q : Protocol} {s : ℕ} {e : Entry} (c
         commits = commits-kept installed-kind (λ z. omega arith) (c .num) (i .commits);
         begins = begins-kept installed-kind (λ z. omega arith) (c .has) (i .begins);
         writes = writes-kept installed-kind (λ z. omega arith) (c .has) (c .keys) (i .writes);
-        installs = record { installed = λ j n d x. installed j n d (is-append b fact x); installs = λ j m n d. installs n d j m; once = λ j n d x. once j n d (before-append b fact x) };
-        sees = sees-kept installed-kind (λ z. omega arith) (c .has) (c .snap) (λ j u m x d. stays m j (omega (arith, c .low j u x))) (i .begins) (i .sees);
+        installs = record {
+          installed = λ j n d x. installed j n d (is-append b fact x);
+          installs = λ j m n d. installs n d j m;
+          once = λ j n d x. once j n d (before-append b fact x);
+        };
+        sees = sees-kept installed-kind (λ z. omega arith) (c .has) (c .snap) (λ j u m x d. stays m j (omega (arith, c .low j u x)))
+            (i .begins) (i .sees);
       }

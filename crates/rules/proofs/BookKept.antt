@@ -73,7 +73,8 @@ Same p q = (q .has ≡ p .has) × (q .snap ≡ p .snap) × (q .keys ≡ p .keys)
 pub at-same : (p q : Protocol) → ((s : ℕ) → inst q s ≡ inst p s) → (s j : ℕ) → at q s j ≡ at p s j
 at-same p q e s j = ap (λ (l : List Entry). getD l j pastEntry) (e s)
 
-pub booked-kept : {sites : ℕ} {b l : List Fact} {p q : Protocol} (k : ℕ) → OfKind k l → 3 < k → Same p q → Booked sites b p → Booked sites (b ++ l) q
+pub booked-kept : {sites : ℕ} {b l : List Fact} {p q : Protocol} (k : ℕ) → OfKind k l → 3 < k → Same p q → Booked sites b p
+    → Booked sites (b ++ l) q
 booked-kept {p = p} {q = q} k a h (e, f, g, n, o) i =
     record {
       commits = commits-kept a (λ z. omega arith) n (i .commits);
@@ -88,5 +89,6 @@ pub booked-quiet : {sites : ℕ} {b : List Fact} {p q : Protocol} → Same p q �
 booked-quiet e i = booked-kept 4 a-nil (omega arith) e i
 
 -- a replay is no matter of the sites
-pub booked-replayed : {sites : ℕ} {b : List Fact} {p : Protocol} → Booked sites b p → (c n d : ℕ) → Booked sites (b ++ (book.replayed c n d ∷ [])) p
+pub booked-replayed : {sites : ℕ} {b : List Fact} {p : Protocol} → Booked sites b p → (c n d : ℕ)
+    → Booked sites (b ++ (book.replayed c n d ∷ [])) p
 booked-replayed i c n d = booked-kept 4 (all-one refl) (omega arith) same i

@@ -64,7 +64,8 @@ pub before-append : {f g : Fact} (b l : List Fact) → Before f g (b ++ l) → B
 before-append [] l h = inr (inr h)
 before-append (x ∷ b) l ([], q, e, i, j) = absurd (none-is i)
 before-append {f} {g} (x ∷ b) l (y ∷ p, q, e, i, j) =
-    ⊎-elim (λ z. first (z ∙ sym heads) (is-append b l (rw tails (is-behind p j)))) (λ m. later (before-append b l (p, q, tails, m, j))) (is-cases i)
+    ⊎-elim (λ z. first (z ∙ sym heads) (is-append b l (rw tails (is-behind p j)))) (λ m. later (before-append b l (p, q, tails, m, j)))
+    (is-cases i)
   where
     heads : x ≡ y
     heads = cc
@@ -97,9 +98,11 @@ before-old {f} {g} b l n h = go (before-append b l h)
     go (inr (inr k)) = absurd (n (before-second k))
 
 -- The last write.
-pub last-kept : {t k : ℕ} {v : Value} {b : List Fact} (l : List Fact) → ((u : Value) → Is (book.wrote t k u) l → ⊥) → LastWrite b t k v → LastWrite (b ++ l) t k v
+pub last-kept : {t k : ℕ} {v : Value} {b : List Fact} (l : List Fact) → ((u : Value) → Is (book.wrote t k u) l → ⊥) → LastWrite b t k v
+    → LastWrite (b ++ l) t k v
 last-kept {t} {k} {v} l n (p, q, e, g) =
     (p, q ++ l, rw e (append-assoc p (book.wrote t k v ∷ q) l), λ u i. ⊎-elim (λ j. g u j) (λ j. n u j) (is-append q l i))
 
-pub last-fresh : {t k : ℕ} {v : Value} (b l : List Fact) → ((u : Value) → Is (book.wrote t k u) l → ⊥) → LastWrite (b ++ (book.wrote t k v ∷ l)) t k v
+pub last-fresh : {t k : ℕ} {v : Value} (b l : List Fact) → ((u : Value) → Is (book.wrote t k u) l → ⊥)
+    → LastWrite (b ++ (book.wrote t k v ∷ l)) t k v
 last-fresh b l n = (b, l, refl, n)

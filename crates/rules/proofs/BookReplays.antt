@@ -15,12 +15,14 @@ use Rattle.kinds.specs.Kind as kind
 use Rattle.kinds.specs.Reason as reason
 use Rattle.kinds.specs.State.{Value}
 use Rattle.kinds.specs.declared.Answer.{Answer}
-use Rattle.kinds.specs.declared.Answer.the-variants.{Refused, Done, Begun, Found, Committed, Aborted, Installed, Reported, Emitted, Standing}
+use Rattle.kinds.specs.declared.Answer.the-variants.{Refused, Done, Begun, Found, Committed, Aborted, Installed, Reported, Emitted}
+use Rattle.kinds.specs.declared.Answer.the-variants.{Standing}
 use Rattle.rules.specs.Answers.{onBegun, onFound, onDone, onCommitted, onInstalled, onAnswer}
 use Rattle.rules.specs.Record.{recordHead, recordWrites}
 use Rattle.rules.specs.Message.{messageHead}
 use Rattle.rules.specs.Copy.{copyNumber, copyCoordinator, replayed, replayOf, copyStartOf}
-use Rattle.rules.specs.World.{World, Call, Is, here, there, step, siteStep, logStep, mergerStep, mergeStep, copyStep, replayStep, run, freshWorld}
+use Rattle.rules.specs.World.{World, Call, Is, here, there, step, siteStep, logStep, mergerStep, mergeStep, copyStep, replayStep, run}
+use Rattle.rules.specs.World.{freshWorld}
 use Rattle.rules.specs.World as world
 use Rattle.rules.specs.Book as book
 use Rattle.rules.specs.Book.{Fact, factsOf, bookFrom}
@@ -83,7 +85,9 @@ began-none true s t = all-one refl
 began-none false s t = a-nil
 
 joins-none : (s : ℕ) (m words : List ℕ) (a : Answer) → NoReplay (book.joins s m words a)
-joins-none s m words a = on-done NoReplay a-nil (began-none (every (eqb (messageHead m .kind) kind.join ∷ eqb (getD words word.argument reason.full) 0 ∷ [])) s (messageHead m .tx)) a
+joins-none s m words a =
+    on-done NoReplay a-nil
+    (began-none (every (eqb (messageHead m .kind) kind.join ∷ eqb (getD words word.argument reason.full) 0 ∷ [])) s (messageHead m .tx)) a
 
 uses-none : (t k : ℕ) (a : Answer) → NoReplay (book.uses t k a)
 uses-none t k a = on-found NoReplay a-nil (λ n. all-one refl) a
@@ -97,13 +101,15 @@ installs-none s a = on-installed NoReplay a-nil (λ n c. all-one refl) a
 commits-none : (t : ℕ) (a : Answer) → NoReplay (book.commits t a)
 commits-none t a = on-committed NoReplay a-nil (λ n. all-one refl) a
 
-still-last : (c : ℕ) (b l : List Fact) (n d : ℕ) → ((m e : ℕ) → Is (book.replayed c m e) l → ⊥) → LastReplay c b n d → LastReplay c (b ++ l) n d
+still-last : (c : ℕ) (b l : List Fact) (n d : ℕ) → ((m e : ℕ) → Is (book.replayed c m e) l → ⊥) → LastReplay c b n d
+    → LastReplay c (b ++ l) n d
 still-last c b l n d f (inl (p, q, e, g)) =
     inl (p, q ++ l, rw e (append-assoc p (book.replayed c n d ∷ q) l), λ m r i. ⊎-elim (λ j. g m r j) (λ j. f m r j) (is-append q l i))
 still-last c b l n d f (inr (g, x, y)) = inr ((λ m r i. ⊎-elim (λ j. g m r j) (λ j. f m r j) (is-append b l i)), x, y)
 
 -- The copy's pair after a replay.
-number-after : (copy ws : List ℕ) → length copy ≡ sizes.copy → (copyNumber (replayed copy ws) ≡ recordHead ws .number) × (copyCoordinator (replayed copy ws) ≡ recordHead ws .coordinator)
+number-after : (copy ws : List ℕ) → length copy ≡ sizes.copy
+    → (copyNumber (replayed copy ws) ≡ recordHead ws .number) × (copyCoordinator (replayed copy ws) ≡ recordHead ws .coordinator)
 unfolding replayed
 number-after copy ws e =
     let r = recordHead ws in
@@ -132,9 +138,11 @@ module _ (w : World) (b : List Fact) (h : LastReplays b w) where
   unfolding step replayStep copyStep
   replays-copy c ws = go (replay-cases (w .copy c) ws)
     where
-      go : ((n : ℕ) × (replayOf (w .copy c) ws ≡ record { answer = Refused n; copy = w .copy c })) ⊎ Replays (w .copy c) ws → After (world.replay c ws)
+      go : ((n : ℕ) × (replayOf (w .copy c) ws ≡ record { answer = Refused n; copy = w .copy c })) ⊎ Replays (w .copy c) ws
+          → After (world.replay c ws)
       go (inl (n, e)) =
-          rw (e, append-nil) (upd-cases (λ j y. LastReplay j b (copyNumber y) (copyCoordinator y)) (w .copy) c (w .copy c) (h c) (λ j x. h j))
+          rw (e, append-nil)
+          (upd-cases (λ j y. LastReplay j b (copyNumber y) (copyCoordinator y)) (w .copy) c (w .copy c) (h c) (λ j x. h j))
       go (inr t) =
           let r = recordHead ws in
           let (x, y) = number-after (w .copy c) ws (t .size) in
@@ -170,7 +178,8 @@ pub run-replays : (calls : List Call) (w : World) (b : List Fact) → LastReplay
 unfolding run bookFrom
 run-replays [] w b h = rw append-nil h
 run-replays (c ∷ calls) w b h =
-    rw (← append-assoc b (factsOf c (step w c .answer) (step w c .words)) (bookFrom (step w c .world) calls)) (run-replays calls (step w c .world) _ (call-replays w b h c))
+    rw (← append-assoc b (factsOf c (step w c .answer) (step w c .words)) (bookFrom (step w c .world) calls))
+    (run-replays calls (step w c .world) _ (call-replays w b h c))
 
 -- from a fresh house: no copy has a pair, and the book is empty
 replays-fresh : (sites : ℕ) → LastReplays [] (freshWorld sites)

@@ -39,8 +39,10 @@ pub record Begins (b : List Fact) (p : Protocol) : Type 0 where
   pub once : (s t : ℕ) → Before (book.began s t) (book.began s t) b → ⊥
 
 pub record Writes (sites : ℕ) (b : List Fact) (p : Protocol) : Type 0 where
-  pub wrote : (t k : ℕ) (v : Value) → Is (book.wrote t k v) b → (p .has (home sites k) t ≡ true) × (wroteKey (p .keys (home sites k) t) k ≡ true)
-  pub last : (s t k : ℕ) → p .has s t ≡ true → wroteKey (p .keys s t) k ≡ true → (home sites k ≡ s) × LastWrite b t k (wroteValue (p .keys s t) k)
+  pub wrote : (t k : ℕ) (v : Value) → Is (book.wrote t k v) b
+      → (p .has (home sites k) t ≡ true) × (wroteKey (p .keys (home sites k) t) k ≡ true)
+  pub last : (s t k : ℕ) → p .has s t ≡ true → wroteKey (p .keys s t) k ≡ true
+      → (home sites k ≡ s) × LastWrite b t k (wroteValue (p .keys s t) k)
   pub used : (t k : ℕ) → Is (book.used t k) b → (p .has (home sites k) t ≡ true) × UsedIn (p .keys (home sites k) t) k
 
 pub record Installs (b : List Fact) (p : Protocol) : Type 0 where

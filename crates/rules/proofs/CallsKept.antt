@@ -63,7 +63,9 @@ began-quiet true s t = all-one ((λ e. omega arith), λ e. omega arith)
 began-quiet false s t = a-nil
 
 joins-quiet : (s : ℕ) (m ws : List ℕ) (a : Answer) → Quiet (book.joins s m ws a)
-joins-quiet s m ws a = on-done Quiet a-nil (began-quiet (every (eqb (messageHead m .kind) kind.join ∷ eqb (getD ws word.argument reason.full) 0 ∷ [])) s (messageHead m .tx)) a
+joins-quiet s m ws a =
+    on-done Quiet a-nil
+    (began-quiet (every (eqb (messageHead m .kind) kind.join ∷ eqb (getD ws word.argument reason.full) 0 ∷ [])) s (messageHead m .tx)) a
 
 -- Those of reads and writes, and of installs.
 uses-told : (t k : ℕ) (a : Answer) → OfKind 1 (book.uses t k a)
@@ -87,12 +89,14 @@ module _ (sites : ℕ) (w : World) where
   quietly x a e = record { keys = inl (λ f i. all-is a i .0); bases = inl ((λ f i. all-is a i .1), e) }
 
   -- a call of a site that leaves its base values
-  at-site : {fs : List Fact} (s : ℕ) (e : Effect) (lists : List ℕ) → Quiet fs → CallKeeps sites w (siteStep w s e (w .base s) lists .world) fs
+  at-site : {fs : List Fact} (s : ℕ) (e : Effect) (lists : List ℕ) → Quiet fs
+      → CallKeeps sites w (siteStep w s e (w .base s) lists .world) fs
   unfolding siteStep
   at-site s e lists a = quietly _ a (upd-self (w .base) s)
 
   accessed : {fs : List Fact} (s : ℕ) (e : Effect) (lists : List ℕ) → OfKind 1 fs
-      → ((j : ℕ) → 1 ≤ j → j ≤ sites → LiveOnce (siteStep w s e (w .base s) lists .world .site j .live)) → CallKeeps sites w (siteStep w s e (w .base s) lists .world) fs
+      → ((j : ℕ) → 1 ≤ j → j ≤ sites → LiveOnce (siteStep w s e (w .base s) lists .world .site j .live))
+      → CallKeeps sites w (siteStep w s e (w .base s) lists .world) fs
   unfolding siteStep
   accessed s e lists a o = record { keys = inr (accesses a, o); bases = inl (accesses a, upd-self (w .base) s) }
 
@@ -124,8 +128,10 @@ pub call-kept : {sites : ℕ} {w : World} {p : Protocol} → Refines sites w p �
 unfolding step logStep mergeStep mergerStep replayStep copyStep
 call-kept {sites} {w} r i o (world.begin s) = at-site sites w s _ _ (begins-quiet s (step w (world.begin s) .answer))
 call-kept {sites} {w} r i o (world.enlist s out t n) = at-site sites w s _ _ a-nil
-call-kept {sites} {w} r i o (world.read s t k) = accessed sites w s _ _ (uses-told t k (step w (world.read s t k) .answer)) (read-once r i o s t k)
-call-kept {sites} {w} r i o (world.write s t k v) = accessed sites w s _ _ (writes-told t k v (step w (world.write s t k v) .answer)) (write-once r i o s t k v)
+call-kept {sites} {w} r i o (world.read s t k) =
+    accessed sites w s _ _ (uses-told t k (step w (world.read s t k) .answer)) (read-once r i o s t k)
+call-kept {sites} {w} r i o (world.write s t k v) =
+    accessed sites w s _ _ (writes-told t k v (step w (world.write s t k v) .answer)) (write-once r i o s t k v)
 call-kept {sites} {w} r i o (world.commit s out t) = at-site sites w s _ _ (commits-quiet t (step w (world.commit s out t) .answer))
 call-kept {sites} {w} r i o (world.abandon s out t) = at-site sites w s _ _ a-nil
 call-kept {sites} {w} r i o (world.message s out m) =

@@ -18,7 +18,8 @@ use Rattle.rules.proofs.Invariants.{Held, at, Installed, Parts, Courses
 use Rattle.rules.proofs.Later.{Later, later}
 use Rattle.rules.proofs.StepParts.{parts-append, parts-state, parts-step}
 use Rattle.rules.proofs.StepCourses.{courses-step}
-use Rattle.rules.proofs.Turns.{Turn, t-stays, t-moves, t-reads, t-aborts, t-installs, t-begins, Logged, l-same, l-part, l-state, turns, logs}
+use Rattle.rules.proofs.Turns.{Turn, t-stays, t-moves, t-reads, t-aborts, t-installs, t-begins, Logged, l-same, l-part, l-state}
+use Rattle.rules.proofs.Turns.{turns, logs}
 use Rattle.rules.proofs.News.{News, news}
 
 pub record Change (sites : ℕ) (p q : Protocol) : Type 0 where
@@ -49,8 +50,10 @@ kept-at : (p : Protocol) (s : ℕ) (l : List Rec) → Logged p s l → (j : ℕ)
     → (j < length (partsOf l)) × (getD (partsOf l) j pastEntry ≡ at p s j)
 kept-at p s l (l-same e) j h = rw e (h, refl)
 kept-at p s l (l-part t d f e) j h =
-    rw (e, parts-append (p .log s) (rPart (entryOf (p .live s t)) ∷ []))
-    (omega (arith, length-append (inst p s) (entryOf (p .live s t) ∷ [])), List·getD-append (inst p s) (entryOf (p .live s t) ∷ []) pastEntry j h)
+    rw (e, parts-append (p .log s) (rPart (entryOf (p .live s t)) ∷ [])) (
+      omega (arith, length-append (inst p s) (entryOf (p .live s t) ∷ [])),
+      List·getD-append (inst p s) (entryOf (p .live s t) ∷ []) pastEntry j h,
+    )
 kept-at p s l (l-state n a e) j h = rw (e, parts-state (p .log s) n) (h, refl)
 
 new-at : (p : Protocol) (s : ℕ) (l : List Rec) → Logged p s l → (j : ℕ) → j < length (partsOf l)

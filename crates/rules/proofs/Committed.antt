@@ -1,4 +1,5 @@
--- A committed transaction: its commit was asked for, it is not dead, it has a part at its coordinator, and where it has a part it voted yes.
+-- A committed transaction: its commit was asked for, it is not dead, it has a part at its coordinator, and where it has a part it voted
+-- yes.
 use Prim.Native.Nat.{ℕ, _≤_, _<_}
 use mathlib.Core.Path.{_≡_}
 use mathlib.Core.Bool.{true, false}
@@ -35,5 +36,6 @@ coordinator-has {p = p} i t n = go (i .order .held t n)
     go (inl x) = i .parts .has (coordinatorOf t) t (λ f. omega arith)
     go (inr (j, (l, e))) = rw e at (i .parts .entry-has (coordinatorOf t) j l)
 
-pub coordinator-site : {sites : ℕ} {p : Protocol} → Invariant sites p → (t : ℕ) → 0 < p .num t → (1 ≤ coordinatorOf t) × (coordinatorOf t ≤ sites)
+pub coordinator-site : {sites : ℕ} {p : Protocol} → Invariant sites p → (t : ℕ) → 0 < p .num t
+    → (1 ≤ coordinatorOf t) × (coordinatorOf t ≤ sites)
 coordinator-site i t n = i .parts .site (coordinatorOf t) t (coordinator-has i t n)

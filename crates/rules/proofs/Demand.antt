@@ -66,7 +66,8 @@ module _ {sites : ℕ} {p : Protocol} {b : List Fact} (few : sites ≤ 8) (i : I
       let (hu, wu) = x .writes .wrote u k w g in
       let r = precedes-rank n c m d (rw ct at (low t nt)) (rw cu at (low u nu)) e in
       let s = home sites k in
-      let (j, (l, q), o) = later-saw i few s t u k nt nu (λ a. omega (arith, ap (p .num) a, ap coordinatorOf a)) ht hu wt wu (omega arith) in
+      let (j, (l, q), o) =
+      later-saw i few s t u k nt nu (λ a. omega (arith, ap (p .num) a, ap coordinatorOf a)) ht hu wt wu (omega arith) in
       x .sees .before s u j n c hu o (pair-at s j t n c l q et ct)
 
   -- what the book saw, the machine saw
@@ -80,12 +81,17 @@ module _ {sites : ℕ} {p : Protocol} {b : List Fact} (few : sites ≤ 8) (i : I
 
   pub seen-saw : (s t u : ℕ) → p .has s t ≡ true → Seen p s t u → Saw b s t u
   seen-saw s t u h (j, (l, e), k) =
-      let z : 0 < p .num u = rw e at (i .account .entry s j l .1) in
-      (p .num u, coordinatorOf u, x .commits .committed u z, x .sees .before s t j (p .num u) (coordinatorOf u) h k (pair-at s j u (p .num u) (coordinatorOf u) l e refl refl))
+      let z : 0 < p .num u = rw e at (i .account .entry s j l .1) in (
+        p .num u,
+        coordinatorOf u,
+        x .commits .committed u z,
+        x .sees .before s t j (p .num u) (coordinatorOf u) h k (pair-at s j u (p .num u) (coordinatorOf u) l e refl refl),
+      )
 
   -- one used a key that the other wrote: their parts at its site are dependent
   dependent-at : (t u k : ℕ) → (Used b t k × Wrote b u k) ⊎ (Wrote b t k × Used b u k)
-      → (p .has (home sites k) t ≡ true) × (p .has (home sites k) u ≡ true) × (dependent (p .keys (home sites k) t) (p .keys (home sites k) u) ≡ true)
+      → (p .has (home sites k) t ≡ true) × (p .has (home sites k) u ≡ true)
+      × (dependent (p .keys (home sites k) t) (p .keys (home sites k) u) ≡ true)
   dependent-at t u k (inl (y, (v, z))) =
       let (h, a) = x .writes .used t k y in
       let (g, w) = x .writes .wrote u k v z in
@@ -100,10 +106,12 @@ module _ {sites : ℕ} {p : Protocol} {b : List Fact} (few : sites ≤ 8) (i : I
       let (nt, _, _) = x .commits .commit t n c y in
       let (ht, hu, e) = dependent-at t u k z in
       let has = x .begins .began in
-      let f = independent i s r t u nt d (saw-seen s t u (has s t bs) saw) (has r t br) (has r u cr) (λ v. missed (seen-saw r t u (has r t br) v)) (home sites k) ht hu in
+      let f = independent i s r t u nt d (saw-seen s t u (has s t bs) saw) (has r t br) (has r u cr)
+      (λ v. missed (seen-saw r t u (has r t br) v)) (home sites k) ht hu in
       set-not _ e f
 
-pub holds : {sites : ℕ} {w : World} {v : Stream} {b : List Fact} → 1 ≤ sites → sites ≤ 8 → Standing sites v → StreamIs sites w v → Booked sites b (v .protocol) → LastReplays b w
+pub holds : {sites : ℕ} {w : World} {v : Stream} {b : List Fact} → 1 ≤ sites → sites ≤ 8 → Standing sites v → StreamIs sites w v
+    → Booked sites b (v .protocol) → LastReplays b w
     → Holds (record { sites = sites }) b w
 holds some few z x y r =
     record {

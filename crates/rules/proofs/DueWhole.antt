@@ -31,7 +31,8 @@ emit-other : (g : Merger) (queues : List ℕ) (room : ℕ) → emitCode g queues
 unfolding emitCode
 emit-other g queues room e = other-code reason.notWhole (emitCauses g queues room) (λ z. omega arith) refl e
 
-due-other : (g : Merger) (heads : List RecordHead) (least : ℕ) → (isDue g heads least ≡ true → isWhole g heads (headIn heads least) ≡ true) → dueCode g heads least ≡ reason.notWhole → ⊥
+due-other : (g : Merger) (heads : List RecordHead) (least : ℕ) → (isDue g heads least ≡ true → isWhole g heads (headIn heads least) ≡ true)
+    → dueCode g heads least ≡ reason.notWhole → ⊥
 unfolding dueCode
 due-other g heads least f =
     by-test (isDue g heads least)
@@ -51,13 +52,23 @@ module _ {sites : ℕ} {w : World} {v : Stream} (x : StreamIs sites w v) (z : St
   module _ (k : ℕ) (l : LeastOf g heads (g .house .sites) k) (G : Entry) (r : List Entry) (q : m .queue (k + 1) ≡ G ∷ r) where
     whole-at : IsDue g heads k → (i : ℕ) → i < sites → WholeAt g heads (headIn heads k) i
     unfolding partHeadOf
-    whole-at d i b = go (m .queue (i + 1)) refl (due-whole (x .refines .few) (z .invariant) (z .streamed) (k + 1) G r (omega arith) q (i + 1) (omega arith) (due-at x z k l G r q d i b))
+    whole-at d i b =
+        go (m .queue (i + 1)) refl
+        (due-whole (x .refines .few) (z .invariant) (z .streamed) (k + 1) G r (omega arith) q (i + 1) (omega arith)
+        (due-at x z k l G r q d i b))
       where
         none : inMask (G .mask) (i + 1) ≡ false → hasPart g heads (headIn heads k) i ≡ false → WholeAt g heads (headIn heads k) i
-        none e h = record { there = mask-is x z k l G r q (i + 1) ∙ e ∙ sym h; tx = λ t. absurd (set-not _ t h); mask = λ t. absurd (set-not _ t h) }
+        none e h = record {
+          there = mask-is x z k l G r q (i + 1) ∙ e
+              ∙ sym h;
+          tx = λ t. absurd (set-not _ t h);
+          mask = λ t. absurd (set-not _ t h);
+        }
 
         go : (u : List Entry) → m .queue (i + 1) ≡ u → stream.WholeAt G (i + 1) u → WholeAt g heads (headIn heads k) i
-        go [] f e = none e (unset _ (λ t. let y = has-part g heads (headIn heads k) i t .queued in omega (arith, x .merger .source i b .queued, ap length f)))
+        go [] f e = none e
+            (unset _ (λ t. let y = has-part g heads (headIn heads k) i t .queued in
+            omega (arith, x .merger .source i b .queued, ap length f)))
         go (e ∷ u) f (inl (t, s)) =
             let h = head-is x z i b e u f in
             let y = due-is x z k l G r q in
@@ -73,7 +84,8 @@ module _ {sites : ℕ} {w : World} {v : Stream} (x : StreamIs sites w v) (z : St
       let b : k < sites = omega (arith, l .below, x .merger .house) in
       go k d l b (m .queue (k + 1)) refl
     where
-      go : (k : ℕ) → IsDue g heads k → LeastOf g heads (g .house .sites) k → k < sites → (u : List Entry) → m .queue (k + 1) ≡ u → isWhole g heads (headIn heads k) ≡ true
+      go : (k : ℕ) → IsDue g heads k → LeastOf g heads (g .house .sites) k → k < sites → (u : List Entry) → m .queue (k + 1) ≡ u
+          → isWhole g heads (headIn heads k) ≡ true
       go k d l b [] f = absurd (omega (arith, l .queued, x .merger .source k b .queued, ap length f))
       go k d l b (G ∷ r) f = parts-whole g heads (headIn heads k) (λ i h. whole-at k l G r f d i (rw (x .merger .house) at h))
 

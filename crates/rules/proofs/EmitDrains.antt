@@ -37,11 +37,13 @@ emit-code : (g : Merger) (queues : List ℕ) (room : ℕ) → sizes.merged ≤ r
 unfolding emitCode
 emit-code g queues room h o = rw (le-ltb room sizes.merged h, o)
 
-due-code : (g : Merger) (heads : List RecordHead) (k : ℕ) → isDue g heads k ≡ true → isWhole g heads (headIn heads k) ≡ true → dueCode g heads k ≡ 0
+due-code : (g : Merger) (heads : List RecordHead) (k : ℕ) → isDue g heads k ≡ true → isWhole g heads (headIn heads k) ≡ true
+    → dueCode g heads k ≡ 0
 unfolding dueCode
 due-code g heads k d e = rw (d, e)
 
-one-written : (g : Merger) (queues : List ℕ) (room : ℕ) → emitCode g queues room ≡ 0 → dueCode g (headsOf queues (g .house .sites)) (leastSite g queues) ≡ 0
+one-written : (g : Merger) (queues : List ℕ) (room : ℕ) → emitCode g queues room ≡ 0
+    → dueCode g (headsOf queues (g .house .sites)) (leastSite g queues) ≡ 0
     → length (recordIn (emitOf g room queues .words)) ≡ 1
 unfolding emitOf emitDue mergedWords recordWords
 one-written g queues room c d = rw (c, d)
@@ -64,7 +66,8 @@ module _ {sites : ℕ} {w : World} {v : Stream} (x : StreamIs sites w v) (z : St
 
   module _ (n : ℕ) (d : (s : ℕ) → 1 ≤ s → s ≤ sites → DrainedAt p m n s) where
     -- where the least head is up to n
-    least-due : LeastOf g heads (g .house .sites) k → (G : Entry) (r : List Entry) → m .queue (k + 1) ≡ G ∷ r → G .number ≤ n → isDue g heads k ≡ true
+    least-due : LeastOf g heads (g .house .sites) k → (G : Entry) (r : List Entry) → m .queue (k + 1) ≡ G ∷ r → G .number ≤ n
+        → isDue g heads k ≡ true
     unfolding partHeadOf
     least-due l G r q h =
         let c = x .merger .holds .clear in
@@ -91,7 +94,8 @@ module _ {sites : ℕ} {w : World} {v : Stream} (x : StreamIs sites w v) (z : St
               few = x .merger .holds .clear .few
 
               least : LeastOf g heads (g .house .sites) k
-              least = least-is g heads (g .house .sites) few (least-some g heads (g .house .sites) i few (inside x z i y) (some-queued x z i y e u f))
+              least = least-is g heads (g .house .sites) few
+                  (least-some g heads (g .house .sites) i few (inside x z i y) (some-queued x z i y e u f))
 
               some : (r : List Entry) → m .queue (k + 1) ≡ r → isDue g heads k ≡ true
               some [] j =
@@ -99,7 +103,8 @@ module _ {sites : ℕ} {w : World} {v : Stream} (x : StreamIs sites w v) (z : St
                   absurd (omega (arith, least .queued, x .merger .source k b .queued, ap length j))
               some (G ∷ r) j = least-due least G r j (omega (arith, least-rank x z k least G r j i y e u f))
 
-      pub emit-drains : (out : List ℕ) → sizes.merged ≤ length out → Out m t ⊎ (length (step w (world.emit out) .world .stream) ≡ length (w .stream) + 1)
+      pub emit-drains : (out : List ℕ) → sizes.merged ≤ length out
+          → Out m t ⊎ (length (step w (world.emit out) .world .stream) ≡ length (w .stream) + 1)
       unfolding step mergerStep
       emit-drains out room =
           let (b, c) = coordinator-site (z .invariant) t committed in
@@ -108,6 +113,7 @@ module _ {sites : ℕ} {w : World} {v : Stream} (x : StreamIs sites w v) (z : St
         where
           more : isDue g heads k ≡ true → length (w .stream ++ recordIn (emitOf g (length out) (w .queues) .words)) ≡ length (w .stream) + 1
           more e =
-              let y = one-written g (w .queues) (length out) (emit-code g (w .queues) (length out) room (clear-merger g (w .queues) (x .merger .holds .clear)))
+              let y = one-written g (w .queues) (length out)
+              (emit-code g (w .queues) (length out) room (clear-merger g (w .queues) (x .merger .holds .clear)))
               (due-code g heads k e (due-whole-at x z e)) in
               omega (arith, length-append (w .stream) (recordIn (emitOf g (length out) (w .queues) .words)))

@@ -24,10 +24,12 @@ pub whole-append : (es fs : List ℕ) → Whole es → Whole fs → Whole (es ++
 unfolding entryCount
 whole-append es fs x y = omega (arith, length-append es fs)
 
-word-left : (es fs : List ℕ) → Whole es → (j : ℕ) → j < entryCount es → (k : ℕ) → k < sizes.entry → getD (es ++ fs) (sizes.entry * j + k) 0 ≡ getD es (sizes.entry * j + k) 0
+word-left : (es fs : List ℕ) → Whole es → (j : ℕ) → j < entryCount es → (k : ℕ) → k < sizes.entry
+    → getD (es ++ fs) (sizes.entry * j + k) 0 ≡ getD es (sizes.entry * j + k) 0
 word-left es fs w j l k m = List·getD-append es fs 0 (sizes.entry * j + k) (omega arith)
 
-word-right : (es fs : List ℕ) → Whole es → (j k : ℕ) → getD (es ++ fs) (sizes.entry * (entryCount es + j) + k) 0 ≡ getD fs (sizes.entry * j + k) 0
+word-right : (es fs : List ℕ) → Whole es → (j k : ℕ)
+    → getD (es ++ fs) (sizes.entry * (entryCount es + j) + k) 0 ≡ getD fs (sizes.entry * j + k) 0
 word-right es fs w j k =
     let q : sizes.entry * (entryCount es + j) + k ≡ length es + (sizes.entry * j + k) = omega arith in
     rw q (getD-append-add es fs (sizes.entry * j + k) 0)

@@ -49,14 +49,16 @@ in-range (x ∷ l) (suc i) d e h = in-range l i d e (omega arith)
 pub next-ok : (sites : ℕ) (p : Protocol) (a b : ℕ) (m : Msg) → Next p a b m → Posts sites p → MsgOk sites p a b m
 next-ok sites p a b m n i = rw (n .is) at (all-at (i .ok a b) m (p .taken a b) (n .some))
 
-pub next-sites : (sites : ℕ) (p : Protocol) (a b : ℕ) (m : Msg) → Next p a b m → Posts sites p → ((1 ≤ a) × (a ≤ sites)) × ((1 ≤ b) × (b ≤ sites))
+pub next-sites : (sites : ℕ) (p : Protocol) (a b : ℕ) (m : Msg) → Next p a b m → Posts sites p
+    → ((1 ≤ a) × (a ≤ sites)) × ((1 ≤ b) × (b ≤ sites))
 next-sites sites p a b m n i = i .sender a b (omega (arith, n .some))
 
 -- the same of an invariant
 pub said : {sites : ℕ} {p : Protocol} {a b : ℕ} {m : Msg} → Invariant sites p → Next p a b m → MsgOk sites p a b m
 said {sites} {p} {a} {b} {m} i n = next-ok sites p a b m n (i .posts)
 
-pub ends : {sites : ℕ} {p : Protocol} {a b : ℕ} {m : Msg} → Invariant sites p → Next p a b m → ((1 ≤ a) × (a ≤ sites)) × ((1 ≤ b) × (b ≤ sites))
+pub ends : {sites : ℕ} {p : Protocol} {a b : ℕ} {m : Msg} → Invariant sites p → Next p a b m
+    → ((1 ≤ a) × (a ≤ sites)) × ((1 ≤ b) × (b ≤ sites))
 ends {sites} {p} {a} {b} {m} i n = next-sites sites p a b m n (i .posts)
 
 -- No part yet: of the next serial anywhere, of the next JOIN at its site.
@@ -68,7 +70,8 @@ pub tx-serial : (s n : ℕ) → n < sizes.serials → serialOf (txOf s n) ≡ n
 unfolding serialOf txOf
 tx-serial s n h = omega arith
 
-pub new-tx : (sites : ℕ) (p : Protocol) (s t : ℕ) → Parts sites p → p .serial s < sizes.lastSerial → t ≡ txOf s (p .serial s + 1) → (j : ℕ) → p .has j t ≡ true → ⊥
+pub new-tx : (sites : ℕ) (p : Protocol) (s t : ℕ) → Parts sites p → p .serial s < sizes.lastSerial → t ≡ txOf s (p .serial s + 1) → (j : ℕ)
+    → p .has j t ≡ true → ⊥
 new-tx sites p s t i l e j h =
     let q = i .serial j t h .1 in
     let c : coordinatorOf t ≡ s = rw e (tx-coordinator s (p .serial s + 1) (omega arith)) in
@@ -80,10 +83,12 @@ new-join sites p a s t i n h =
     let o = next-ok sites p a s (mJoin t) n i in
     go (i .join-taken s t h (λ q. o .2 (q ∙ o .0))) (o .0)
   where
-    go : (k : ℕ) × (k < p .taken (coordinatorOf t) s) × (getD (p .post (coordinatorOf t) s) k (mAbort 0) ≡ mJoin t) → coordinatorOf t ≡ a → ⊥
+    go : (k : ℕ) × (k < p .taken (coordinatorOf t) s) × (getD (p .post (coordinatorOf t) s) k (mAbort 0) ≡ mJoin t)
+        → coordinatorOf t ≡ a → ⊥
     go (k, l, e) c =
         let x : k < p .taken a s = rw c at l in
-        let z : getD (p .post a s) (p .taken a s) (mAbort 0) ≡ mJoin t = in-range (p .post a s) (p .taken a s) (mAbort 0) (mJoin t) (n .some) ∙ n .is in
+        let z : getD (p .post a s) (p .taken a s) (mAbort 0) ≡ mJoin t =
+        in-range (p .post a s) (p .taken a s) (mAbort 0) (mJoin t) (n .some) ∙ n .is in
         omega (arith, i .join-once a s t k (p .taken a s) (omega (arith, n .some)) (n .some) (rw c at e) z)
 
 -- where no part has begun, the account has nothing

@@ -10,7 +10,8 @@ use Rattle.kinds.specs.Stage as stage
 use Rattle.kinds.specs.declared.Course.{Course}
 use Rattle.rules.specs.House.{coordinatorOf, inMask}
 use Rattle.rules.specs.Course.{isOutstanding}
-use Rattle.rules.proofs.Protocol.{Protocol, Msg, mJoin, mJoined, mPrepare, mConc, mCert, mVote, mCommit, mAbort, Next, AtStage, courseAt, took}
+use Rattle.rules.proofs.Protocol.{Protocol, Msg, mJoin, mJoined, mPrepare, mConc, mCert, mVote, mCommit, mAbort, Next, AtStage}
+use Rattle.rules.proofs.Protocol.{courseAt, took}
 use Rattle.rules.proofs.Invariants.{Held, Invariant}
 use Rattle.rules.proofs.Frames.{said, ends, new-join}
 use Rattle.rules.proofs.Refines.{txIn}
@@ -45,11 +46,15 @@ module _ {sites : ℕ} {p : Protocol} (i : Invariant sites p) (f : Phases p) (a 
   first m n = taken-first (p .post) (p .taken) (txIn m) a s m (n .some) (n .is) refl
 
   ahead : (m : Msg) → Next p a s m → coordinatorOf (txIn m) ≡ a → (s ≡ a → ⊥)
-      → (let t = txIn m in Phase t s (courseAt p a t) (p .num t) (p .dead t) (p .has s t) (courseAt p s t .stage) (m ∷ pending (p .post) (took p a s .taken) t a s) (pending (p .post) (p .taken) t s a))
+      → (let t = txIn m in
+      Phase t s (courseAt p a t) (p .num t) (p .dead t) (p .has s t) (courseAt p s t .stage)
+      (m ∷ pending (p .post) (took p a s .taken) t a s) (pending (p .post) (p .taken) t s a))
   ahead m n c o = along refl refl refl refl refl (sym (first m n)) refl (rw c at (f (txIn m) s (ends i n .1 .0) (λ z. o (z ∙ c))))
 
   back : (m : Msg) → Next p a s m → coordinatorOf (txIn m) ≡ s → (a ≡ s → ⊥)
-      → (let t = txIn m in Phase t a (courseAt p s t) (p .num t) (p .dead t) (p .has a t) (courseAt p a t .stage) (pending (p .post) (p .taken) t s a) (m ∷ pending (p .post) (took p a s .taken) t a s))
+      → (let t = txIn m in
+      Phase t a (courseAt p s t) (p .num t) (p .dead t) (p .has a t) (courseAt p a t .stage) (pending (p .post) (p .taken) t s a)
+      (m ∷ pending (p .post) (took p a s .taken) t a s))
   back m n c o = along refl refl refl refl refl refl (sym (first m n)) (rw c at (f (txIn m) a (ends i n .0 .0) (λ z. o (z ∙ c))))
 
   -- a held transaction is not aborted at its coordinator
@@ -57,9 +62,11 @@ module _ {sites : ℕ} {p : Protocol} (i : Invariant sites p) (f : Phases p) (a 
   alive t c h d = h (rw c at (i .account .dead t d .1))
 
   pub join-turn : (t : ℕ) → Next p a s (mJoin t) → AtStage p s t stage.free
-  join-turn t n = by-same (courseAt p s t .stage) stage.free (λ e. e) (λ h. absurd (new-join sites p a s t (i .posts) n (i .parts .has s t h)))
+  join-turn t n =
+      by-same (courseAt p s t .stage) stage.free (λ e. e) (λ h. absurd (new-join sites p a s t (i .posts) n (i .parts .has s t h)))
 
-  pub joined-turn : (t v : ℕ) → Next p a s (mJoined t v) → Held p s t → AtStage p s t stage.active × (isOutstanding (courseAt p s t) a ≡ true)
+  pub joined-turn : (t v : ℕ) → Next p a s (mJoined t v) → Held p s t
+      → AtStage p s t stage.active × (isOutstanding (courseAt p s t) a ≡ true)
   joined-turn t v n h =
       let o = said i n in
       let (w, k) = waits-back (mJoined t v) (alive t (o .0) h) (back (mJoined t v) n (o .0) (o .1)) in
@@ -68,7 +75,8 @@ module _ {sites : ℕ} {p : Protocol} (i : Invariant sites p) (f : Phases p) (a 
   pub prepare-turn : (t k m : ℕ) → Next p a s (mPrepare t k m) → AtStage p s t stage.active
   prepare-turn t k m n = let o = said i n in prepare-held k m (ahead (mPrepare t k m) n (o .0) (o .4))
 
-  pub conc-turn : (t : ℕ) (es : List ℕ) → Next p a s (mConc t es) → Held p s t → AtStage p s t stage.prepared × (isOutstanding (courseAt p s t) a ≡ true)
+  pub conc-turn : (t : ℕ) (es : List ℕ) → Next p a s (mConc t es) → Held p s t
+      → AtStage p s t stage.prepared × (isOutstanding (courseAt p s t) a ≡ true)
   conc-turn t es n h =
       let o = said i n in
       let (w, k) = waits-back (mConc t es) (alive t (o .0) h) (back (mConc t es) n (o .0) (o .1)) in
@@ -84,7 +92,8 @@ module _ {sites : ℕ} {p : Protocol} (i : Invariant sites p) (f : Phases p) (a 
       let (w, g) = waits-back (mVote t k v) (alive t (o .0) h) (back (mVote t k v) n (o .0) (o .1)) in
       (stages g, waits-outstanding (courseAt p s t) a w)
     where
-      stages : RepliedAt (courseAt p s t .stage) (p .has a t) (courseAt p a t .stage) (mVote t k v) → AtStage p s t stage.queued ⊎ (AtStage p s t stage.prepared × (v ≡ 0 → ⊥))
+      stages : RepliedAt (courseAt p s t .stage) (p .has a t) (courseAt p a t .stage) (mVote t k v)
+          → AtStage p s t stage.queued ⊎ (AtStage p s t stage.prepared × (v ≡ 0 → ⊥))
       stages (inl z) = inl (z .0)
       stages (inr z) = inr z
 

@@ -14,7 +14,8 @@ use Rattle.rules.specs.House.{coordinatorOf, serialOf, inMask}
 use Rattle.rules.specs.Message.{entryTx, entryMask, entryMark, entryCount}
 use Rattle.rules.specs.Keys.{wroteKey, dependent}
 use Rattle.rules.proofs.Tables.{All}
-use Rattle.rules.proofs.Protocol.{Protocol, Msg, mJoin, mJoined, mPrepare, mConc, mCert, mVote, mCommit, mAbort, Rec, rPart, rState, inst, AtStage, courseAt, Whole, Within, Listed}
+use Rattle.rules.proofs.Protocol.{Protocol, Msg, mJoin, mJoined, mPrepare, mConc, mCert, mVote, mCommit, mAbort, Rec, rPart, rState}
+use Rattle.rules.proofs.Protocol.{inst, AtStage, courseAt, Whole, Within, Listed}
 
 -- t's part is held at s: neither installed nor aborted there
 abbrev pub Held : Protocol → ℕ → ℕ → Type 0
@@ -55,11 +56,14 @@ pub record Parts (sites : ℕ) (p : Protocol) : Type 0 where
 
 -- Posts: where messages come from.
 abbrev pub MsgOk : ℕ → Protocol → ℕ → ℕ → Msg → Type 0
-MsgOk sites p a b (mJoin t) = (coordinatorOf t ≡ a) × (p .has a t ≡ true) × (b ≡ a → ⊥) × ((1 ≤ b) × (b ≤ sites)) × (Held p a t → inMask (courseAt p a t .mask) b ≡ true) × (p .asked t ≡ true → inMask (p .mask t) b ≡ true)
+MsgOk sites p a b (mJoin t) = (coordinatorOf t ≡ a) × (p .has a t ≡ true) × (b ≡ a → ⊥) × ((1 ≤ b) × (b ≤ sites))
+    × (Held p a t → inMask (courseAt p a t .mask) b ≡ true) × (p .asked t ≡ true → inMask (p .mask t) b ≡ true)
 MsgOk sites p a b (mJoined t r) = (coordinatorOf t ≡ b) × (a ≡ b → ⊥) × (r ≡ 0 → p .has a t ≡ true)
-MsgOk sites p a b (mPrepare t n m) = (coordinatorOf t ≡ a) × (p .asked t ≡ true) × (m ≡ p .mask t) × (inMask (p .mask t) b ≡ true) × (b ≡ a → ⊥)
+MsgOk sites p a b (mPrepare t n m) = (coordinatorOf t ≡ a) × (p .asked t ≡ true) × (m ≡ p .mask t) × (inMask (p .mask t) b ≡ true)
+    × (b ≡ a → ⊥)
 MsgOk sites p a b (mConc t es) = (coordinatorOf t ≡ b) × (a ≡ b → ⊥) × (p .made a t ≡ true) × (p .list a t ≡ es)
-MsgOk sites p a b (mCert t es) = (coordinatorOf t ≡ a) × (p .certed t ≡ true) × (p .cert t ≡ es) × (inMask (p .mask t) b ≡ true) × (b ≡ a → ⊥)
+MsgOk sites p a b (mCert t es) = (coordinatorOf t ≡ a) × (p .certed t ≡ true) × (p .cert t ≡ es) × (inMask (p .mask t) b ≡ true)
+    × (b ≡ a → ⊥)
 MsgOk sites p a b (mVote t n r) = (coordinatorOf t ≡ b) × (a ≡ b → ⊥) × (r ≡ 0 → (p .yes a t ≡ true) × (p .mark a t ≡ n))
 MsgOk sites p a b (mCommit t n) = (coordinatorOf t ≡ a) × (p .num t ≡ n) × (0 < n)
 MsgOk sites p a b (mAbort t) = (coordinatorOf t ≡ a) × (p .dead t ≡ true)
@@ -76,7 +80,8 @@ pub record Posts (sites : ℕ) (p : Protocol) : Type 0 where
 
 -- Rounds: what the coordinator has heard.
 pub record Rounds (p : Protocol) : Type 0 where
-  pub small : (t : ℕ) → Held p (coordinatorOf t) t → (courseAt p (coordinatorOf t) t .mask < 2 ^ sizes.sites) × (courseAt p (coordinatorOf t) t .heard < 2 ^ sizes.sites)
+  pub small : (t : ℕ) → Held p (coordinatorOf t) t
+      → (courseAt p (coordinatorOf t) t .mask < 2 ^ sizes.sites) × (courseAt p (coordinatorOf t) t .heard < 2 ^ sizes.sites)
   pub own : (t : ℕ) → Held p (coordinatorOf t) t → inMask (courseAt p (coordinatorOf t) t .mask) (coordinatorOf t) ≡ true
   pub heard : (t r : ℕ) → Held p (coordinatorOf t) t → In (courseAt p (coordinatorOf t) t .heard) r
       → (inMask (courseAt p (coordinatorOf t) t .mask) r ≡ true) × (r ≡ coordinatorOf t → ⊥)
@@ -122,7 +127,8 @@ pub record Account (p : Protocol) : Type 0 where
   pub dead : (t : ℕ) → p .dead t ≡ true → (p .num t ≡ 0) × AtStage p (coordinatorOf t) t stage.free × (p .has (coordinatorOf t) t ≡ true)
   pub snap : (s t : ℕ) → 0 < p .snap s t → p .has s t ≡ true
   pub entry : (s i : ℕ) → i < length (inst p s)
-      → (at p s i .number ≡ p .num (at p s i .tx)) × (0 < p .num (at p s i .tx)) × (at p s i .mask ≡ p .mask (at p s i .tx)) × (p .yes s (at p s i .tx) ≡ true)
+      → (at p s i .number ≡ p .num (at p s i .tx)) × (0 < p .num (at p s i .tx)) × (at p s i .mask ≡ p .mask (at p s i .tx))
+      × (p .yes s (at p s i .tx) ≡ true)
 
 -- Clocks: numbers and the clock.
 abbrev pub RecLow : ℕ → Rec → Type 0

@@ -31,7 +31,12 @@ pub read-sized : (b : Keys) (k : ℕ) → Sized b → Sized (withRead b k)
 unfolding withRead
 read-sized b k z =
     by-test (readKey b k) (λ e. rw e z)
-    (λ e. rw e (record { reads-size = length-set (b .reads) (b .read) k ∙ z .reads-size; writes-size = z .writes-size; values-size = z .values-size }))
+    (λ e. rw e (record {
+      reads-size = length-set (b .reads) (b .read) k
+          ∙ z .reads-size;
+      writes-size = z .writes-size;
+      values-size = z .values-size;
+    }))
 
 -- Its key enters the set, beside the others.
 pub read-kept : (b : Keys) (k j : ℕ) → readKey b j ≡ true → readKey (withRead b k) j ≡ true
@@ -47,7 +52,8 @@ unfolding withRead
 read-new b k z room =
     by-test (readKey b k)
     (λ e. rw e e)
-    (λ e. let h = room e in rw e (among-read _ k (b .read, omega arith, getD-set-same (b .reads) (b .read) k 0 (omega (arith, z .reads-size)))))
+    (λ e. let h = room e in
+    rw e (among-read _ k (b .read, omega arith, getD-set-same (b .reads) (b .read) k 0 (omega (arith, z .reads-size)))))
 
 -- A write leaves the keys read.
 pub write-reads : (b : Keys) (k : ℕ) (v : Value) (j : ℕ) → readKey (withWrite b k v) j ≡ readKey b j
@@ -58,7 +64,12 @@ pub write-sized : (b : Keys) (k : ℕ) (v : Value) → Sized b → Sized (withWr
 unfolding withWrite
 write-sized b k v z =
     by-test (wroteKey b k)
-    (λ e. rw e (record { reads-size = z .reads-size; writes-size = z .writes-size; values-size = length-set (b .values) _ v ∙ z .values-size }))
+    (λ e. rw e (record {
+      reads-size = z .reads-size;
+      writes-size = z .writes-size;
+      values-size = length-set (b .values) _ v
+          ∙ z .values-size;
+    }))
     (λ e. rw e
     (record {
       reads-size = z .reads-size;
@@ -84,7 +95,13 @@ place-is keys n k h = eqb-true _ _ (at-first (λ i. eqb (getD keys i 0) k) n h)
 -- Over an own write.
 module _ (b : Keys) (k : ℕ) (v : Value) (e : wroteKey b k ≡ true) where
   abbrev over : Keys
-  over = record { read = b .read; wrote = b .wrote; reads = b .reads; writes = b .writes; values = set (b .values) (keyPlace (b .writes) (b .wrote) k) v }
+  over = record {
+    read = b .read;
+    wrote = b .wrote;
+    reads = b .reads;
+    writes = b .writes;
+    values = set (b .values) (keyPlace (b .writes) (b .wrote) k) v;
+  }
 
   over-wrote : (j : ℕ) → wroteKey over j ≡ wroteKey b j
   unfolding wroteKey
@@ -102,7 +119,8 @@ module _ (b : Keys) (k : ℕ) (v : Value) (e : wroteKey b k ≡ true) where
   unfolding wroteValue
   over-other j n t =
       getD-set-other (b .values) (keyPlace (b .writes) (b .wrote) k) (keyPlace (b .writes) (b .wrote) j) v fresh
-      (λ q. n (sym (place-is (b .writes) (b .wrote) j (place-low b j t)) ∙ ap (λ (i : ℕ). getD (b .writes) i 0) q ∙ place-is (b .writes) (b .wrote) k (place-low b k e)))
+      (λ q. n (sym (place-is (b .writes) (b .wrote) j (place-low b j t)) ∙ ap (λ (i : ℕ). getD (b .writes) i 0) q
+      ∙ place-is (b .writes) (b .wrote) k (place-low b k e)))
 
   pub again-sets : Sized b → b .wrote ≤ sizes.writes → Sets b (withWrite b k v) k v
   unfolding withWrite
@@ -129,10 +147,17 @@ module _ (b : Keys) (k : ℕ) (v : Value) (z : Sized b) (room : b .wrote < sizes
       by-order i (b .wrote)
       (λ y. inl (among-wrote b j (i, y, sym (getD-set-other (b .writes) (b .wrote) i k 0 (λ z. omega arith)) ∙ q)))
       (λ y. let o : i ≡ b .wrote = omega arith in
-      inr (sym q ∙ ap (λ (n : ℕ). getD (set (b .writes) (b .wrote) k) n 0) o ∙ getD-set-same (b .writes) (b .wrote) k 0 (omega (arith, z .writes-size))))
+      inr (sym q ∙ ap (λ (n : ℕ). getD (set (b .writes) (b .wrote) k) n 0) o
+      ∙ getD-set-same (b .writes) (b .wrote) k 0 (omega (arith, z .writes-size))))
 
   abbrev behind : Keys
-  behind = record { read = b .read; wrote = b .wrote + 1; reads = b .reads; writes = set (b .writes) (b .wrote) k; values = set (b .values) (b .wrote) v }
+  behind = record {
+    read = b .read;
+    wrote = b .wrote + 1;
+    reads = b .reads;
+    writes = set (b .writes) (b .wrote) k;
+    values = set (b .values) (b .wrote) v;
+  }
 
   behind-is : withWrite b k v ≡ behind
   unfolding withWrite
@@ -144,7 +169,8 @@ module _ (b : Keys) (k : ℕ) (v : Value) (z : Sized b) (room : b .wrote < sizes
   last-place =
       sym
       (first-below (λ i. eqb (getD (behind .writes) i 0) k) (behind .wrote) (b .wrote) (omega arith)
-      (λ i l. ne-eqb _ k (λ q. set-not _ (among-wrote b k (i, l, sym (getD-set-other (b .writes) (b .wrote) i k 0 (λ y. omega arith)) ∙ q)) e))
+      (λ i l. ne-eqb _ k
+      (λ q. set-not _ (among-wrote b k (i, l, sym (getD-set-other (b .writes) (b .wrote) i k 0 (λ y. omega arith)) ∙ q)) e))
       (eq-eqb _ k (getD-set-same (b .writes) (b .wrote) k 0 (omega (arith, z .writes-size)))))
 
   old-place : (j : ℕ) → wroteKey b j ≡ true → keyPlace (behind .writes) (behind .wrote) j ≡ keyPlace (b .writes) (b .wrote) j
@@ -152,7 +178,8 @@ module _ (b : Keys) (k : ℕ) (v : Value) (z : Sized b) (room : b .wrote < sizes
   old-place j t =
       let test : ℕ → Bool = λ i. eqb (getD (b .writes) i 0) j in
       let h : firstBelow test (b .wrote) < b .wrote = place-low b j t in
-      let same : (i : ℕ) → i < b .wrote → getD (behind .writes) i 0 ≡ getD (b .writes) i 0 = λ i l. getD-set-other (b .writes) (b .wrote) i k 0 (λ y. omega arith) in
+      let same : (i : ℕ) → i < b .wrote
+      → getD (behind .writes) i 0 ≡ getD (b .writes) i 0 = λ i l. getD-set-other (b .writes) (b .wrote) i k 0 (λ y. omega arith) in
       sym
       (first-below (λ i. eqb (getD (behind .writes) i 0) j) (behind .wrote) (firstBelow test (b .wrote)) (omega arith)
       (λ i l. rw (same i (omega arith)) (before-first test (b .wrote) i l))
@@ -164,10 +191,13 @@ module _ (b : Keys) (k : ℕ) (v : Value) (z : Sized b) (room : b .wrote < sizes
 
   behind-other : (j : ℕ) → wroteKey b j ≡ true → wroteValue behind j ≡ wroteValue b j
   unfolding wroteValue
-  behind-other j t = rw (old-place j t) (getD-set-other (b .values) (b .wrote) (keyPlace (b .writes) (b .wrote) j) v fresh (λ q. omega (arith, place-low b j t)))
+  behind-other j t =
+      rw (old-place j t)
+      (getD-set-other (b .values) (b .wrote) (keyPlace (b .writes) (b .wrote) j) v fresh (λ q. omega (arith, place-low b j t)))
 
   first-wrote : wroteKey (withWrite b k v) k ≡ true
-  first-wrote = rw behind-is (among-wrote behind k (b .wrote, omega arith, getD-set-same (b .writes) (b .wrote) k 0 (omega (arith, z .writes-size))))
+  first-wrote =
+      rw behind-is (among-wrote behind k (b .wrote, omega arith, getD-set-same (b .writes) (b .wrote) k 0 (omega (arith, z .writes-size))))
 
   first-other : (j : ℕ) → (j ≡ k → ⊥) → wroteKey (withWrite b k v) j ≡ wroteKey b j
   first-other j n =

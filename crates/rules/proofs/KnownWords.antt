@@ -27,7 +27,8 @@ use Rattle.rules.specs.Course.{quietly, channelSpent}
 use Rattle.rules.specs.Begin.{beginCode, begun, beginOf}
 use Rattle.rules.specs.Access.{accessCode, readCode, readVersion, readAt, readOf, writeCodeAt, written, writeAt, writeOf}
 use Rattle.rules.specs.Enlist.{enlistCode, joinerCode, enlistAt, enlistOf, isMine}
-use Rattle.rules.specs.Commit.{requestCode, commitCode, abandonCode, isFull, isLost, requestChange, commitChange, commitLists, commitOf, abandonOf}
+use Rattle.rules.specs.Commit.{requestCode, commitCode, abandonCode, isFull, isLost, requestChange, commitChange, commitLists}
+use Rattle.rules.specs.Commit.{commitOf, abandonOf}
 use Rattle.rules.proofs.RefineStep.{by-code}
 use Rattle.rules.proofs.RefineMail.{Made, none}
 use Rattle.rules.proofs.Spoken.{Known, Speaks, enlist-speaks, abort-speaks, prepare-speaks, cast-speaks}
@@ -53,7 +54,10 @@ nothing s lent e z f = record { known = rw z none; leaves = accepted-leaves s le
 -- a refusal writes nothing
 or-refused : (code : ℕ) (s : Site) (lent : List ℕ) (e : Effect) → Writes s lent e → Writes s lent (unless code s lent e)
 or-refused code s lent e x =
-    record { known = by-code (λ e. Made Known (e .words)) code s lent e (λ z. x .known) none; leaves = refusal-leaves code s lent e (x .leaves) }
+    record {
+      known = by-code (λ e. Made Known (e .words)) code s lent e (λ z. x .known) none;
+      leaves = refusal-leaves code s lent e (x .leaves);
+    }
 
 change-writes : (s : Site) (place : ℕ) (c : Change) (given lent : List ℕ) → Speaks c → Writes s lent (changed s place c given)
 change-writes s place c given lent x = record { known = x .known; leaves = accepted-leaves s lent (changed s place c given) (x .accepts) }
@@ -68,13 +72,15 @@ read-at s base place key =
     let b = subAt s place in
     by-test (wroteKey (b .keys) key)
     (λ e. rw e (nothing s [] _ refl refl))
-    (λ e. rw e (or-refused (readCode (isForgotten (s .counters .installs) (b .snapshot)) (readKey (b .keys) key) (b .keys .read)) s [] _ (nothing s [] _ refl refl)))
+    (λ e. rw e (or-refused (readCode (isForgotten (s .counters .installs) (b .snapshot)) (readKey (b .keys) key) (b .keys .read)) s [] _
+    (nothing s [] _ refl refl)))
 
 pub read-writes : (s : Site) (base : List Value) (tx key : ℕ) → Writes s [] (readOf s base tx key)
 unfolding readOf
 read-writes s base tx key =
     let place = placeOf (s .live) tx in
-    or-refused (accessCode (siteOk s) (length base) (s .house) (s .counters .own) key place (stageAt (s .live) place)) s [] _ (read-at s base place key)
+    or-refused (accessCode (siteOk s) (length base) (s .house) (s .counters .own) key place (stageAt (s .live) place)) s [] _
+    (read-at s base place key)
 
 write-at : (s : Site) (place key : ℕ) (v : Value) → Writes s [] (writeAt s place key v)
 unfolding writeAt written quietly
@@ -87,7 +93,8 @@ pub write-writes : (s : Site) (tx key : ℕ) (v : Value) → Writes s [] (writeO
 unfolding writeOf
 write-writes s tx key v =
     let place = placeOf (s .live) tx in
-    or-refused (accessCode (siteOk s) sizes.keys (s .house) (s .counters .own) key place (stageAt (s .live) place)) s [] _ (write-at s place key v)
+    or-refused (accessCode (siteOk s) sizes.keys (s .house) (s .counters .own) key place (stageAt (s .live) place)) s [] _
+    (write-at s place key v)
 
 pub enlist-writes : (s : Site) (room tx site : ℕ) → Writes s [] (enlistOf s room tx site)
 unfolding enlistOf enlistAt
@@ -130,5 +137,6 @@ commit-writes s room lists tx =
     let place = placeOf (s .live) tx in
     let c = subAt s place .course in
     or-refused (requestCode (handedOk s lists) room place (isMine s tx)) s lists _
-    (or-refused (commitCode (c .stage) (allHeard (s .counters .own) (c .heard) (c .mask)) (countsLow (s .channels .sent) (c .mask) (s .counters .own))) s lists _
+    (or-refused (commitCode (c .stage) (allHeard (s .counters .own) (c .heard) (c .mask))
+    (countsLow (s .channels .sent) (c .mask) (s .counters .own))) s lists _
     (change-writes s place _ (commitLists s lists place) lists (commit-speaks s place)))

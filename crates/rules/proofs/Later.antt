@@ -13,13 +13,16 @@ use Rattle.kinds.specs.declared.Sub.{Sub}
 use Rattle.rules.specs.House.{coordinatorOf}
 use Rattle.rules.specs.World.{upd}
 use Rattle.rules.proofs.Tables.{upd₂, upd-cases, upd₂-same, upd-both, upd₂-both}
-use Rattle.rules.proofs.Protocol.{Protocol, Msg, mJoin, Rec, Next, AtStage, courseAt, Move, begin, enlist, access, request, abort, cast, decide, install, report, joins, full, joined, prepared, lost, unknown, gathers, certified, rejects, votes, commits, aborts, passes}
+use Rattle.rules.proofs.Protocol.{Protocol, Msg, mJoin, Rec, Next, AtStage, courseAt, Move, begin, enlist, access, request, abort}
+use Rattle.rules.proofs.Protocol.{cast, decide, install, report, joins, full, joined, prepared, lost, unknown, gathers, certified}
+use Rattle.rules.proofs.Protocol.{rejects, votes, commits, aborts, passes}
 use Rattle.rules.proofs.Invariants.{Invariant}
 use Rattle.rules.proofs.Frames.{kept₁, kept₂, was₂, said, tx-coordinator}
 
 -- t's part at s began in the move: at its coordinator, or by its JOIN, taken now
 abbrev pub Begins : Protocol → Protocol → ℕ → ℕ → Type 0
-Begins p q s t = (coordinatorOf t ≡ s) ⊎ (Next p (coordinatorOf t) s (mJoin t) × (p .taken (coordinatorOf t) s < q .taken (coordinatorOf t) s))
+Begins p q s t = (coordinatorOf t ≡ s)
+    ⊎ (Next p (coordinatorOf t) s (mJoin t) × (p .taken (coordinatorOf t) s < q .taken (coordinatorOf t) s))
 
 -- t's commit was asked for in the move
 abbrev pub Asks : Protocol → Protocol → ℕ → Type 0
@@ -38,19 +41,23 @@ pub record Later (p q : Protocol) : Type 0 where
   pub asks : (t : ℕ) → q .asked t ≡ true → (p .asked t ≡ true) ⊎ Asks p q t
 
 -- a flag with what it keeps, set where it was not
-pub kept-both₁ : {A : Type 0} (f : ℕ → Bool) (g : ℕ → A) (t : ℕ) (a : A) → f t ≡ false → (u : ℕ) → f u ≡ true → (upd f t true u ≡ true) × (upd g t a u ≡ g u)
-kept-both₁ f g t a n = upd-both (λ u b x. f u ≡ true → (b ≡ true) × (x ≡ g u)) f g t true a (λ e. absurd (set-not _ e n)) (λ u z e. (e, refl))
+pub kept-both₁ : {A : Type 0} (f : ℕ → Bool) (g : ℕ → A) (t : ℕ) (a : A) → f t ≡ false → (u : ℕ) → f u ≡ true
+    → (upd f t true u ≡ true) × (upd g t a u ≡ g u)
+kept-both₁ f g t a n =
+    upd-both (λ u b x. f u ≡ true → (b ≡ true) × (x ≡ g u)) f g t true a (λ e. absurd (set-not _ e n)) (λ u z e. (e, refl))
 
 pub kept-both₂ : {A : Type 0} (f : ℕ → ℕ → Bool) (g : ℕ → ℕ → A) (s t : ℕ) (a : A) → f s t ≡ false
     → (j u : ℕ) → f j u ≡ true → (upd₂ f s t true j u ≡ true) × (upd₂ g s t a j u ≡ g j u)
-kept-both₂ f g s t a n = upd₂-both (λ j u b x. f j u ≡ true → (b ≡ true) × (x ≡ g j u)) f g s t true a (λ e. absurd (set-not _ e n)) (λ j u z e. (e, refl))
+kept-both₂ f g s t a n =
+    upd₂-both (λ j u b x. f j u ≡ true → (b ≡ true) × (x ≡ g j u)) f g s t true a (λ e. absurd (set-not _ e n)) (λ j u z e. (e, refl))
 
 -- the clock raised
 pub raises : (f : ℕ → ℕ) (s n : ℕ) → f s ≤ n → (j : ℕ) → f j ≤ upd f s n j
 raises f s n h = upd-cases (λ j x. f j ≤ x) f s n h (λ j z. omega arith)
 
 -- all but the account: the clock, the sites' tables, and the parts begun
-abbrev rest : Protocol → (clock serial : ℕ → ℕ) (live : ℕ → ℕ → Sub) (gathered : ℕ → List ℕ) (post : ℕ → ℕ → List Msg) (taken : ℕ → ℕ → ℕ) (log : ℕ → List Rec)
+abbrev rest : Protocol
+    → (clock serial : ℕ → ℕ) (live : ℕ → ℕ → Sub) (gathered : ℕ → List ℕ) (post : ℕ → ℕ → List Msg) (taken : ℕ → ℕ → ℕ) (log : ℕ → List Rec)
     (has : ℕ → ℕ → Bool) (snap : ℕ → ℕ → ℕ) (keys : ℕ → ℕ → Keys) → Protocol
 rest p clock serial live gathered post taken log has snap keys =
     record {
@@ -76,7 +83,8 @@ rest p clock serial live gathered post taken log has snap keys =
       dead = p .dead;
     }
 
-module _ {p : Protocol} {clock serial : ℕ → ℕ} {live : ℕ → ℕ → Sub} {gathered : ℕ → List ℕ} {post : ℕ → ℕ → List Msg} {taken : ℕ → ℕ → ℕ} {log : ℕ → List Rec}
+module _ {p : Protocol} {clock serial : ℕ → ℕ} {live : ℕ → ℕ → Sub} {gathered : ℕ → List ℕ} {post : ℕ → ℕ → List Msg} {taken : ℕ → ℕ → ℕ}
+    {log : ℕ → List Rec}
     {snap : ℕ → ℕ → ℕ} {keys : ℕ → ℕ → Keys} (c : (s : ℕ) → p .clock s ≤ clock s) where
   -- a move that leaves the account as it is
   quiet : Later p (rest p clock serial live gathered post taken log (p .has) snap keys)
@@ -95,7 +103,8 @@ module _ {p : Protocol} {clock serial : ℕ → ℕ} {live : ℕ → ℕ → Sub
       }
 
   -- or has one part more
-  begun : (s t : ℕ) → (coordinatorOf t ≡ s) ⊎ (Next p (coordinatorOf t) s (mJoin t) × (p .taken (coordinatorOf t) s < taken (coordinatorOf t) s))
+  begun : (s t : ℕ)
+      → (coordinatorOf t ≡ s) ⊎ (Next p (coordinatorOf t) s (mJoin t) × (p .taken (coordinatorOf t) s < taken (coordinatorOf t) s))
       → Later p (rest p clock serial live gathered post taken log (upd₂ (p .has) s t true) snap keys)
   begun s t o =
       record {
@@ -112,7 +121,9 @@ module _ {p : Protocol} {clock serial : ℕ → ℕ} {live : ℕ → ℕ → Sub
       }
     where
       go : (j u : ℕ) → ((j ≡ s) × (u ≡ t)) ⊎ (p .has j u ≡ true)
-          → (p .has j u ≡ true) ⊎ ((coordinatorOf u ≡ j) ⊎ (Next p (coordinatorOf u) j (mJoin u) × (p .taken (coordinatorOf u) j < taken (coordinatorOf u) j)))
+          → (p .has j u ≡ true)
+          ⊎ ((coordinatorOf u ≡ j)
+          ⊎ (Next p (coordinatorOf u) j (mJoin u) × (p .taken (coordinatorOf u) j < taken (coordinatorOf u) j)))
       go j u (inl (x, y)) = rw (x, y) (inr o)
       go j u (inr h) = inl h
 
@@ -133,7 +144,11 @@ module _ (sites : ℕ) (p : Protocol) (i : Invariant sites p) where
         num = λ u e. refl;
         dead = λ u e. e;
         begins = λ j u e. inl e;
-        asks = upd-both (λ u b m. b ≡ true → (p .asked u ≡ true) ⊎ (AtStage p (coordinatorOf u) u stage.active × (m ≡ courseAt p (coordinatorOf u) u .mask))) (p .asked) (p .mask) t true _ (λ e. inr (x, rw c)) (λ u n e. inl e);
+        asks = upd-both
+            (λ u b m. b ≡ true
+            → (p .asked u ≡ true)
+            ⊎ (AtStage p (coordinatorOf u) u stage.active × (m ≡ courseAt p (coordinatorOf u) u .mask))) (p .asked) (p .mask) t true _
+            (λ e. inr (x, rw c)) (λ u n e. inl e);
       }
   later q (abort s t c a d) =
       record {

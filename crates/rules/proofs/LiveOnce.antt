@@ -35,14 +35,16 @@ abbrev pub LiveOnce : List Sub → Type 0
 LiveOnce live = (i : ℕ) → i < sizes.live → (IsFree (partAt live i) → ⊥) → EachOnce (partAt live i .keys)
 
 -- The tables against the protocol's.
-pub live-once : {sites : ℕ} {w : World} {p : Protocol} → Refines sites w p → Invariant sites p → WritesOnce p → (s : ℕ) → 1 ≤ s → s ≤ sites → LiveOnce (w .site s .live)
+pub live-once : {sites : ℕ} {w : World} {p : Protocol} → Refines sites w p → Invariant sites p → WritesOnce p → (s : ℕ) → 1 ≤ s → s ≤ sites
+    → LiveOnce (w .site s .live)
 live-once {w = w} {p = p} r i o s l h j m f =
     let q = r .site s l h .live .holds j m f in
     let t = partAt (w .site s .live) j .tx in
     let g : Held p s t = rw q at f in
     rw (q, i .parts .keys s t g) (o .held s t g)
 
-pub once-held : {sites : ℕ} {w : World} {p : Protocol} → Refines sites w p → Invariant sites p → ((s : ℕ) → 1 ≤ s → s ≤ sites → LiveOnce (w .site s .live))
+pub once-held : {sites : ℕ} {w : World} {p : Protocol} → Refines sites w p → Invariant sites p
+    → ((s : ℕ) → 1 ≤ s → s ≤ sites → LiveOnce (w .site s .live))
     → (s t : ℕ) → Held p s t → EachOnce (p .keys s t)
 once-held r i o s t g =
     let (l, h) = i .parts .site s t (i .parts .has s t g) in
@@ -68,7 +70,8 @@ module _ {sites : ℕ} {w : World} {p : Protocol} (r : Refines sites w p) (i : I
 
   -- the part has other keys
   keeps : (a : Reaches r s t k) (b : Keys) → EachOnce b → LiveOnce (set (site .live) spot (withKeys (subAt site spot) b))
-  keeps a b e = put-once (site .live) spot (withKeys (subAt site spot) b) (omega (arith, a .held, a .live .size)) e (old s (a .low) (a .high))
+  keeps a b e =
+      put-once (site .live) spot (withKeys (subAt site spot) b) (omega (arith, a .held, a .live .size)) e (old s (a .low) (a .high))
 
   own : (a : Reaches r s t k) → EachOnce (p .live s t .keys)
   own a = let h : Held p s t = λ f. omega (arith, a .active) in rw (i .parts .keys s t h) (o .held s t h)
@@ -102,12 +105,15 @@ module _ {sites : ℕ} {w : World} {p : Protocol} (r : Refines sites w p) (i : I
   again : (v : Value) → Reaches r s t k → wroteKey (subAt site spot .keys) k ≡ true → Goal (written site spot k v)
   again v a f = writes v a (once-again (p .live s t .keys) k v (rw (a .part) at f) (own a))
 
-  first : (v : Value) → Reaches r s t k → wroteKey (subAt site spot .keys) k ≡ false → writeCodeAt site spot k ≡ 0 → Goal (written site spot k v)
+  first : (v : Value) → Reaches r s t k → wroteKey (subAt site spot .keys) k ≡ false → writeCodeAt site spot k ≡ 0
+      → Goal (written site spot k v)
   unfolding writeCodeAt
   first v a f c =
       let d = subAt site spot in
       let room : p .live s t .keys .wrote < sizes.writes =
-      rw (a .part) at (write-clear (isForgotten (site .counters .installs) (d .snapshot)) (keyHeld (site .live) spot k) (isNewer (site .history) (site .counters .installs) (d .snapshot) k) (d .keys .wrote) c .room) in
+      rw (a .part) at
+      (write-clear (isForgotten (site .counters .installs) (d .snapshot)) (keyHeld (site .live) spot k)
+      (isNewer (site .history) (site .counters .installs) (d .snapshot) k) (d .keys .wrote) c .room) in
       writes v a (once-first (p .live s t .keys) k (a .sized) room (rw (a .part) at f) v (own a))
 
   pub write-once : (v : Value) (j : ℕ) → 1 ≤ j → j ≤ sites → LiveOnce (step w (world.write s t k v) .world .site j .live)

@@ -60,19 +60,28 @@ module _ {sites : ℕ} {p : Protocol} (few : sites ≤ 8) (inv : Invariant sites
   follow (rPart d) (rPart e) u v b =
       rw (part-head s d, part-head s e)
       (record {
-        part-part = λ x y. rank-precedes (d .number) (coordinatorOf (d .tx)) (e .number) (coordinatorOf (e .tx)) (low i d (omega arith) u) (low j e h v) b;
+        part-part = λ x y. rank-precedes (d .number) (coordinatorOf (d .tx)) (e .number) (coordinatorOf (e .tx)) (low i d (omega arith) u)
+            (low j e h v) b;
         state-part = λ x y. absurd (omega arith);
         state-state = λ x y. absurd (omega arith);
       })
   follow (rPart d) (rState n) u v b =
-      rw (part-head s d, state-head s n) (record { part-part = λ x y. absurd (omega arith); state-part = λ x y. absurd (omega arith); state-state = λ x y. absurd (omega arith) })
+      rw (part-head s d, state-head s n)
+      (record {
+        part-part = λ x y. absurd (omega arith);
+        state-part = λ x y. absurd (omega arith);
+        state-state = λ x y. absurd (omega arith);
+      })
   follow (rState k) (rPart e) u v b =
-      rw (state-head s k, part-head s e) (record { part-part = λ x y. absurd (omega arith); state-part = λ x y. b; state-state = λ x y. absurd (omega arith) })
+      rw (state-head s k, part-head s e)
+      (record { part-part = λ x y. absurd (omega arith); state-part = λ x y. b; state-state = λ x y. absurd (omega arith) })
   follow (rState k) (rState n) u v b =
-      rw (state-head s k, state-head s n) (record { part-part = λ x y. absurd (omega arith); state-part = λ x y. absurd (omega arith); state-state = λ x y. b })
+      rw (state-head s k, state-head s n)
+      (record { part-part = λ x y. absurd (omega arith); state-part = λ x y. absurd (omega arith); state-state = λ x y. b })
 
 -- What the merger answers to a record that passes and is not behind.
-merge-passes : (g : Merger) (queues m : List ℕ) → mergerOk g queues ≡ true → (partOk (g .house) m ≡ true) ⊎ (stateOk (g .house) m ≡ true) → mergeCode g queues m ≡ 0
+merge-passes : (g : Merger) (queues m : List ℕ) → mergerOk g queues ≡ true → (partOk (g .house) m ≡ true) ⊎ (stateOk (g .house) m ≡ true)
+    → mergeCode g queues m ≡ 0
 unfolding mergeCode
 merge-passes g queues m o (inl e) = rw (o, e)
 merge-passes g queues m o (inr e) = by-test (partOk (g .house) m) (λ t. rw (o, t)) (λ t. rw (o, t, e))
@@ -90,12 +99,14 @@ part-answer g queues m a b =
     (λ t. rw (a, lt-leb (r .number) (c .state) b, t) (inr refl))
     (λ t. rw (a, lt-leb (r .number) (c .state) b, t) (inl refl))
 
-state-answer : (g : Merger) (queues m : List ℕ) → sourceAt g (recordHead m .site - 1) .state ≤ recordHead m .number → Taken (mergeState g queues m .answer)
+state-answer : (g : Merger) (queues m : List ℕ) → sourceAt g (recordHead m .site - 1) .state ≤ recordHead m .number
+    → Taken (mergeState g queues m .answer)
 unfolding mergeState mergeStateCode
 state-answer g queues m a = rw (le-ltb (recordHead m .number) (sourceAt g (recordHead m .site - 1) .state) a) (inl refl)
 
 -- The logs of a house.
-module _ {sites : ℕ} {w : World} {v : Stream} (x : StreamIs sites w v) (z : Standing sites v) (l : Lasts (v .protocol) (v .merger)) (f : (s : ℕ) → All (RecordOk sites) (w .log s)) where
+module _ {sites : ℕ} {w : World} {v : Stream} (x : StreamIs sites w v) (z : Standing sites v) (l : Lasts (v .protocol) (v .merger))
+    (f : (s : ℕ) → All (RecordOk sites) (w .log s)) where
   abbrev p : Protocol
   p = v .protocol
 
@@ -132,19 +143,22 @@ module _ {sites : ℕ} {w : World} {v : Stream} (x : StreamIs sites w v) (z : St
 
     -- the protocol's record
     next : (m .took s < length (p .log s)) × (ws ≡ recWords s (getD (p .log s) (m .took s) (rState 0)))
-    next = let (b, q) = logged x s (w .merged s) h in (rw (x .merged s) at b, q ∙ ap (λ (i : ℕ). recWords s (getD (p .log s) i (rState 0))) (x .merged s))
+    next = let (b, q) = logged x s (w .merged s) h in
+        (rw (x .merged s) at b, q ∙ ap (λ (i : ℕ). recWords s (getD (p .log s) i (rState 0))) (x .merged s))
 
     source : 1 ≤ s → s ≤ sites → SourceIs (sourceAt g (s - 1)) (w .queues) (s - 1) (m .queue s) (m .state s) (m .last s)
     source b c = let e : s - 1 + 1 ≡ s = omega arith in rw e at (x .merger .source (s - 1) (omega arith))
 
-    taken : (r : Rec) → getD (p .log s) (m .took s) (rState 0) ≡ r → Taken (pick (eqb (recordHead ws .kind) kind.part) (mergePart g (w .queues) ws) (mergeState g (w .queues) ws) .answer)
+    taken : (r : Rec) → getD (p .log s) (m .took s) (rState 0) ≡ r
+        → Taken (pick (eqb (recordHead ws .kind) kind.part) (mergePart g (w .queues) ws) (mergeState g (w .queues) ws) .answer)
     unfolding partHeadOf
     taken (rPart e) q =
         let d : recordHead ws ≡ partHeadOf s e = ap recordHead (next .1 ∙ ap (recWords s) q) ∙ part-head s e in
         let (b, c) = rw d at inside in
         let k = source b c in
         let (u, y) = next-part (z .invariant) (z .streamed) s (next .0) l e q in
-        let low = low-coordinator (x .refines .few) (z .invariant .parts) s (e .tx) (part-real (z .invariant) s (m .took s) e (next .0) q .has) in
+        let low = low-coordinator (x .refines .few) (z .invariant .parts) s (e .tx)
+        (part-real (z .invariant) s (m .took s) e (next .0) q .has) in
         rw (eq-eqb (recordHead ws .kind) kind.part (ap (λ (r : RecordHead). r .kind) d))
         (part-answer g (w .queues) ws
         (rw d (rank-precedes _ _ (e .number) (coordinatorOf (e .tx)) (k .low) (omega arith) (omega (arith, k .last-is))))
@@ -154,8 +168,11 @@ module _ {sites : ℕ} {w : World} {v : Stream} (x : StreamIs sites w v) (z : St
         let d = ap recordHead t ∙ state-head s n in
         let (b, c) = rw d at inside in
         rw (ne-eqb (recordHead ws .kind) kind.part (λ o. omega (arith, ap (λ (r : RecordHead). r .kind) d)))
-        (state-answer g (w .queues) ws (rw d (omega (arith, source b c .state-is, next-state (z .invariant) (z .streamed) s (next .0) n q))))
+        (state-answer g (w .queues) ws
+        (rw d (omega (arith, source b c .state-is, next-state (z .invariant) (z .streamed) s (next .0) n q))))
 
     pub next-taken : Taken (step w (world.merge ws) .answer)
     unfolding step mergeStep mergerStep mergeOf
-    next-taken = rw (merge-passes g (w .queues) ws (clear-merger g (w .queues) (x .merger .holds .clear)) passes) (taken (getD (p .log s) (m .took s) (rState 0)) refl)
+    next-taken =
+        rw (merge-passes g (w .queues) ws (clear-merger g (w .queues) (x .merger .holds .clear)) passes)
+        (taken (getD (p .log s) (m .took s) (rState 0)) refl)

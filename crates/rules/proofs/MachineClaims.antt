@@ -42,20 +42,24 @@ module _ {sites : ℕ} {p : Protocol} (i : Invariant sites p) where
       omega (arith, i .clocks .mark s t j (y .0) k, y .1)
 
   -- (B) of two committed writers of a key the later saw the earlier there
-  module _ (h : sites ≤ 8) (s t u k : ℕ) (nt : 0 < p .num t) (nu : 0 < p .num u) (n : t ≡ u → ⊥) (ht : p .has s t ≡ true) (hu : p .has s u ≡ true)
-      (wt : wroteKey (p .keys s t) k ≡ true) (wu : wroteKey (p .keys s u) k ≡ true) (below : rank (p .num t) (coordinatorOf t) < rank (p .num u) (coordinatorOf u)) where
+  module _ (h : sites ≤ 8) (s t u k : ℕ) (nt : 0 < p .num t) (nu : 0 < p .num u) (n : t ≡ u → ⊥) (ht : p .has s t ≡ true)
+      (hu : p .has s u ≡ true)
+      (wt : wroteKey (p .keys s t) k ≡ true) (wu : wroteKey (p .keys s u) k ≡ true)
+      (below : rank (p .num t) (coordinatorOf t) < rank (p .num u) (coordinatorOf u)) where
     not-seen : Seen p s t u → ⊥
     not-seen x = omega (arith, seen-lower s t u nt x, low-coordinator h (i .parts) s u hu)
 
     -- one installed at j, the other held
-    held-saw : (x y j : ℕ) → j < length (inst p s) → at p s j .tx ≡ y → Held p s x → wroteKey (p .keys s x) k ≡ true → wroteKey (p .keys s y) k ≡ true → Seen p s x y
+    held-saw : (x y j : ℕ) → j < length (inst p s) → at p s j .tx ≡ y → Held p s x → wroteKey (p .keys s x) k ≡ true
+        → wroteKey (p .keys s y) k ≡ true → Seen p s x y
     held-saw x y j l e a v w =
         by-test (ltb j (p .snap s x))
         (λ b. (j, (l, e), ltb-true j (p .snap s x) b))
         (λ b. absurd (set-not _ w (rw e at (i .writers .after s x j k a (ltb-false j (p .snap s x) b) l v))))
 
     -- both installed, y before x
-    installed-saw : (x y j m : ℕ) → j < m → m < length (inst p s) → at p s j .tx ≡ y → at p s m .tx ≡ x → wroteKey (p .keys s x) k ≡ true → wroteKey (p .keys s y) k ≡ true → Seen p s x y
+    installed-saw : (x y j m : ℕ) → j < m → m < length (inst p s) → at p s j .tx ≡ y → at p s m .tx ≡ x → wroteKey (p .keys s x) k ≡ true
+        → wroteKey (p .keys s y) k ≡ true → Seen p s x y
     installed-saw x y j m l b e f v w = (j, (omega arith, e), rw f at (i .writers .seen s j m k l b (rw e w) (rw f v)))
 
     pub later-saw : Seen p s u t
@@ -77,7 +81,8 @@ module _ {sites : ℕ} {p : Protocol} (i : Invariant sites p) where
             (eq-or-lt-of-le (ltb-false j m x))))
 
   -- (C) t saw u at s and missed it at r: they are independent wherever both have parts
-  module _ (s r t u : ℕ) (nt : 0 < p .num t) (n : t ≡ u → ⊥) (seen : Seen p s t u) (ht : p .has r t ≡ true) (hu : p .has r u ≡ true) (missed : Seen p r t u → ⊥) where
+  module _ (s r t u : ℕ) (nt : 0 < p .num t) (n : t ≡ u → ⊥) (seen : Seen p s t u) (ht : p .has r t ≡ true) (hu : p .has r u ≡ true)
+      (missed : Seen p r t u → ⊥) where
     -- a site where t saw u
     module _ (o : ℕ) (saw : Seen p o t u) where
       number : 0 < p .num u
@@ -95,7 +100,8 @@ module _ {sites : ℕ} {p : Protocol} (i : Invariant sites p) where
           ((λ f. v .0 (m f)), rw e at (v .1))
 
     -- a site where both have parts: t saw u there, or its list has u, and so has the certificate
-    covered : (o : ℕ) → p .has o t ≡ true → p .has o u ≡ true → Seen p o t u ⊎ Listed (p .cert t) u (p .mask u) (dependent (p .keys o t) (p .keys o u))
+    covered : (o : ℕ) → p .has o t ≡ true → p .has o u ≡ true
+        → Seen p o t u ⊎ Listed (p .cert t) u (p .mask u) (dependent (p .keys o t) (p .keys o u))
     covered o x y = go (i .lists .cover t u o s n (k .0) y seen)
       where
         k : (p .made o t ≡ true) × Within (p .list o t) (p .cert t)
@@ -110,7 +116,8 @@ module _ {sites : ℕ} {p : Protocol} (i : Invariant sites p) where
     independent o x y = go (covered o x y) (covered r ht hu)
       where
         go : Seen p o t u ⊎ Listed (p .cert t) u (p .mask u) (dependent (p .keys o t) (p .keys o u))
-            → Seen p r t u ⊎ Listed (p .cert t) u (p .mask u) (dependent (p .keys r t) (p .keys r u)) → dependent (p .keys o t) (p .keys o u) ≡ false
+            → Seen p r t u ⊎ Listed (p .cert t) u (p .mask u) (dependent (p .keys r t) (p .keys r u))
+            → dependent (p .keys o t) (p .keys o u) ≡ false
         go a (inl b) = absurd (missed b)
         go (inl a) (inr b) = on-yes o a _ b .1
         go (inr a) (inr b) = unset _ (on-yes s seen _ a .0)

@@ -11,7 +11,10 @@ use Rattle.kinds.specs.Stage as stage
 use Rattle.rules.specs.House.{coordinatorOf, inMask, maskOf}
 use Rattle.rules.specs.Course.{withParticipant}
 use Rattle.rules.proofs.Tables.{upd₂, upd-same, upd₂-same, upd₂-cases, here₂}
-use Rattle.rules.proofs.Protocol.{Protocol, Msg, mJoin, mJoined, mPrepare, mConc, mCert, mVote, mCommit, mAbort, Next, others, AtStage, courseAt, Move, begin, enlist, access, request, abort, cast, decide, install, report, joins, full, joined, prepared, lost, unknown, gathers, certified, rejects, votes, commits, aborts, passes}
+use Rattle.rules.proofs.Protocol.{Protocol, Msg, mJoin, mJoined, mPrepare, mConc, mCert, mVote, mCommit, mAbort, Next, others}
+use Rattle.rules.proofs.Protocol.{AtStage, courseAt, Move, begin, enlist, access, request, abort, cast, decide, install, report}
+use Rattle.rules.proofs.Protocol.{joins, full, joined, prepared, lost, unknown, gathers, certified, rejects, votes, commits, aborts}
+use Rattle.rules.proofs.Protocol.{passes}
 use Rattle.rules.proofs.Invariants.{Held, MsgOk, Invariant}
 use Rattle.rules.proofs.Frames.{others-cases, said, ends}
 use Rattle.rules.proofs.Masks.{in-or-right, own-mask}
@@ -44,11 +47,13 @@ module _ (sites : ℕ) (p : Protocol) (i : Invariant sites p) where
   none : (q : Protocol) (a b : ℕ) → Grown (Fit sites p q a b) (p .post a b) (p .post a b)
   none q a b = inl refl
 
-  one : (q : Protocol) (s r : ℕ) (m : Msg) → Fit sites p q s r m → (a b : ℕ) → Grown (Fit sites p q a b) (p .post a b) (upd₂ (p .post) s r (p .post s r ++ (m ∷ [])) a b)
+  one : (q : Protocol) (s r : ℕ) (m : Msg) → Fit sites p q s r m → (a b : ℕ)
+      → Grown (Fit sites p q a b) (p .post a b) (upd₂ (p .post) s r (p .post s r ++ (m ∷ [])) a b)
   one q s r m f = upd₂-cases (λ a b l. Grown (Fit sites p q a b) (p .post a b) l) (p .post) s r _ (inr (m, refl, f)) (λ a b n. inl refl)
 
   -- the coordinator of a held part, and another participant
-  coordinator-sites : (s t j : ℕ) → coordinatorOf t ≡ s → Held p s t → 1 ≤ j → inMask (courseAt p s t .mask) j ≡ true → Site sites s × Site sites j
+  coordinator-sites : (s t j : ℕ) → coordinatorOf t ≡ s → Held p s t → 1 ≤ j → inMask (courseAt p s t .mask) j ≡ true
+      → Site sites s × Site sites j
   coordinator-sites s t j c h l e =
       (i .parts .site s t (i .parts .has s t h), (l, i .posts .members t j (rw c h) (rw c (l, e))))
 
@@ -78,7 +83,8 @@ module _ (sites : ℕ) (p : Protocol) (i : Invariant sites p) where
           has,
           n,
           (l, m),
-          (λ z. here₂ (λ b. inMask (b .course .mask) r ≡ true) (p .live) s t _ (in-or-right (courseAt p s t .mask) (maskOf r) r (own-mask r))),
+          (λ z. here₂ (λ b. inMask (b .course .mask) r ≡ true) (p .live) s t _
+              (in-or-right (courseAt p s t .mask) (maskOf r) r (own-mask r))),
           (λ z. absurd (set-not _ z (i .rounds .unasked t x))),
         ),
         (i .parts .site s t has, (l, m)),
@@ -87,7 +93,16 @@ module _ (sites : ℕ) (p : Protocol) (i : Invariant sites p) where
   mail q (access s t b fs a told w f) = none q
   mail q (request s t es c a l r v) =
       every-other q s t _ c (λ f. omega arith)
-      (λ j e n. ((c, upd-same (p .asked) t true, rw (upd-same (p .mask) t (courseAt p s t .mask)), rw (upd-same (p .mask) t (courseAt p s t .mask)) e, n), tt))
+      (λ j e n. (
+        (
+          c,
+          upd-same (p .asked) t true,
+          rw (upd-same (p .mask) t (courseAt p s t .mask)),
+          rw (upd-same (p .mask) t (courseAt p s t .mask)) e,
+          n,
+        ),
+        tt,
+      ))
   mail q (abort s t c a d) = every-other q s t _ c a (λ j e n. ((c, upd-same (p .dead) t true), tt))
   mail q (cast s t es c a l w v) =
       let x : AtStage p (coordinatorOf t) t stage.prepared = rw c a in
@@ -133,7 +148,8 @@ module _ (sites : ℕ) (p : Protocol) (i : Invariant sites p) where
   idle a b = (omega arith, i .posts .count a b)
 
   next : (a s : ℕ) (m : Msg) → Next p a s m → Took (upd₂ (p .taken) a s (p .taken a s + 1))
-  next a s m n = upd₂-cases (λ x y k. (p .taken x y ≤ k) × (k ≤ length (p .post x y))) (p .taken) a s _ (omega (arith, n .some)) (λ x y z. idle x y)
+  next a s m n =
+      upd₂-cases (λ x y k. (p .taken x y ≤ k) × (k ≤ length (p .post x y))) (p .taken) a s _ (omega (arith, n .some)) (λ x y z. idle x y)
 
   pub takes : (q : Protocol) → Move sites p q → Took (q .taken)
   takes q (begin s t l m n e) = idle

@@ -12,7 +12,9 @@ use Rattle.kinds.specs.State.{noSub, withCourse}
 use Rattle.rules.specs.House.{coordinatorOf, inMask, maskOf}
 use Rattle.rules.specs.Course.{newSub, withParticipant, withReply, withDecision, withMark, withRequest, withStage}
 use Rattle.rules.proofs.Tables.{upd₂, upd₂-cases}
-use Rattle.rules.proofs.Protocol.{Protocol, mPrepare, Next, courseAt, Move, begin, enlist, access, request, abort, cast, decide, install, report, joins, full, joined, prepared, lost, unknown, gathers, certified, rejects, votes, commits, aborts, passes}
+use Rattle.rules.proofs.Protocol.{Protocol, mPrepare, Next, courseAt, Move, begin, enlist, access, request, abort, cast, decide}
+use Rattle.rules.proofs.Protocol.{install, report, joins, full, joined, prepared, lost, unknown, gathers, certified, rejects, votes}
+use Rattle.rules.proofs.Protocol.{commits, aborts, passes}
 use Rattle.rules.proofs.Invariants.{Held, In, Invariant}
 use Rattle.rules.proofs.Frames.{said, new-tx}
 use Rattle.rules.proofs.Masks.{in-or-left, in-more, only-own}
@@ -37,8 +39,11 @@ module _ (sites : ℕ) (p : Protocol) (i : Invariant sites p) where
   gone j u b = record { grows = λ x y. absurd (y refl); within = λ y r z. absurd (y refl) }
 
   -- one part changes, perhaps a coordinator's
-  one : (s t : ℕ) (b : Sub) → (coordinatorOf t ≡ s → Masked sites p s t (p .live s t) b) → (j u : ℕ) → coordinatorOf u ≡ j → Masked sites p j u (p .live j u) (upd₂ (p .live) s t b j u)
-  one s t b h = upd₂-cases (λ j u c. coordinatorOf u ≡ j → Masked sites p j u (p .live j u) c) (p .live) s t b h (λ j u n e. same j u _ _ (λ x. x) refl)
+  one : (s t : ℕ) (b : Sub) → (coordinatorOf t ≡ s → Masked sites p s t (p .live s t) b) → (j u : ℕ) → coordinatorOf u ≡ j
+      → Masked sites p j u (p .live j u) (upd₂ (p .live) s t b j u)
+  one s t b h =
+      upd₂-cases (λ j u c. coordinatorOf u ≡ j → Masked sites p j u (p .live j u) c) (p .live) s t b h
+      (λ j u n e. same j u _ _ (λ x. x) refl)
 
   -- a held part's course changes, its mask does not
   course : (s t : ℕ) (c : Course) → Held p s t → c .mask ≡ courseAt p s t .mask → (j u : ℕ) → coordinatorOf u ≡ j

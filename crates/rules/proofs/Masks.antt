@@ -36,7 +36,9 @@ pub in-or : (m n r : ℕ) → inMask (bitOr m n) r ≡ true → (inMask m r ≡ 
 in-or m n r e =
     by-test (eqb (digit m (r - 1)) 1)
     (λ t. inl (digit-in m r (omega (arith, eqb-true (digit m (r - 1)) 1 t))))
-    (λ f. inr (digit-in n r (right (digit m (r - 1)) (digit n (r - 1)) (digit-le m (r - 1)) (eqb-false (digit m (r - 1)) 1 f) (sym (digit-or m n (r - 1)) ∙ in-digit (bitOr m n) r e))))
+    (λ f. inr (digit-in n r
+    (right (digit m (r - 1)) (digit n (r - 1)) (digit-le m (r - 1)) (eqb-false (digit m (r - 1)) 1 f)
+    (sym (digit-or m n (r - 1)) ∙ in-digit (bitOr m n) r e))))
   where
     right : (a b : ℕ) → a ≤ 1 → (a ≡ 1 → ⊥) → max a b ≡ 1 → 1 ≤ b
     right a b l f q = omega arith

@@ -14,7 +14,9 @@ use Rattle.rules.specs.Install.{entryOf}
 use Rattle.rules.specs.World.{Is, here}
 use Rattle.rules.specs.Book.{Fact}
 use Rattle.rules.proofs.Tables.{upd₂, upd₂-cases}
-use Rattle.rules.proofs.Protocol.{Protocol, inst, Move, Accessed, reads, writes, begin, enlist, access, request, abort, cast, decide, install, report, joins, full, joined, prepared, lost, unknown, gathers, certified, rejects, votes, commits, aborts, passes, freshProtocol}
+use Rattle.rules.proofs.Protocol.{Protocol, inst, Move, Accessed, reads, writes, begin, enlist, access, request, abort, cast, decide}
+use Rattle.rules.proofs.Protocol.{install, report, joins, full, joined, prepared, lost, unknown, gathers, certified, rejects, votes}
+use Rattle.rules.proofs.Protocol.{commits, aborts, passes, freshProtocol}
 use Rattle.rules.proofs.Told.{told, toldStep, toldSteps}
 use Rattle.rules.proofs.Invariants.{Held, at, Invariant}
 use Rattle.rules.proofs.Frames.{new-tx, new-join}
@@ -47,7 +49,8 @@ access-told (reads k h u r w) n = n _ here refl
 access-told (writes k v h w e r o) n = n _ here refl
 
 -- keys of a part where none was
-new-keys : (p : Protocol) (s t : ℕ) (b : Keys) → (p .has s t ≡ true → ⊥) → (j u : ℕ) → p .has j u ≡ true → upd₂ (p .keys) s t b j u ≡ p .keys j u
+new-keys : (p : Protocol) (s t : ℕ) (b : Keys) → (p .has s t ≡ true → ⊥) → (j u : ℕ) → p .has j u ≡ true
+    → upd₂ (p .keys) s t b j u ≡ p .keys j u
 new-keys p s t b n = upd₂-cases (λ j u c. p .has j u ≡ true → c ≡ p .keys j u) (p .keys) s t b (λ h. absurd (n h)) (λ j u o h. refl)
 
 module _ {sites : ℕ} {p : Protocol} (i : Invariant sites p) where
@@ -92,7 +95,8 @@ entry-keys : (b : Sub) → entryOf b .keys ≡ b .keys
 unfolding entryOf
 entry-keys b = refl
 
-module _ {sites : ℕ} {p q : Protocol} (few : sites ≤ 8) (i : Invariant sites p) (m : Move sites p q) (n : NoAccess (told m)) (o : WritesOnce p) where
+module _ {sites : ℕ} {p q : Protocol} (few : sites ≤ 8) (i : Invariant sites p) (m : Move sites p q) (n : NoAccess (told m))
+    (o : WritesOnce p) where
   c : Change sites p q
   c = change sites p q few m i
 
@@ -151,7 +155,8 @@ installs-steps few z (stream.more ss s) n j =
 
 -- what was installed stays, whatever is told
 abbrev Stays : Stream → Stream → Type 0
-Stays v u = (s j : ℕ) → j < length (inst (v .protocol) s) → (j < length (inst (u .protocol) s)) × (at (u .protocol) s j ≡ at (v .protocol) s j)
+Stays v u = (s j : ℕ) → j < length (inst (v .protocol) s)
+    → (j < length (inst (u .protocol) s)) × (at (u .protocol) s j ≡ at (v .protocol) s j)
 
 stays-step : {sites : ℕ} {v u : Stream} → sites ≤ 8 → Invariant sites (v .protocol) → Step sites v u → Stays v u
 stays-step {sites} {v} few i (stream.moves q m) s j h = stands i (change sites (v .protocol) q few m i) s j h

@@ -12,7 +12,9 @@ use Rattle.rules.specs.House.{coordinatorOf, inMask}
 use Rattle.rules.specs.Live.{allHeard}
 use Rattle.rules.specs.Course.{withDecision}
 use Rattle.rules.proofs.Tables.{upd-same, upd-other, upd-cases, here₂, upd-both, upd₂-both}
-use Rattle.rules.proofs.Protocol.{Protocol, AtStage, courseAt, Covers, Certified, Within, Move, begin, enlist, access, request, abort, cast, decide, install, report, joins, full, joined, prepared, lost, unknown, gathers, certified, rejects, votes, commits, aborts, passes}
+use Rattle.rules.proofs.Protocol.{Protocol, AtStage, courseAt, Covers, Certified, Within, Move, begin, enlist, access, request}
+use Rattle.rules.proofs.Protocol.{abort, cast, decide, install, report, joins, full, joined, prepared, lost, unknown, gathers}
+use Rattle.rules.proofs.Protocol.{certified, rejects, votes, commits, aborts, passes}
 use Rattle.rules.proofs.Invariants.{Held, Invariant}
 use Rattle.rules.proofs.Frames.{said}
 
@@ -25,7 +27,8 @@ Replies p t = allHeard (coordinatorOf t) (courseAt p (coordinatorOf t) t .heard)
 
 -- The flags as they are set now.
 abbrev pub AskedNow : Protocol → ℕ → ℕ → Type 0
-AskedNow p t mask = OwnStage p t stage.active × Replies p t × (courseAt p (coordinatorOf t) t .reason ≡ 0) × (mask ≡ courseAt p (coordinatorOf t) t .mask)
+AskedNow p t mask = OwnStage p t stage.active × Replies p t × (courseAt p (coordinatorOf t) t .reason ≡ 0)
+    × (mask ≡ courseAt p (coordinatorOf t) t .mask)
 
 abbrev pub MadeNow : Protocol → Protocol → ℕ → ℕ → List ℕ → Type 0
 MadeNow p q s t es = AtStage p s t stage.active × Covers p s t es × (q .asked t ≡ true) × (inMask (q .mask t) s ≡ true)
@@ -34,7 +37,8 @@ abbrev pub CertedNow : Protocol → ℕ → List ℕ → Type 0
 CertedNow p t es = OwnStage p t stage.prepared × Replies p t × Within (p .gathered t) es
 
 abbrev pub YesNow : Protocol → Protocol → ℕ → ℕ → ℕ → Type 0
-YesNow p q s t mark = AtStage p s t stage.prepared × Certified p s t (q .cert t) × (mark ≡ p .clock s) × (q .certed t ≡ true) × (inMask (q .mask t) s ≡ true)
+YesNow p q s t mark = AtStage p s t stage.prepared × Certified p s t (q .cert t) × (mark ≡ p .clock s) × (q .certed t ≡ true)
+    × (inMask (q .mask t) s ≡ true)
 
 abbrev pub NumNow : Protocol → Protocol → ℕ → ℕ → Type 0
 NumNow p q t n =
@@ -53,11 +57,14 @@ pub record News (p q : Protocol) : Type 0 where
   pub dead : (t : ℕ) → q .dead t ≡ true → (p .dead t ≡ true) ⊎ DeadNow p q t
 
 -- the flags that stay
-abbrev same : {A B C D E F : Type 0} {a : A} {b : B} {c : C} {d : D} {e : E} {f : F} → (a ≡ a) × (b ≡ b) × (c ≡ c) × (d ≡ d) × (e ≡ e) × (f ≡ f)
+abbrev same : {A B C D E F : Type 0} {a : A} {b : B} {c : C} {d : D} {e : E} {f : F}
+    → (a ≡ a) × (b ≡ b) × (c ≡ c) × (d ≡ d) × (e ≡ e) × (f ≡ f)
 same = (refl, refl, refl, refl, refl, refl)
 
 module _ {sites : ℕ} {p : Protocol} (i : Invariant sites p) where
-  quiet : (q : Protocol) → (q .asked ≡ p .asked) × (q .made ≡ p .made) × (q .certed ≡ p .certed) × (q .yes ≡ p .yes) × (q .num ≡ p .num) × (q .dead ≡ p .dead) → News p q
+  quiet : (q : Protocol)
+      → (q .asked ≡ p .asked) × (q .made ≡ p .made) × (q .certed ≡ p .certed) × (q .yes ≡ p .yes) × (q .num ≡ p .num)
+      × (q .dead ≡ p .dead) → News p q
   quiet q (a, m, c, y, n, d) =
       record {
         asked = λ t e. inl (rw a at e);
@@ -80,7 +87,8 @@ module _ {sites : ℕ} {p : Protocol} (i : Invariant sites p) where
   news q (request s t es c a l r v) =
       let m = courseAt p s t .mask in
       record {
-        asked = upd-both (λ u b m. b ≡ true → (p .asked u ≡ true) ⊎ AskedNow p u m) (p .asked) (p .mask) t true m (λ e. inr (rw c a, rw c l, rw c r, rw c)) (λ u n e. inl e);
+        asked = upd-both (λ u b m. b ≡ true → (p .asked u ≡ true) ⊎ AskedNow p u m) (p .asked) (p .mask) t true m
+            (λ e. inr (rw c a, rw c l, rw c r, rw c)) (λ u n e. inl e);
         made =
             upd₂-both (λ j u b l. b ≡ true → (p .made j u ≡ true) ⊎ MadeNow p q j u l) (p .made) (p .list) s t true es
             (λ e. inr (a, v, upd-same (p .asked) t true, rw (upd-same (p .mask) t m) (own-in s t c (λ f. omega arith)))) (λ j u n e. inl e);
@@ -98,16 +106,24 @@ module _ {sites : ℕ} {p : Protocol} (i : Invariant sites p) where
         num = λ u e. inl e;
         dead =
             upd-cases (λ u b. b ≡ true → (p .dead u ≡ true) ⊎ DeadNow p q u) (p .dead) t true
-            (λ e. inr (rw c a, rw c d, rw c (here₂ (λ (b : Sub). b .course .stage ≡ stage.free) (p .live) s t noSub refl))) (λ u n e. inl e);
+            (λ e. inr (rw c a, rw c d, rw c (here₂ (λ (b : Sub). b .course .stage ≡ stage.free) (p .live) s t noSub refl)))
+            (λ u n e. inl e);
       }
   news q (cast s t es c a l w v) =
       record {
         asked = λ u e. inl e;
         made = λ j u e. inl e;
-        certed = upd-both (λ u b l. b ≡ true → (p .certed u ≡ true) ⊎ CertedNow p u l) (p .certed) (p .cert) t true es (λ e. inr (rw c a, rw c l, w)) (λ u n e. inl e);
+        certed = upd-both (λ u b l. b ≡ true → (p .certed u ≡ true) ⊎ CertedNow p u l) (p .certed) (p .cert) t true es
+            (λ e. inr (rw c a, rw c l, w)) (λ u n e. inl e);
         yes =
             upd₂-both (λ j u b m. b ≡ true → (p .yes j u ≡ true) ⊎ YesNow p q j u m) (p .yes) (p .mark) s t true (p .clock s)
-            (λ e. inr (a, rw (upd-same (p .cert) t es) v, refl, upd-same (p .certed) t true, rw (← i .courses .mask s t (λ f. omega arith) (λ f. omega arith) .1) (own-in s t c (λ f. omega arith))))
+            (λ e. inr (
+              a,
+              rw (upd-same (p .cert) t es) v,
+              refl,
+              upd-same (p .certed) t true,
+              rw (← i .courses .mask s t (λ f. omega arith) (λ f. omega arith) .1) (own-in s t c (λ f. omega arith)),
+            ))
             (λ j u n e. inl e);
         num = λ u e. inl e;
         dead = λ u e. inl e;
@@ -120,7 +136,13 @@ module _ {sites : ℕ} {p : Protocol} (i : Invariant sites p) where
         yes = λ j u e. inl e;
         num =
             upd-cases (λ u n. 0 < n → (0 < p .num u) ⊎ NumNow p q u n) (p .num) t (p .clock s + 1)
-            (λ e. inr (rw c a, rw c l, rw c, rw c (here₂ (λ (b : Sub). b .course .stage ≡ stage.decided) (p .live) s t _ refl), upd-other (p .num) t _)) (λ u n e. inl e);
+            (λ e. inr (
+              rw c a,
+              rw c l,
+              rw c,
+              rw c (here₂ (λ (b : Sub). b .course .stage ≡ stage.decided) (p .live) s t _ refl),
+              upd-other (p .num) t _,
+            )) (λ u n e. inl e);
         dead = λ u e. inl e;
       }
   news q (install s t a l) = quiet q same
@@ -132,7 +154,8 @@ module _ {sites : ℕ} {p : Protocol} (i : Invariant sites p) where
       let o = said i x in
       record {
         asked = λ u e. inl e;
-        made = upd₂-both (λ j u b l. b ≡ true → (p .made j u ≡ true) ⊎ MadeNow p q j u l) (p .made) (p .list) s t true es (λ e. inr (y, v, o .1, o .3)) (λ j u n e. inl e);
+        made = upd₂-both (λ j u b l. b ≡ true → (p .made j u ≡ true) ⊎ MadeNow p q j u l) (p .made) (p .list) s t true es
+            (λ e. inr (y, v, o .1, o .3)) (λ j u n e. inl e);
         certed = λ u e. inl e;
         yes = λ j u e. inl e;
         num = λ u e. inl e;

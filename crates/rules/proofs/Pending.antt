@@ -65,7 +65,8 @@ module _ (post : ℕ → ℕ → List Msg) (taken : ℕ → ℕ → ℕ) (t : �
     abbrev stepped : ℕ → ℕ → ℕ
     stepped = upd₂ taken a b (taken a b + 1)
 
-    step-here : (m : Msg) → taken a b < length (post a b) → getD (post a b) (taken a b) m ≡ m → drop (taken a b) (post a b) ≡ m ∷ drop (stepped a b) (post a b)
+    step-here : (m : Msg) → taken a b < length (post a b) → getD (post a b) (taken a b) m ≡ m
+        → drop (taken a b) (post a b) ≡ m ∷ drop (stepped a b) (post a b)
     step-here m h e = rw (upd₂-same taken a b (taken a b + 1), add-one (taken a b)) (drop-next (post a b) (taken a b) m h e)
 
     pub taken-first : (m : Msg) → taken a b < length (post a b) → getD (post a b) (taken a b) m ≡ m → txIn m ≡ t
@@ -87,45 +88,55 @@ module _ (post : ℕ → ℕ → List Msg) (taken : ℕ → ℕ → ℕ) (t : �
 
   -- A message written from a to b.
   module _ (count : (x y : ℕ) → taken x y ≤ length (post x y)) where
-    written : (k : List Msg) (m : Msg) (x y : ℕ) → k ≡ post x y ++ (m ∷ []) → txIn m ≡ t → about t (drop (taken x y) k) ≡ pending post taken t x y ++ (m ∷ [])
+    written : (k : List Msg) (m : Msg) (x y : ℕ) → k ≡ post x y ++ (m ∷ []) → txIn m ≡ t
+        → about t (drop (taken x y) k) ≡ pending post taken t x y ++ (m ∷ [])
     unfolding pending
     written k m x y e f = rw (e, drop-last (post x y) (taken x y) m (count x y)) (about-last t (drop (taken x y) (post x y)) m f)
 
-    unwritten : (k : List Msg) (m : Msg) (x y : ℕ) → k ≡ post x y ++ (m ∷ []) → (txIn m ≡ t → ⊥) → about t (drop (taken x y) k) ≡ pending post taken t x y
+    unwritten : (k : List Msg) (m : Msg) (x y : ℕ) → k ≡ post x y ++ (m ∷ []) → (txIn m ≡ t → ⊥)
+        → about t (drop (taken x y) k) ≡ pending post taken t x y
     unfolding pending
     unwritten k m x y e f = rw (e, drop-last (post x y) (taken x y) m (count x y)) (about-none t (drop (taken x y) (post x y)) m f)
 
-    pub posted-last : (a b : ℕ) (m : Msg) → txIn m ≡ t → pending (upd₂ post a b (post a b ++ (m ∷ []))) taken t a b ≡ pending post taken t a b ++ (m ∷ [])
+    pub posted-last : (a b : ℕ) (m : Msg) → txIn m ≡ t
+        → pending (upd₂ post a b (post a b ++ (m ∷ []))) taken t a b ≡ pending post taken t a b ++ (m ∷ [])
     unfolding pending
     posted-last a b m f = written _ m a b (upd₂-same post a b (post a b ++ (m ∷ []))) f
 
-    pub posted-not : (a b : ℕ) (m : Msg) → (txIn m ≡ t → ⊥) → (x y : ℕ) → pending (upd₂ post a b (post a b ++ (m ∷ []))) taken t x y ≡ pending post taken t x y
+    pub posted-not : (a b : ℕ) (m : Msg) → (txIn m ≡ t → ⊥) → (x y : ℕ)
+        → pending (upd₂ post a b (post a b ++ (m ∷ []))) taken t x y ≡ pending post taken t x y
     unfolding pending
     posted-not a b m f =
         upd₂-cases (λ x y l. about t (drop (taken x y) l) ≡ about t (drop (taken x y) (post x y))) post a b (post a b ++ (m ∷ []))
         (unwritten _ m a b refl f) (λ x y n. refl)
 
-    pub others-not : (a mask : ℕ) (m : Msg) → (txIn m ≡ t → ⊥) → (x y : ℕ) → pending (others post a mask m) taken t x y ≡ pending post taken t x y
+    pub others-not : (a mask : ℕ) (m : Msg) → (txIn m ≡ t → ⊥) → (x y : ℕ)
+        → pending (others post a mask m) taken t x y ≡ pending post taken t x y
     unfolding pending
     others-not a mask m f =
-        others-cases (λ x y l. about t (drop (taken x y) l) ≡ about t (drop (taken x y) (post x y))) post a mask m (λ y l e n. unwritten _ m a y refl f) (λ x y. refl)
+        others-cases (λ x y l. about t (drop (taken x y) l) ≡ about t (drop (taken x y) (post x y))) post a mask m
+        (λ y l e n. unwritten _ m a y refl f) (λ x y. refl)
 
-  pub posted-elsewhere : (a b : ℕ) (m : Msg) (x y : ℕ) → Other₂ a b x y → pending (upd₂ post a b (post a b ++ (m ∷ []))) taken t x y ≡ pending post taken t x y
+  pub posted-elsewhere : (a b : ℕ) (m : Msg) (x y : ℕ) → Other₂ a b x y
+      → pending (upd₂ post a b (post a b ++ (m ∷ []))) taken t x y ≡ pending post taken t x y
   unfolding pending
   posted-elsewhere a b m x y n = rw (upd₂-other post a b (post a b ++ (m ∷ [])) x y n)
 
   -- one to each other participant
-  pub others-elsewhere : (a mask : ℕ) (m : Msg) (x y : ℕ) → (x ≡ a → ⊥) → pending (others post a mask m) taken t x y ≡ pending post taken t x y
+  pub others-elsewhere : (a mask : ℕ) (m : Msg) (x y : ℕ) → (x ≡ a → ⊥)
+      → pending (others post a mask m) taken t x y ≡ pending post taken t x y
   unfolding pending others
   others-elsewhere a mask m x y n = rw (ne-eqb x a n)
 
-  pub others-apart : (a mask : ℕ) (m : Msg) (r : ℕ) → inMask mask r ≡ false → pending (others post a mask m) taken t a r ≡ pending post taken t a r
+  pub others-apart : (a mask : ℕ) (m : Msg) (r : ℕ) → inMask mask r ≡ false
+      → pending (others post a mask m) taken t a r ≡ pending post taken t a r
   unfolding pending
   others-apart a mask m r e =
       others-cases (λ x y l. inMask mask y ≡ false → about t (drop (taken x y) l) ≡ about t (drop (taken x y) (post x y))) post a mask m
       (λ y l k n z. absurd (set-not _ k z)) (λ x y z. refl) a r e
 
-  pub others-last : ((x y : ℕ) → taken x y ≤ length (post x y)) → (a mask : ℕ) (m : Msg) (r : ℕ) → txIn m ≡ t → 1 ≤ r → inMask mask r ≡ true → (r ≡ a → ⊥)
+  pub others-last : ((x y : ℕ) → taken x y ≤ length (post x y)) → (a mask : ℕ) (m : Msg) (r : ℕ) → txIn m ≡ t → 1 ≤ r → inMask mask r ≡ true
+      → (r ≡ a → ⊥)
       → pending (others post a mask m) taken t a r ≡ pending post taken t a r ++ (m ∷ [])
   unfolding pending others
   others-last count a mask m r f l e n = rw (eq-eqb a a refl, le-leb 1 r l, e, ne-eqb r a n) (written count _ m a r refl f)

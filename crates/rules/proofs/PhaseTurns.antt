@@ -9,7 +9,8 @@ use Rattle.kinds.specs.Stage as stage
 use Rattle.kinds.specs.declared.Course.{Course}
 use Rattle.rules.proofs.Protocol.{Msg, mJoin, mJoined, mPrepare, mConc, mCert, mVote, mCommit, mAbort}
 use Rattle.rules.proofs.Invariants.{In}
-use Rattle.rules.proofs.Phases.{Waits, AskedAt, Ready, RepliedAt, Agrees, Phase, idle, asked, replied, deciding, aborting, overtaken, aborted}
+use Rattle.rules.proofs.Phases.{Waits, AskedAt, Ready, RepliedAt, Agrees, Phase, idle, asked, replied, deciding, aborting, overtaken}
+use Rattle.rules.proofs.Phases.{aborted}
 
 -- the stages in which the coordinator wants replies
 abbrev pub InRound : ℕ → Type 0
@@ -48,7 +49,8 @@ module _ {t r : ℕ} {c : Course} {n : ℕ} {d h : Bool} {g : ℕ} where
   joins-on (asked m w a y) = replied (mJoined t 0) w (a, λ e. refl)
   joins-on (overtaken m b e y) = aborting _ e
 
-  pub full-on : {f b : List Msg} (v : ℕ) → (h ≡ true → ⊥) → Phase t r c n d h g (mJoin t ∷ f) b → Phase t r c n d h g f (b ++ (mJoined t v ∷ []))
+  pub full-on : {f b : List Msg} (v : ℕ) → (h ≡ true → ⊥) → Phase t r c n d h g (mJoin t ∷ f) b
+      → Phase t r c n d h g f (b ++ (mJoined t v ∷ []))
   full-on v z (asked m w a y) = replied (mJoined t v) w (a, λ e. absurd (z e))
   full-on v z (overtaken m b e y) = aborting _ e
 
@@ -66,7 +68,8 @@ module _ {t r : ℕ} {c : Course} {n : ℕ} {d h : Bool} {g : ℕ} where
   prepare-held k x (asked m w a y) = y
   prepare-held k x (overtaken m b e y) = y
 
-  pub certified-on : {f b : List Msg} (u : ℕ) (es : List ℕ) → Phase t r c n d h g (mCert t es ∷ f) b → Phase t r c n d h stage.queued f (b ++ (mVote t u 0 ∷ []))
+  pub certified-on : {f b : List Msg} (u : ℕ) (es : List ℕ) → Phase t r c n d h g (mCert t es ∷ f) b
+      → Phase t r c n d h stage.queued f (b ++ (mVote t u 0 ∷ []))
   certified-on u es (asked m w a y) = replied (mVote t u 0) w (inl (a, λ e. refl))
   certified-on u es (overtaken m b e y) = aborting _ e
 
@@ -76,7 +79,8 @@ module _ {t r : ℕ} {c : Course} {n : ℕ} {d h : Bool} {g : ℕ} where
   rejects-on u v es z (overtaken m b e y) = aborting _ e
 
   -- COMMIT and ABORT have no reply.
-  pub commits-on : {f b : List Msg} (k : ℕ) → (0 < n → InRound (c .stage) → ⊥) → Phase t r c n d h g (mCommit t k ∷ f) b → Phase t r c n d h stage.decided f b
+  pub commits-on : {f b : List Msg} (k : ℕ) → (0 < n → InRound (c .stage) → ⊥) → Phase t r c n d h g (mCommit t k ∷ f) b
+      → Phase t r c n d h stage.decided f b
   commits-on k z (deciding j l e) = idle (λ x. no-round _ _ _ (z l))
 
   pub aborts-on : {f b : List Msg} (k : ℕ) → Phase t r c n d h g (mAbort t ∷ f) b → Phase t r c n d h k f b
@@ -97,7 +101,9 @@ module _ {t r : ℕ} {c : Course} {n : ℕ} {d h : Bool} {g : ℕ} where
 
   -- an installed part leaves
   pub installs-on : {f b : List Msg} (k : ℕ) → g ≡ stage.decided → Phase t r c n d h g f b → Phase t r c n d h k f b
-  installs-on k e (idle x) = idle (λ y. let z = x y in ((λ u v. absurd (omega (arith, z .0 u v))), (λ u. absurd (omega (arith, z .1 u))), λ u. absurd (omega (arith, z .2 u))))
+  installs-on k e (idle x) =
+      idle (λ y. let z = x y in
+      ((λ u v. absurd (omega (arith, z .0 u v))), (λ u. absurd (omega (arith, z .1 u))), λ u. absurd (omega (arith, z .2 u))))
   installs-on k e (asked m w a y) = asked m w a (ready-left g k m e y)
   installs-on k e (replied m w a) = replied m w (replies-left (c .stage) h g k m e a)
   installs-on k e (deciding j l y) = absurd (omega arith)
@@ -106,7 +112,8 @@ module _ {t r : ℕ} {c : Course} {n : ℕ} {d h : Bool} {g : ℕ} where
   installs-on k e (aborted b y) = aborted b y
 
   -- The coordinator: a reply heard, which agrees.
-  pub heard-on : {f b : List Msg} (m : Msg) (c′ : Course) → (RepliedAt (c .stage) h g m → Agrees (c′ .stage) h g) → Phase t r c n d h g f (m ∷ b)
+  pub heard-on : {f b : List Msg} (m : Msg) (c′ : Course) → (RepliedAt (c .stage) h g m → Agrees (c′ .stage) h g)
+      → Phase t r c n d h g f (m ∷ b)
       → Phase t r c′ n d h g f b
   heard-on k c′ z (replied m w a) = idle (λ x. z a)
   heard-on k c′ z (aborting b e) = aborting _ e
@@ -114,7 +121,8 @@ module _ {t r : ℕ} {c : Course} {n : ℕ} {d h : Bool} {g : ℕ} where
   heard-on k c′ z (aborted b e) = aborted _ e
 
   -- another participant's reply heard, or another enlisted
-  pub wider-on : {f b : List Msg} (c′ : Course) → c′ .stage ≡ c .stage → (In (c .mask) r → In (c′ .mask) r) → (In (c′ .heard) r → In (c .heard) r)
+  pub wider-on : {f b : List Msg} (c′ : Course) → c′ .stage ≡ c .stage → (In (c .mask) r → In (c′ .mask) r)
+      → (In (c′ .heard) r → In (c .heard) r)
       → Phase t r c n d h g f b → Phase t r c′ n d h g f b
   wider-on c′ e w l (idle x) = idle (λ y. rw e (x (l y)))
   wider-on c′ e w l (asked m v a y) = asked m (w (v .0), λ x. v .1 (l x)) (rw e a) y
@@ -125,7 +133,8 @@ module _ {t r : ℕ} {c : Course} {n : ℕ} {d h : Bool} {g : ℕ} where
   wider-on c′ e w l (aborted b y) = aborted b y
 
   -- outside a round, before and after
-  pub rests-on : {f b : List Msg} (c′ : Course) → (InRound (c .stage) → ⊥) → (In (c′ .heard) r → Agrees (c′ .stage) h g) → Phase t r c n d h g f b
+  pub rests-on : {f b : List Msg} (c′ : Course) → (InRound (c .stage) → ⊥) → (In (c′ .heard) r → Agrees (c′ .stage) h g)
+      → Phase t r c n d h g f b
       → Phase t r c′ n d h g f b
   rests-on c′ o z (idle x) = idle z
   rests-on c′ o z (asked m v a y) = absurd (o (asks-round _ m a))
@@ -138,7 +147,8 @@ module _ {t r : ℕ} {c : Course} {n : ℕ} {d h : Bool} {g : ℕ} where
   -- In a round of a transaction neither decided nor aborted.
   module _ (number : n ≡ 0) (alive : d ≡ true → ⊥) where
     -- nothing is written to r, and r is not heard
-    pub skips-on : {f b : List Msg} (c′ : Course) (n′ : ℕ) → (In (c .mask) r → ⊥) → (In (c′ .heard) r → ⊥) → Phase t r c n d h g f b → Phase t r c′ n′ d h g f b
+    pub skips-on : {f b : List Msg} (c′ : Course) (n′ : ℕ) → (In (c .mask) r → ⊥) → (In (c′ .heard) r → ⊥) → Phase t r c n d h g f b
+        → Phase t r c′ n′ d h g f b
     skips-on c′ n′ o z (idle x) = idle (λ y. absurd (z y))
     skips-on c′ n′ o z (asked m v a y) = absurd (o (v .0))
     skips-on c′ n′ o z (replied m v a) = absurd (o (v .0))
@@ -159,7 +169,8 @@ module _ {t r : ℕ} {c : Course} {n : ℕ} {d h : Bool} {g : ℕ} where
     enlists-on c′ o w e (aborted b y) = absurd (alive y)
 
     -- the next question to a participant that was heard
-    pub asks-on : {f b : List Msg} (m : Msg) (c′ : Course) → In (c .heard) r → Waits r c′ → AskedAt (c′ .stage) m → (Agrees (c .stage) h g → Ready g m) → Phase t r c n d h g f b
+    pub asks-on : {f b : List Msg} (m : Msg) (c′ : Course) → In (c .heard) r → Waits r c′ → AskedAt (c′ .stage) m
+        → (Agrees (c .stage) h g → Ready g m) → Phase t r c n d h g f b
         → Phase t r c′ n d h g (f ++ (m ∷ [])) b
     asks-on k c′ l w e z (idle x) = asked k w e (z (x l))
     asks-on k c′ l w e z (asked m v a y) = absurd (v .1 l)

@@ -49,7 +49,8 @@ RepliedAt k h g (mAbort t) = ⊥
 
 -- what a reply heard in this round leaves so
 abbrev pub Agrees : ℕ → Bool → ℕ → Type 0
-Agrees k h g = (k ≡ stage.active → h ≡ true → g ≡ stage.active) × (k ≡ stage.prepared → g ≡ stage.prepared) × (k ≡ stage.queued → g ≡ stage.queued)
+Agrees k h g = (k ≡ stage.active → h ≡ true → g ≡ stage.active) × (k ≡ stage.prepared → g ≡ stage.prepared)
+    × (k ≡ stage.queued → g ≡ stage.queued)
 
 -- c is the coordinator's course, n the commit number, d where it is aborted; h where r's part began, and g its stage. The lists are what
 -- is under way to r, and back.
@@ -69,12 +70,14 @@ pub data Phase (t r : ℕ) (c : Course) (n : ℕ) (d h : Bool) (g : ℕ) : List 
 -- with t's coordinator at site o
 abbrev pub PhaseAt : Protocol → ℕ → ℕ → ℕ → Type 0
 PhaseAt p o t r =
-    Phase t r (courseAt p o t) (p .num t) (p .dead t) (p .has r t) (courseAt p r t .stage) (pending (p .post) (p .taken) t o r) (pending (p .post) (p .taken) t r o)
+    Phase t r (courseAt p o t) (p .num t) (p .dead t) (p .has r t) (courseAt p r t .stage) (pending (p .post) (p .taken) t o r)
+    (pending (p .post) (p .taken) t r o)
 
 abbrev pub Phases : Protocol → Type 0
 Phases p = (t r : ℕ) → 1 ≤ r → (r ≡ coordinatorOf t → ⊥) → PhaseAt p (coordinatorOf t) t r
 
 -- the same phase, of what is the same
-pub along : {t r : ℕ} {c c′ : Course} {n n′ : ℕ} {d d′ h h′ : Bool} {g g′ : ℕ} {f f′ b b′ : List Msg} → c′ ≡ c → n′ ≡ n → d′ ≡ d → h′ ≡ h → g′ ≡ g → f′ ≡ f → b′ ≡ b
+pub along : {t r : ℕ} {c c′ : Course} {n n′ : ℕ} {d d′ h h′ : Bool} {g g′ : ℕ} {f f′ b b′ : List Msg} → c′ ≡ c → n′ ≡ n → d′ ≡ d → h′ ≡ h
+    → g′ ≡ g → f′ ≡ f → b′ ≡ b
     → Phase t r c n d h g f b → Phase t r c′ n′ d′ h′ g′ f′ b′
 along u v w x y z k i = rw (u, v, w, x, y, z, k) i

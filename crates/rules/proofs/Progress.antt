@@ -43,7 +43,8 @@ ends-apart : (h : MessageHead) (a s n : ℕ) (m : Msg) → h ≡ headIn a s n m 
 unfolding headOf
 ends-apart h a s n m e f z = f (rw (e, z))
 
-module _ {sites : ℕ} {w : World} {p : Protocol} (r : Refines sites w p) (i : Invariant sites p) (f : Phases p) (s : ℕ) (out m : List ℕ) where
+module _ {sites : ℕ} {w : World} {p : Protocol} (r : Refines sites w p) (i : Invariant sites p) (f : Phases p) (s : ℕ)
+    (out m : List ℕ) where
   abbrev site : Site
   site = w .site s
 
@@ -63,7 +64,8 @@ module _ {sites : ℕ} {w : World} {p : Protocol} (r : Refines sites w p) (i : I
       let d = next-clear (head .to) (site .counters .own) (head .channel) (getD (site .channels .taken) (head .from - 1) 0) k in
       let (l, h) = inside r s (handed-site site lists (c .valid)) in
       let a = arrives i s (r .site s l h) m (posted r i s out m handed (c .formed)) (d .here) (d .in-order) in
-      let apart = ends-apart head (a .from) s (a .number) (a .message) (a .head) (head-clear (site .house) head (passed-good (site .house) m (c .formed) .head) .ends .apart) in
+      let apart = ends-apart head (a .from) s (a .number) (a .message) (a .head)
+      (head-clear (site .house) head (passed-good (site .house) m (c .formed) .head) .ends .apart) in
       rw (a .head, a .entries) (takes-on i f s (a .from) (a .number) (r .site s l h) (a .message) (a .next) apart)
 
   message-goes : Handed w (world.message s out m) → GoesOn (messageOf site (length out) lists m)
@@ -72,16 +74,19 @@ module _ {sites : ℕ} {w : World} {p : Protocol} (r : Refines sites w p) (i : I
       let code = arrivalCode (handedOk site lists) (length out) (messageOk (site .house) m) in
       let late = nextCode (head .to) (site .counters .own) (head .channel) (getD (site .channels .taken) (head .from - 1) 0) in
       by-code GoesOn code site lists (messageAt site lists m)
-      (λ e. by-code GoesOn late site lists (takeKind (head .kind) site head (messageEntries m) lists (placeOf (site .live) (head .tx))) (next-goes handed e)
+      (λ e. by-code GoesOn late site lists (takeKind (head .kind) site head (messageEntries m) lists (placeOf (site .live) (head .tx)))
+      (next-goes handed e)
       (refused-goes late site lists (next-other _ _ _ _)))
       (refused-goes code site lists (arrival-other _ _ _))
 
 -- What was sent, after a call.
-known-sent : (w : World) (s : ℕ) (e : Effect) (base : List Value) (lent : List ℕ) → All Known (w .sent) → Made Known (e .words) → All Known (siteStep w s e base lent .world .sent)
+known-sent : (w : World) (s : ℕ) (e : Effect) (base : List Value) (lent : List ℕ) → All Known (w .sent) → Made Known (e .words)
+    → All Known (siteStep w s e base lent .world .sent)
 unfolding siteStep
 known-sent w s e base lent k n = all-append k (made-in n)
 
-call-known : {sites : ℕ} {w : World} {p : Protocol} → Refines sites w p → Invariant sites p → Phases p → (c : Call) → Handed w c → All Known (w .sent) → All Known (step w c .world .sent)
+call-known : {sites : ℕ} {w : World} {p : Protocol} → Refines sites w p → Invariant sites p → Phases p → (c : Call) → Handed w c
+    → All Known (w .sent) → All Known (step w c .world .sent)
 unfolding step logStep mergeStep mergerStep replayStep copyStep
 call-known {w = w} r i f (world.begin s) h k = known-sent w s _ _ _ k (begin-writes (w .site s) .known)
 call-known {w = w} r i f (world.enlist s out t n) h k = known-sent w s _ _ _ k (enlist-writes (w .site s) (length out) t n .known)

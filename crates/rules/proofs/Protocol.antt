@@ -178,7 +178,8 @@ withCourseAt p s t c = withLive p s t (withCourse (p .live s t) c)
 
 -- entry j of a list is for u, names at least the sites of `mask`, and is marked where it should be
 abbrev pub ListedAt : List ℕ → ℕ → ℕ → Bool → ℕ → Type 0
-ListedAt es u mask d j = (entryTx es j ≡ u) × ((r : ℕ) → inMask mask r ≡ true → inMask (entryMask es j) r ≡ true) × (d ≡ true → entryMark es j ≡ 1)
+ListedAt es u mask d j = (entryTx es j ≡ u) × ((r : ℕ) → inMask mask r ≡ true → inMask (entryMask es j) r ≡ true)
+    × (d ≡ true → entryMark es j ≡ 1)
 
 abbrev pub Listed : List ℕ → ℕ → ℕ → Bool → Type 0
 Listed es u mask d = (j : ℕ) × (j < entryCount es) × ListedAt es u mask d j
@@ -193,7 +194,8 @@ pub record Covers (p : Protocol) (s t : ℕ) (es : List ℕ) : Type 0 where
   pub prepared : (u : ℕ) → (u ≡ t → ⊥) → isPrepared (p .live s u) ≡ true
       → Listed es u (courseAt p s u .mask) (dependent (p .live s t .keys) (p .live s u .keys))
   pub installed : (i : ℕ) → p .live s t .snapshot .installs ≤ i → i < length (inst p s)
-      → Listed es (getD (inst p s) i pastEntry .tx) (getD (inst p s) i pastEntry .mask) (dependent (p .live s t .keys) (getD (inst p s) i pastEntry .keys))
+      → Listed es (getD (inst p s) i pastEntry .tx) (getD (inst p s) i pastEntry .mask)
+      (dependent (p .live s t .keys) (getD (inst p s) i pastEntry .keys))
 
 -- a yes of t's at s on a list: an entry that names s and was installed within the snapshot is unmarked and not dependent here
 abbrev pub Certified : Protocol → ℕ → ℕ → List ℕ → Type 0
@@ -212,7 +214,9 @@ LeastQueued p s t = (u : ℕ) → isQueued (p .live s u) ≡ true → queuedBefo
 
 -- the clock, an open mark, or a decided number less 1
 abbrev pub Bound : Protocol → ℕ → ℕ → Type 0
-Bound p s n = (n ≡ p .clock s) ⊎ (((u : ℕ) × AtStage p s u stage.queued × (n ≡ courseAt p s u .number)) ⊎ ((u : ℕ) × AtStage p s u stage.decided × (n ≡ courseAt p s u .number - 1)))
+Bound p s n = (n ≡ p .clock s)
+    ⊎ (((u : ℕ) × AtStage p s u stage.queued × (n ≡ courseAt p s u .number))
+    ⊎ ((u : ℕ) × AtStage p s u stage.decided × (n ≡ courseAt p s u .number - 1)))
 
 -- the state number at s: at most the clock, each open mark, and below each decided number, and one of these
 pub record StateAt (p : Protocol) (s n : ℕ) : Type 0 where
@@ -247,7 +251,8 @@ pub data Move (sites : ℕ) (p : Protocol) : Protocol → Type 0 where
   begin : (s t : ℕ) → 1 ≤ s → s ≤ sites → p .serial s < sizes.lastSerial → t ≡ txOf s (p .serial s + 1)
       → Move sites p (beganAt (set-serial (upd (p .serial) s (p .serial s + 1)) p) s t (maskOf s))
   -- enlist of site r
-  enlist : (s t r : ℕ) → coordinatorOf t ≡ s → AtStage p s t stage.active → 1 ≤ r → r ≤ sites → (r ≡ s → ⊥) → inMask (courseAt p s t .mask) r ≡ false
+  enlist : (s t r : ℕ) → coordinatorOf t ≡ s → AtStage p s t stage.active → 1 ≤ r → r ≤ sites → (r ≡ s → ⊥)
+      → inMask (courseAt p s t .mask) r ≡ false
       → Move sites p (posted (withCourseAt p s t (withParticipant (courseAt p s t) r)) s r (mJoin t))
   -- a read or a write of an active part: what it wrote more was written by no other live part, nor installed after the snapshot
   access : (s t : ℕ) (b : Keys) (fs : List Fact) → AtStage p s t stage.active → Accessed sites s t (p .live s t .keys) b fs
@@ -311,12 +316,14 @@ pub data Move (sites : ℕ) (p : Protocol) : Protocol → Type 0 where
       s a (mConc t es))
   lost : (a s t n mask r : ℕ) → Next p a s (mPrepare t n mask) → AtStage p s t stage.active → (r ≡ 0 → ⊥)
       → Move sites p
-      (posted (withCourseAt (raised (took p a s) s n) s t (withStage (courseAt p s t) mask stage.rejected)) s a (mVote t (max (p .clock s) n) r))
+      (posted (withCourseAt (raised (took p a s) s n) s t (withStage (courseAt p s t) mask stage.rejected)) s a
+      (mVote t (max (p .clock s) n) r))
   unknown : (a s t n mask r : ℕ) → Next p a s (mPrepare t n mask) → AtStage p s t stage.free → (r ≡ 0 → ⊥)
       → Move sites p (posted (raised (took p a s) s n) s a (mVote t (max (p .clock s) n) r))
   gathers : (a s t : ℕ) (es : List ℕ) → Next p a s (mConc t es) → AtStage p s t stage.prepared → isOutstanding (courseAt p s t) a ≡ true
       → Move sites p
-      (withCourseAt (set-gathered (upd (p .gathered) t (p .gathered t ++ es)) (took p a s)) s t (withReply (courseAt p s t) a 0 (entryCount es)))
+      (withCourseAt (set-gathered (upd (p .gathered) t (p .gathered t ++ es)) (took p a s)) s t
+      (withReply (courseAt p s t) a 0 (entryCount es)))
   certified : (a s t : ℕ) (es : List ℕ) → Next p a s (mCert t es) → AtStage p s t stage.prepared → Certified p s t es
       → Move sites p
       (posted
@@ -326,7 +333,8 @@ pub data Move (sites : ℕ) (p : Protocol) : Protocol → Type 0 where
       s a (mVote t (p .clock s) 0))
   rejects : (a s t r : ℕ) (es : List ℕ) → Next p a s (mCert t es) → AtStage p s t stage.prepared → (r ≡ 0 → ⊥)
       → Move sites p
-      (posted (withCourseAt (took p a s) s t (withStage (courseAt p s t) (courseAt p s t .mask) stage.rejected)) s a (mVote t (p .clock s) r))
+      (posted (withCourseAt (took p a s) s t (withStage (courseAt p s t) (courseAt p s t .mask) stage.rejected)) s a
+      (mVote t (p .clock s) r))
   votes : (a s t n : ℕ) → Next p a s (mVote t n 0) → AtStage p s t stage.queued → isOutstanding (courseAt p s t) a ≡ true
       → Move sites p (withCourseAt (raised (took p a s) s n) s t (withReply (courseAt p s t) a 0 0))
   commits : (a s t n : ℕ) → Next p a s (mCommit t n) → AtStage p s t stage.queued

@@ -60,7 +60,8 @@ low-key : (sites k s : ℕ) → home sites k ≡ s → s ≤ sizes.sites → k <
 unfolding siteOf
 low-key sites k s e h = omega arith
 
-module _ {sites : ℕ} {w : World} {p : Protocol} (r : Refines sites w p) (i : Invariant sites p) (b : BasesAre sites w p) (s t k : ℕ) (v : Value) where
+module _ {sites : ℕ} {w : World} {p : Protocol} (r : Refines sites w p) (i : Invariant sites p) (b : BasesAre sites w p) (s t k : ℕ)
+    (v : Value) where
   abbrev site : Site
   site = w .site s
 
@@ -74,7 +75,8 @@ module _ {sites : ℕ} {w : World} {p : Protocol} (r : Refines sites w p) (i : I
   own : (a : Reaches r s t k) → subAt site spot .keys ≡ p .keys s t
   own a = ap (λ (b : Sub). b .keys) (a .part) ∙ i .parts .keys s t (held a)
 
-  reads-own : Reaches r s t k → wroteKey (subAt site spot .keys) k ≡ true → wroteValue (subAt site spot .keys) k ≡ v → ReadIs sites p s t k v
+  reads-own : Reaches r s t k → wroteKey (subAt site spot .keys) k ≡ true → wroteValue (subAt site spot .keys) k ≡ v
+      → ReadIs sites p s t k v
   reads-own a f e = record { has = i .parts .has s t (held a); lives = a .home; value = inl (rw (← own a) f, rw (← own a) e) }
 
   -- the version is what the installs within the snapshot leave
@@ -90,7 +92,8 @@ module _ {sites : ℕ} {w : World} {p : Protocol} (r : Refines sites w p) (i : I
       (b s k (a .low) (a .high) (low-key sites k s (a .home) (omega (arith, r .few, a .high)))))
 
   reads-seen : Reaches r s t k → wroteKey (subAt site spot .keys) k ≡ false
-      → readCode (isForgotten (site .counters .installs) (subAt site spot .snapshot)) (readKey (subAt site spot .keys) k) (subAt site spot .keys .read) ≡ 0
+      → readCode (isForgotten (site .counters .installs) (subAt site spot .snapshot)) (readKey (subAt site spot .keys) k)
+      (subAt site spot .keys .read) ≡ 0
       → readVersion site (w .base s) spot k .answer ≡ Found v → ReadIs sites p s t k v
   unfolding readVersion
   reads-seen a f c e =
@@ -122,7 +125,8 @@ module _ {sites : ℕ} {w : World} {p : Protocol} (r : Refines sites w p) (i : I
 last-wrote : {b : List Fact} {t k : ℕ} {v : Value} → LastWrite b t k v → Wrote b t k
 last-wrote {v = v} (p, q, e, n) = (v, rw e (is-behind p here))
 
-module _ {sites : ℕ} {p : Protocol} {b : List Fact} (few : sites ≤ 8) (i : Invariant sites p) (x : Booked sites b p) (s t k : ℕ) (h : p .has s t ≡ true) (e : home sites k ≡ s) where
+module _ {sites : ℕ} {p : Protocol} {b : List Fact} (few : sites ≤ 8) (i : Invariant sites p) (x : Booked sites b p) (s t k : ℕ)
+    (h : p .has s t ≡ true) (e : home sites k ≡ s) where
   inside : (j : ℕ) → j < p .snap s t → j < length (inst p s)
   inside j l = omega (arith, i .parts .low s t h)
 
@@ -145,7 +149,8 @@ module _ {sites : ℕ} {p : Protocol} {b : List Fact} (few : sites ≤ 8) (i : I
       (λ (q : j < m).
       let a′ = rw (i .parts .entry-keys s j (omega arith)) at a in
       let c′ = rw (i .parts .entry-keys s m n) at c in
-      let z = seen-lower i s (at p s m .tx) (at p s j .tx) (i .account .entry s m n .1) (j, (omega arith, refl), i .writers .seen s j m k q n a′ c′) in
+      let z = seen-lower i s (at p s m .tx) (at p s j .tx) (i .account .entry s m n .1)
+      (j, (omega arith, refl), i .writers .seen s j m k q n a′ c′) in
       omega (arith, low few i x (at p s j .tx) (i .account .entry s j (omega arith) .1)))
       (eq-or-lt-of-le l)
 
@@ -168,7 +173,8 @@ module _ {sites : ℕ} {p : Protocol} {b : List Fact} (few : sites ≤ 8) (i : I
         let nw = i .account .entry s j (inside j l) .1 in
         let first : o ≤ j = by-order j o (λ a′. absurd (set-not _ r (last o a′ a))) (λ a′. a′) in
         let rank = rw y at (higher o j first (inside j l) r w) in
-        rw (← f, ← g, ← eu, ← cu) (up-to (p .num writer) (coordinatorOf writer) (p .num u) (coordinatorOf u) (low few i x writer nw) (low few i x u nu) rank)
+        rw (← f, ← g, ← eu, ← cu)
+        (up-to (p .num writer) (coordinatorOf writer) (p .num u) (coordinatorOf u) (low few i x writer nw) (low few i x u nu) rank)
 
     left-last : SeenLeft b s t k v
     left-last =
@@ -181,9 +187,12 @@ module _ {sites : ℕ} {p : Protocol} {b : List Fact} (few : sites ≤ 8) (i : I
       inl ((λ u n c z. let (j, l, y, w) = saw-at u n c z in set-not _ w (none j (omega arith) l)), q ∙ left-none (at p s) k)
   seen-left v (inr (j, z, l, w, q, last)) = left-last v j l w q last
 
-pub read-left : {sites : ℕ} {p : Protocol} {b : List Fact} → sites ≤ 8 → Invariant sites p → Booked sites b p → (s t k : ℕ) (v : Value) → ReadIs sites p s t k v → ReadLeft b s t k v
+pub read-left : {sites : ℕ} {p : Protocol} {b : List Fact} → sites ≤ 8 → Invariant sites p → Booked sites b p → (s t k : ℕ) (v : Value)
+    → ReadIs sites p s t k v → ReadLeft b s t k v
 read-left {p = p} {b = b} few i x s t k v r = go (r .value)
   where
-    go : ((wroteKey (p .keys s t) k ≡ true) × (wroteValue (p .keys s t) k ≡ v)) ⊎ ((wroteKey (p .keys s t) k ≡ false) × LastSince (at p s) k 0 (p .snap s t) v) → ReadLeft b s t k v
+    go : ((wroteKey (p .keys s t) k ≡ true) × (wroteValue (p .keys s t) k ≡ v))
+        ⊎ ((wroteKey (p .keys s t) k ≡ false) × LastSince (at p s) k 0 (p .snap s t) v) → ReadLeft b s t k v
     go (inl (w, e)) = inl (rw e at (x .writes .last s t k (r .has) w .1))
-    go (inr (f, l)) = inr ((λ w. set-not _ (wrote-here few i x s t k (r .has) (r .lives) t w) f), seen-left few i x s t k (r .has) (r .lives) v l)
+    go (inr (f, l)) =
+        inr ((λ w. set-not _ (wrote-here few i x s t k (r .has) (r .lives) t w) f), seen-left few i x s t k (r .has) (r .lives) v l)

@@ -30,7 +30,8 @@ record Reads (sites : ℕ) (w : World) (v : Stream) : Type 0 where
   bases : BasesAre sites w (v .protocol)
 
 -- After some steps that lead to the world x.
-module _ {sites : ℕ} {w x : World} {v u : Stream} (few : sites ≤ 8) (i : StreamIs sites w v) (z : Standing sites v) (r : Reads sites w v) (ss : Steps sites v u)
+module _ {sites : ℕ} {w x : World} {v u : Stream} (few : sites ≤ 8) (i : StreamIs sites w v) (z : Standing sites v) (r : Reads sites w v)
+    (ss : Steps sites v u)
     (y : StreamIs sites x u) where
   once-after : KeysStay sites x (toldSteps ss) → WritesOnce (u .protocol)
   once-after (inl n) = writes-steps few z ss n (r .once)
@@ -53,7 +54,9 @@ call-reads few w v u c h i z ss e j m =
 -- nothing is forgotten of no installs
 bases-fresh : (sites : ℕ) → BasesAre sites (freshWorld sites) freshProtocol
 unfolding freshWorld freshProtocol forgotten
-bases-fresh sites s k l h low = rw (fresh-table (startCode sites s sizes.keys sizes.lists) sizes.keys) (getD-replicate {A = ℕ} sizes.keys k 0 0 low ∙ sym (left-none _ k))
+bases-fresh sites s k l h low =
+    rw (fresh-table (startCode sites s sizes.keys sizes.lists) sizes.keys)
+    (getD-replicate {A = ℕ} sizes.keys k 0 0 low ∙ sym (left-none _ k))
 
 fresh-reads : (sites : ℕ) → Reads sites (freshWorld sites) freshStream
 unfolding freshStream
@@ -63,4 +66,5 @@ pub reads-right : ReadsRight
 unfolding ReadsRight
 reads-right sites calls some few lawful s t k v e =
     let x = list-stands (Reads sites) few (call-reads few) some (fresh-reads sites) calls lawful in
-    read-left few (x .standing .invariant) (x .booked) s t k v (read-is (x .is .refines) (x .standing .invariant) (x .more .bases) s t k v e)
+    read-left few (x .standing .invariant) (x .booked) s t k v
+    (read-is (x .is .refines) (x .standing .invariant) (x .more .bases) s t k v e)

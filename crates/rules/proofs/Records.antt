@@ -79,21 +79,28 @@ module _ {sites : ℕ} {w : World} {b : List Fact} (x : Stands (Climbs sites) si
       let o : length (w .log s) ≡ length (p .log s) = ap length (x .is .refines .log s) ∙ length-map (p .log s) (recWords s) in
       let t : m .took s ≡ length (p .log s) = sym (x .is .merged s) ∙ e ∙ o in
       let z = all-at (y .below) (rState 0) i (omega (arith, length-take-le (m .took s) (p .log s) (y .count))) in
-      let j : NotAbove (m .last s) (m .state s) (rState (recordHead (getD (w .log s) i []) .number)) = rw (getD-take (m .took s) (p .log s) i (rState 0) (omega arith), q) at z in
+      let j : NotAbove (m .last s) (m .state s) (rState (recordHead (getD (w .log s) i []) .number)) =
+      rw (getD-take (m .took s) (p .log s) i (rState 0) (omega arith), q) at z in
       (t, omega arith)
 
   in-stream : (t : ℕ) → Out m t → InStream w t
   in-stream t (j, l, e) =
       let c : j < length (map (itemWords sites) (m .out)) = omega (arith, length-map (m .out) (itemWords sites)) in
       let q = map-at (itemWords sites) (m .out) pastItem j c .1 in
-      rw (x .is .emitted) (j, c, ap (λ (ws : List ℕ). recordHead ws .tx) q ∙ ap (λ (h : RecordHead). h .tx) (item-head sites (getD (m .out) j pastItem)) ∙ e)
+      rw (x .is .emitted) (
+        j,
+        c,
+        ap (λ (ws : List ℕ). recordHead ws .tx) q
+            ∙ ap (λ (h : RecordHead). h .tx) (item-head sites (getD (m .out) j pastItem)) ∙ e,
+      )
 
   -- more items than ranks up to t's: it is one of them
   many-out : (t : ℕ) → 0 < p .num t → rank (p .num t) (coordinatorOf t) < length (w .stream) → Out m t
   many-out t n h =
       let o : length (w .stream) ≡ length (m .out) = ap length (x .is .emitted) ∙ length-map (m .out) (itemWords sites) in
       let j = length (m .out) - 1 in
-      x .standing .streamed .whole t j n (omega arith) (omega (arith, rank-index (x .standing .invariant) (x .standing .streamed) j (omega arith)))
+      x .standing .streamed .whole t j n (omega arith)
+      (omega (arith, rank-index (x .standing .invariant) (x .standing .streamed) j (omega arith)))
 
 -- an emit leaves the logs, and what was taken of them
 emit-drained : (sites : ℕ) (w : World) (n : ℕ) (out : List ℕ) → Drained sites w n → Drained sites (step w (world.emit out) .world) n
@@ -101,7 +108,8 @@ unfolding step mergerStep
 emit-drained sites w n out d = d
 
 -- emits, until t is out: the stream grows by each of them, and has at most as many items below t as t's rank
-drain : {sites : ℕ} → sites ≤ 8 → (f : ℕ) {w : World} {b : List Fact} (n t k c : ℕ) (out : List ℕ) → Stands (Climbs sites) sites w b → Drained sites w n → Committed b t k c → k ≤ n
+drain : {sites : ℕ} → sites ≤ 8 → (f : ℕ) {w : World} {b : List Fact} (n t k c : ℕ) (out : List ℕ) → Stands (Climbs sites) sites w b
+    → Drained sites w n → Committed b t k c → k ≤ n
     → sizes.merged ≤ length out → rank k c < length (w .stream) + f → (j : ℕ) × InStream (run w (replicate j (world.emit out))) t
 unfolding run
 drain few zero n t k c out x d h u room l =
@@ -109,11 +117,14 @@ drain few zero n t k c out x d h u room l =
     (0, in-stream x t (many-out x t y (omega arith)))
 drain {sites} few (suc f) {w} n t k c out x d h u room l =
     let (y, q, e) = x .booked .commits .commit t k c h in
-    go (λ g. drain few f n t k c out (call-stands (Climbs sites) few (call-climbs few) (world.emit out) tt x) (emit-drained sites w n out d) (is-kept _ h) u room (omega arith))
+    go (λ g. drain few f n t k c out (call-stands (Climbs sites) few (call-climbs few) (world.emit out) tt x) (emit-drained sites w n out d)
+    (is-kept _ h) u room (omega arith))
     (emit-drains (x .is) (x .standing) n (drained-at x n d) t y (omega arith) out room)
   where
-    go : (length (step w (world.emit out) .world .stream) ≡ length (w .stream) + 1 → (j : ℕ) × InStream (run (step w (world.emit out) .world) (replicate j (world.emit out))) t)
-        → Out (x .stream .merger) t ⊎ (length (step w (world.emit out) .world .stream) ≡ length (w .stream) + 1) → (j : ℕ) × InStream (run w (replicate j (world.emit out))) t
+    go : (length (step w (world.emit out) .world .stream) ≡ length (w .stream) + 1
+        → (j : ℕ) × InStream (run (step w (world.emit out) .world) (replicate j (world.emit out))) t)
+        → Out (x .stream .merger) t ⊎ (length (step w (world.emit out) .world .stream) ≡ length (w .stream) + 1)
+        → (j : ℕ) × InStream (run w (replicate j (world.emit out))) t
     go r (inl o) = (0, in-stream x t o)
     go r (inr g) = let (j, i) = r g in (suc j, i)
 

@@ -39,21 +39,25 @@ use Rattle.rules.proofs.Tables.{a-nil, row-same, row-other}
 use Rattle.rules.proofs.Protocol.{Protocol, inst, Accessed, access, stop, more}
 use Rattle.rules.proofs.Protocol as protocol
 use Rattle.rules.proofs.Invariants.{at}
-use Rattle.rules.proofs.KeysTold.{read-wrote, read-value, read-sized, read-kept, read-new, write-reads, write-sized, Sets, again-wrote, again-sets, first-kept, first-new, first-sets}
+use Rattle.rules.proofs.KeysTold.{read-wrote, read-value, read-sized, read-kept, read-new, write-reads, write-sized, Sets}
+use Rattle.rules.proofs.KeysTold.{again-wrote, again-sets, first-kept, first-new, first-sets}
 use Rattle.rules.proofs.Refines.{IsFree, Sized, LiveIs, HistoryIs, Refines}
 use Rattle.rules.proofs.RefineLive.{place-held, place-spot}
 use Rattle.rules.proofs.RefineSite.{site-sub}
 use Rattle.rules.proofs.RefineStep.{Follows, toldBy, by-code, grows-none, inside, stays, site-step}
 
 -- Nobody else holds a key: no part at another place,
-key-free : (live : List Sub) (row : ℕ → Sub) (t k : ℕ) → LiveIs live row → placeOf live t < sizes.live → keyHeld live (placeOf live t) k ≡ false
+key-free : (live : List Sub) (row : ℕ → Sub) (t k : ℕ) → LiveIs live row → placeOf live t < sizes.live
+    → keyHeld live (placeOf live t) k ≡ false
     → (u : ℕ) → (u ≡ t → ⊥) → (IsFree (row u) → ⊥) → wroteKey (row u .keys) k ≡ false
 unfolding keyHeld otherHolds
 key-free live row t k l h e u n f =
     let (i, m, q, x) = l .found u f in
     let (y, g, z) = place-held l t h in
     let o : (i ≡ placeOf live t → ⊥) = λ c. n (sym x ∙ ap (λ (j : ℕ). partAt live j .tx) c ∙ ap (λ (b : Sub). b .tx) y ∙ z) in
-    let a = any-below-none (λ j. every (not (eqb j (placeOf live t)) ∷ not (eqb (partAt live j .course .stage) stage.free) ∷ wroteKey (partAt live j .keys) k ∷ [])) sizes.live i e m in
+    let a = any-below-none
+    (λ j. every (not (eqb j (placeOf live t)) ∷ not (eqb (partAt live j .course .stage) stage.free) ∷ wroteKey (partAt live j .keys) k
+    ∷ [])) sizes.live i e m in
     let d = rw (q, ne-eqb i (placeOf live t) o, ne-eqb (row u .course .stage) stage.free f) at a in
     sym (pick-self (wroteKey (row u .keys) k)) ∙ d
 
@@ -66,7 +70,8 @@ key-latest history es p k x f e i l h =
     let j = i - forgotten (length es) in
     let o : forgotten (length es) + j ≡ i = omega arith in
     let m : j < remembered (length es) = omega arith in
-    let a = any-below-none (λ j. pick (leb (within (length es) p) j) (wroteKey (recall history (length es) j .keys) k) false) (remembered (length es)) j e m in
+    let a = any-below-none (λ j. pick (leb (within (length es) p) j) (wroteKey (recall history (length es) j .keys) k) false)
+    (remembered (length es)) j e m in
     let d = rw (le-leb (within (length es) p) j (omega arith), x .recalls j m, o) at a in
     d
 
@@ -101,7 +106,8 @@ module _ {sites : ℕ} {w : World} {p : Protocol} (r : Refines sites w p) (s t :
               gathered = λ n m. refl;
             })
             e (w .base s) (w .lists s)
-            (rw es (site-sub y place t c (place-spot (y .live) t held) (λ n. (o, z)) (λ n m. absurd (omega (arith, active, n))) (row-same (p .live) s t c)))
+            (rw es (site-sub y place t c (place-spot (y .live) t held) (λ n. (o, z)) (λ n m. absurd (omega (arith, active, n)))
+            (row-same (p .live) s t c)))
             (grows-none (p .post)) (λ j. refl) (rw ws a-nil),
       )
 
@@ -126,7 +132,8 @@ module _ {sites : ℕ} {w : World} {p : Protocol} (r : Refines sites w p) (s t k
     pub history : HistoryIs (here .history) (inst p s)
     pub live : LiveIs (here .live) (p .live s)
 
-  pub reaches : (room : ℕ) → accessCode (siteOk here) room (here .house) (here .counters .own) k spot (stageAt (here .live) spot) ≡ 0 → Reaches
+  pub reaches : (room : ℕ)
+      → accessCode (siteOk here) room (here .house) (here .counters .own) k spot (stageAt (here .live) spot) ≡ 0 → Reaches
   reaches room e =
       let c = access-clear (siteOk here) room (here .house) (here .counters .own) k spot (stageAt (here .live) spot) e in
       let (l, h) = inside r s (c .valid) in
@@ -163,7 +170,9 @@ module _ {sites : ℕ} {w : World} {p : Protocol} (r : Refines sites w p) (s t k
       (λ j e. e) (λ j e g. absurd (set-not _ e g))
       owned (sym (ap (withSub here spot) (sym (a .part)) ∙ same)) refl
 
-  reads : Reaches → readCode (isForgotten (here .counters .installs) (subAt here spot .snapshot)) (readKey (subAt here spot .keys) k) (subAt here spot .keys .read) ≡ 0
+  reads : Reaches
+      → readCode (isForgotten (here .counters .installs) (subAt here spot .snapshot)) (readKey (subAt here spot .keys) k)
+      (subAt here spot .keys .read) ≡ 0
       → Goal (book.uses t k) (readVersion here (w .base s) spot k)
   unfolding readVersion settle turnAt
   reads a c =
@@ -171,7 +180,10 @@ module _ {sites : ℕ} {w : World} {p : Protocol} (r : Refines sites w p) (s t k
       let b = withRead own k in
       let same = read-wrote own k in
       let d = subAt here spot in
-      let room : readKey own k ≡ false → own .read < sizes.reads = rw (a .part) at (read-clear (isForgotten (here .counters .installs) (d .snapshot)) (readKey (d .keys) k) (d .keys .read) c .room) in
+      let room : readKey own k ≡ false
+      → own .read < sizes.reads =
+      rw (a .part) at
+      (read-clear (isForgotten (here .counters .installs) (d .snapshot)) (readKey (d .keys) k) (d .keys .read) c .room) in
       accesses r s t (a .low) (a .high) (a .held) (a .active) b (book.used t k ∷ []) (read-sized own k (a .sized))
       (protocol.reads k (a .home) (inl (read-new own k (a .sized) room)) (read-kept own k) (λ j. (same j, λ e. read-value own k j)))
       (λ j e. same j ∙ e) (λ j e f. absurd (set-not _ e (same j ∙ f)))
@@ -187,11 +199,13 @@ module _ {sites : ℕ} {w : World} {p : Protocol} (r : Refines sites w p) (s t k
       (λ e. let a = reaches (length (w .base s)) e in
       by-test (wroteKey (b .keys) k)
       (λ f. rw f (reads-own a f))
-      (λ f. rw f (by-code (Goal (book.uses t k)) late here [] (readVersion here (w .base s) spot k) (reads a) (stays r s (refused late here []) refl refl))))
+      (λ f. rw f (by-code (Goal (book.uses t k)) late here [] (readVersion here (w .base s) spot k) (reads a)
+      (stays r s (refused late here []) refl refl))))
       (stays r s (refused code here []) refl refl)
 
   -- Write: over an own write, or where nobody else holds the key and none was installed after the snapshot.
-  writes : (v : Value) → (a : Reaches) → Sets (p .live s t .keys) (withWrite (p .live s t .keys) k v) k v → ((j : ℕ) → wroteKey (p .live s t .keys) j ≡ true → wroteKey (withWrite (p .live s t .keys) k v) j ≡ true)
+  writes : (v : Value) → (a : Reaches) → Sets (p .live s t .keys) (withWrite (p .live s t .keys) k v) k v
+      → ((j : ℕ) → wroteKey (p .live s t .keys) j ≡ true → wroteKey (withWrite (p .live s t .keys) k v) j ≡ true)
       → ((j : ℕ) → wroteKey (withWrite (p .live s t .keys) k v) j ≡ true → wroteKey (p .live s t .keys) j ≡ false
       → ((u : ℕ) → (u ≡ t → ⊥) → (IsFree (p .live s u) → ⊥) → wroteKey (p .live s u .keys) j ≡ false)
       × ((i : ℕ) → p .live s t .snapshot .installs ≤ i → i < length (inst p s) → wroteKey (at p s i .keys) j ≡ false))
@@ -199,7 +213,8 @@ module _ {sites : ℕ} {w : World} {p : Protocol} (r : Refines sites w p) (s t k
   unfolding written settle turnAt quietly
   writes v a sets kept new =
       let own = p .live s t .keys in
-      accesses r s t (a .low) (a .high) (a .held) (a .active) (withWrite own k v) (book.used t k ∷ book.wrote t k v ∷ []) (write-sized own k v (a .sized))
+      accesses r s t (a .low) (a .high) (a .held) (a .active) (withWrite own k v) (book.used t k ∷ book.wrote t k v ∷ [])
+      (write-sized own k v (a .sized))
       (protocol.writes k v (a .home) (sets .wrote) (sets .value) (λ j e. write-reads own k v j ∙ e) (sets .others)) kept new
       (written here spot k v) (rw (a .part)) refl
 
@@ -207,24 +222,30 @@ module _ {sites : ℕ} {w : World} {p : Protocol} (r : Refines sites w p) (s t k
   rewrites v a f =
       let f′ : wroteKey (p .live s t .keys) k ≡ true = sym (ap (λ (b : Sub). wroteKey (b .keys) k) (a .part)) ∙ f in
       let same = again-wrote (p .live s t .keys) k v f′ in
-      writes v a (again-sets (p .live s t .keys) k v f′ (a .sized) (a .few)) (λ j e. same j ∙ e) (λ j e g. absurd (set-not _ e (same j ∙ g)))
+      writes v a (again-sets (p .live s t .keys) k v f′ (a .sized) (a .few)) (λ j e. same j ∙ e)
+      (λ j e g. absurd (set-not _ e (same j ∙ g)))
 
-  first : (v : Value) → Reaches → wroteKey (subAt here spot .keys) k ≡ false → writeCodeAt here spot k ≡ 0 → Goal (book.writes t k v) (written here spot k v)
+  first : (v : Value) → Reaches → wroteKey (subAt here spot .keys) k ≡ false → writeCodeAt here spot k ≡ 0
+      → Goal (book.writes t k v) (written here spot k v)
   unfolding writeCodeAt
   first v a f c =
       let b = subAt here spot in
       let own = p .live s t .keys in
-      let d = write-clear (isForgotten (here .counters .installs) (b .snapshot)) (keyHeld (here .live) spot k) (isNewer (here .history) (here .counters .installs) (b .snapshot) k) (b .keys .wrote) c in
+      let d = write-clear (isForgotten (here .counters .installs) (b .snapshot)) (keyHeld (here .live) spot k)
+      (isNewer (here .history) (here .counters .installs) (b .snapshot) k) (b .keys .wrote) c in
       let f′ : wroteKey own k ≡ false = sym (ap (λ (b : Sub). wroteKey (b .keys) k) (a .part)) ∙ f in
       let room : own .wrote < sizes.writes = omega (arith, ap (λ (b : Sub). b .keys .wrote) (a .part), d .room) in
       let kept : isForgotten (length (inst p s)) (p .live s t .snapshot) ≡ false = rw (← a .part, ← a .installs) (d .kept) in
-      let latest : isNewer (here .history) (length (inst p s)) (p .live s t .snapshot) k ≡ false = rw (← a .part, ← a .installs) (d .latest) in
+      let latest : isNewer (here .history) (length (inst p s)) (p .live s t .snapshot) k ≡ false =
+      rw (← a .part, ← a .installs) (d .latest) in
       let free = key-free (here .live) (p .live s) t k (a .live) (a .held) (d .free) in
       let old = key-latest (here .history) (inst p s) (p .live s t .snapshot) k (a .history) kept latest in
       writes v a (first-sets own k v (a .sized) room f′) (first-kept own k v (a .sized) room f′)
-      (λ j e g. ⊎-elim (λ (z : wroteKey own j ≡ true). absurd (set-not _ z g)) (λ (z : j ≡ k). rw z (free, old)) (first-new own k v (a .sized) room f′ j e))
+      (λ j e g. ⊎-elim (λ (z : wroteKey own j ≡ true). absurd (set-not _ z g)) (λ (z : j ≡ k). rw z (free, old))
+      (first-new own k v (a .sized) room f′ j e))
 
-  pub write-moves : (v : Value) → (let x = step w (world.write s t k v) in Follows sites p (x .world) (toldBy (world.write s t k v) (x .answer) (x .words)))
+  pub write-moves : (v : Value)
+      → (let x = step w (world.write s t k v) in Follows sites p (x .world) (toldBy (world.write s t k v) (x .answer) (x .words)))
   unfolding step siteStep writeOf writeAt
   write-moves v =
       let code = accessCode (siteOk here) sizes.keys (here .house) (here .counters .own) k spot (stageAt (here .live) spot) in
@@ -233,5 +254,6 @@ module _ {sites : ℕ} {w : World} {p : Protocol} (r : Refines sites w p) (s t k
       (λ e. let a = reaches sizes.keys e in
       by-test (wroteKey (subAt here spot .keys) k)
       (λ f. rw f (rewrites v a f))
-      (λ f. rw f (by-code (Goal (book.writes t k v)) late here [] (written here spot k v) (first v a f) (stays r s (refused late here []) refl refl))))
+      (λ f. rw f (by-code (Goal (book.writes t k v)) late here [] (written here spot k v) (first v a f)
+      (stays r s (refused late here []) refl refl))))
       (stays r s (refused code here []) refl refl)

@@ -33,7 +33,8 @@ pub record Acts (sites s : ℕ) (p q : Protocol) (x : Site) (base lists words : 
   pub made : Made (Posted (q .post)) words
 
 -- the call
-pub acts-follow : {sites : ℕ} {w : World} {p q : Protocol} {base lists : List ℕ} {facts : List Fact} (r : Refines sites w p) (s : ℕ) → 1 ≤ s → s ≤ sites → (e : Effect)
+pub acts-follow : {sites : ℕ} {w : World} {p q : Protocol} {base lists : List ℕ} {facts : List Fact} (r : Refines sites w p) (s : ℕ) → 1 ≤ s
+    → s ≤ sites → (e : Effect)
     → Acts sites s p q (e .site) base lists (e .words) facts → Follows sites p (siteStep w s e base lists .world) facts
 acts-follow {q = q} {base = base} {lists = lists} r s l h e a =
     (q, a .moves, a .tells, site-step r s l h (a .elsewhere) e base lists (a .site) (a .grows) (a .log) (made-in (a .made)))
@@ -43,7 +44,8 @@ pub moves-append : {sites : ℕ} {p q r : Protocol} → Moves sites p q → Move
 moves-append m stop = m
 moves-append m (more n k) = more (moves-append m n) k
 
-told-append : {sites : ℕ} {p q r : Protocol} (m : Moves sites p q) (n : Moves sites q r) → toldAll (moves-append m n) ≡ toldAll m ++ toldAll n
+told-append : {sites : ℕ} {p q r : Protocol} (m : Moves sites p q) (n : Moves sites q r)
+    → toldAll (moves-append m n) ≡ toldAll m ++ toldAll n
 unfolding moves-append
 told-append m stop = sym (append-nil (toldAll m))
 told-append m (more n k) = ap (λ (l : List Fact). l ++ told k) (told-append m n) ∙ append-assoc (toldAll m) (toldAll n) (told k)
@@ -87,15 +89,19 @@ pub others-elsewhere : (post : ℕ → ℕ → List Msg) (s mask : ℕ) (m : Msg
 unfolding others
 others-elsewhere post s mask m j k n = rw (ne-eqb j s n)
 
-pub members : {sites : ℕ} {p : Protocol} (s t : ℕ) → Invariant sites p → coordinatorOf t ≡ s → Held p s t → (r : ℕ) → In (courseAt p s t .mask) r → r ≤ sites
+pub members : {sites : ℕ} {p : Protocol} (s t : ℕ) → Invariant sites p → coordinatorOf t ≡ s → Held p s t → (r : ℕ)
+    → In (courseAt p s t .mask) r → r ≤ sites
 members s t i e h r k = i .posts .members t r (rw e h) (rw e k)
 
-module _ {sites : ℕ} (post : ℕ → ℕ → List Msg) (u : Turn) (answer : Answer) (s mask : ℕ) (m : Msg) {taken : ℕ → ℕ} (few : sites ≤ sizes.sites)
+module _ {sites : ℕ} (post : ℕ → ℕ → List Msg) (u : Turn) (answer : Answer) (s mask : ℕ) (m : Msg) {taken : ℕ → ℕ}
+    (few : sites ≤ sizes.sites)
     (own : u .counters .own ≡ s) (part : u .sub .course .mask ≡ mask) (c : ChannelsAre sites (u .channels) (post s) taken) where
   pub send-all-site : {x : Site} {base lists : List ℕ} {v : Slice} → v .taken ≡ taken → SiteIs sites s x base lists v
-      → SiteIs sites s (withChannels x (sendAll u answer (kindOf m) (clockIn m) (argumentIn m) (entriesIn m) .turn .channels)) base lists (post-in v (others post s mask m s))
+      → SiteIs sites s (withChannels x (sendAll u answer (kindOf m) (clockIn m) (argumentIn m) (entriesIn m) .turn .channels)) base lists
+      (post-in v (others post s mask m s))
   unfolding sendAll
-  send-all-site {v = v} e y = rw (own, part) (site-channels y _ (others post s mask m s) (v .taken) (rw e (channels-all post s mask m few c)))
+  send-all-site {v = v} e y =
+      rw (own, part) (site-channels y _ (others post s mask m s) (v .taken) (rw e (channels-all post s mask m few c)))
 
   pub send-all-made : Whole (entriesIn m) → ((r : ℕ) → In mask r → r ≤ sites) → u .sub .tx ≡ txIn m
       → Made (Posted (others post s mask m)) (sendAll u answer (kindOf m) (clockIn m) (argumentIn m) (entriesIn m) .words)

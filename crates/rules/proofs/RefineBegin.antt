@@ -39,11 +39,13 @@ module _ {sites : ℕ} {w : World} {p : Protocol} (r : Refines sites w p) (i : I
       let k = y .counters in
       let t = txOf s (p .serial s + 1) in
       let u : p .serial s < sizes.lastSerial = omega (arith, k .serial-is, c .unspent) in
-      let f : IsFree (p .live s t) = by-free (p .live s t) (λ z. z) (λ z. absurd (new-tx sites p s t (i .parts) u refl s (i .parts .has s t z))) in
+      let f : IsFree (p .live s t) =
+      by-free (p .live s t) (λ z. z) (λ z. absurd (new-tx sites p s t (i .parts) u refl s (i .parts .has s t z))) in
       let b = newSub t (maskOf s) (length (inst p s)) in
       let q = beganAt (set-serial (upd (p .serial) s (p .serial s + 1)) p) s t (maskOf s) in
       let spot = free-spot (y .live) t (c .free) f in
-      let n : newSub (txOf (x .counters .own) (x .counters .serial + 1)) (maskOf (x .counters .own)) (x .counters .installs) ≡ b = rw (k .own-is, k .serial-is, k .installs-are) in (
+      let n : newSub (txOf (x .counters .own) (x .counters .serial + 1)) (maskOf (x .counters .own)) (x .counters .installs) ≡ b =
+      rw (k .own-is, k .serial-is, k .installs-are) in (
         q,
         more stop (begin s t l h u refl),
         rw (k .own-is, k .serial-is),
@@ -58,8 +60,10 @@ module _ {sites : ℕ} {w : World} {p : Protocol} (r : Refines sites w p) (i : I
               gathered = λ z m. refl;
             })
             (changed x place (begun x) []) (w .base s) (w .lists s)
-            (site-sub (site-serial y (x .counters .serial + 1) (upd-same (p .serial) s (p .serial s + 1) ∙ ap (λ (z : ℕ). z + 1) (sym (k .serial-is)))) place t _
-            spot (rw n (λ z. new-sub t (maskOf s) (length (inst p s)))) (rw n (λ z m. absurd (omega (arith, new-stage t (maskOf s) (length (inst p s)))))) (rw n (row-same (p .live) s t b)))
+            (site-sub (site-serial y (x .counters .serial + 1)
+            (upd-same (p .serial) s (p .serial s + 1) ∙ ap (λ (z : ℕ). z + 1) (sym (k .serial-is)))) place t _
+            spot (rw n (λ z. new-sub t (maskOf s) (length (inst p s))))
+            (rw n (λ z m. absurd (omega (arith, new-stage t (maskOf s) (length (inst p s)))))) (rw n (row-same (p .live) s t b)))
             (grows-none (p .post)) (λ j. refl) a-nil,
       )
 

@@ -23,12 +23,14 @@ use Rattle.rules.proofs.RefineEmit.{emit-onward}
 use Rattle.rules.proofs.RefineReplay.{replay-onward, value-onward}
 
 module _ {sites : ℕ} {w : World} {v : Stream} (x : StreamIs sites w v) (z : Standing sites v) where
-  site-call : {fs : List Fact} (s : ℕ) (e : Effect) (base : List Value) (lists : List ℕ) → Follows sites (v .protocol) (siteStep w s e base lists .world) fs
+  site-call : {fs : List Fact} (s : ℕ) (e : Effect) (base : List Value) (lists : List ℕ)
+      → Follows sites (v .protocol) (siteStep w s e base lists .world) fs
       → Onward sites v (siteStep w s e base lists .world) fs
   unfolding siteStep
   site-call s e base lists f = site-onward x f refl refl refl refl refl refl
 
-  log-call : {fs : List Fact} (s : ℕ) (e : Effect) (base : List Value) → Follows sites (v .protocol) (logStep w s e base .world) fs → Onward sites v (logStep w s e base .world) fs
+  log-call : {fs : List Fact} (s : ℕ) (e : Effect) (base : List Value) → Follows sites (v .protocol) (logStep w s e base .world) fs
+      → Onward sites v (logStep w s e base .world) fs
   unfolding logStep
   log-call s e base f = site-onward x f refl refl refl refl refl refl
 

@@ -23,7 +23,8 @@ use Rattle.rules.specs.HistoryLaws.{all-installs}
 use Rattle.rules.specs.Join.{joined, joinTx, joinCount, listedOf}
 use Rattle.rules.specs.JoinLaws.{length-joined, of-mark, listed-from}
 use Rattle.rules.specs.Certify.{candidates, concurrent, voteOf}
-use Rattle.rules.specs.CertifyLaws.{concurrent-whole, lists-prepared, lists-installed, yes-clear, yes-recorded, recorded-is, candidates-marks}
+use Rattle.rules.specs.CertifyLaws.{concurrent-whole, lists-prepared, lists-installed, yes-clear, yes-recorded, recorded-is}
+use Rattle.rules.specs.CertifyLaws.{candidates-marks}
 use Rattle.rules.specs.EntryLaws.{Listing, Marks, joined-mark, joined-within}
 use Rattle.rules.proofs.Protocol.{Protocol, inst, Covers, Certified, Within, Listed}
 use Rattle.rules.proofs.Invariants.{Parts, at}
@@ -76,11 +77,13 @@ recalled-at history es p i x f l =
       after = λ h. omega arith;
     }
 
-pub recalled : (history es : List Entry) (n : ℕ) (p : Snapshot) (i : ℕ) → n ≡ length es → HistoryIs history es → forgotten n ≤ i → i < length es
+pub recalled : (history es : List Entry) (n : ℕ) (p : Snapshot) (i : ℕ) → n ≡ length es → HistoryIs history es → forgotten n ≤ i
+    → i < length es
     → Recalled history es n p i
 recalled history es n p i e x f l = rw e (recalled-at history es p i x (rw e at f) l)
 
-module _ {sites s t place : ℕ} {x : Site} {base words : List ℕ} {p : Protocol} (y : SiteIs sites s x base words (sliceOf p s)) (i : Parts sites p) (a : AtPlace x p s t place) where
+module _ {sites s t place : ℕ} {x : Site} {base words : List ℕ} {p : Protocol} (y : SiteIs sites s x base words (sliceOf p s))
+    (i : Parts sites p) (a : AtPlace x p s t place) where
   -- a part's transaction is not 0
   positive : (u : ℕ) → p .has s u ≡ true → 0 < u
   unfolding serialOf
@@ -89,7 +92,8 @@ module _ {sites s t place : ℕ} {x : Site} {base words : List ℕ} {p : Protoco
   abbrev installs : ℕ
   installs = x .counters .installs
 
-  kept-recalled : (k : ℕ) → forgotten installs ≤ k → k < length (inst p s) → Recalled (x .history) (inst p s) installs (subAt x place .snapshot) k
+  kept-recalled : (k : ℕ) → forgotten installs ≤ k → k < length (inst p s)
+      → Recalled (x .history) (inst p s) installs (subAt x place .snapshot) k
   kept-recalled k = recalled (x .history) (inst p s) installs (subAt x place .snapshot) k (y .counters .installs-are) (y .history)
 
   snapshot-is : subAt x place .snapshot .installs ≡ p .live s t .snapshot .installs

@@ -26,7 +26,8 @@ use Rattle.rules.specs.ValidLaws.{handed-site}
 use Rattle.rules.specs.Effect.{Effect, turnAt, refused, changed}
 use Rattle.rules.specs.Course.{sendAll, abortStep}
 use Rattle.rules.specs.Commit.{requestCode, commitCode, isFull, isLost, commitChange, commitLists, commitOf, abandonCode, abandonOf}
-use Rattle.rules.specs.CommitLaws.{commit-full, commit-lost, commit-request, request-lone, request-prepare, lists-kept, lists-lost, lists-made}
+use Rattle.rules.specs.CommitLaws.{commit-full, commit-lost, commit-request, request-lone, request-prepare, lists-kept, lists-lost}
+use Rattle.rules.specs.CommitLaws.{lists-made}
 use Rattle.rules.specs.CallLaws.{request-clear, commit-clear, abandon-clear}
 use Rattle.rules.specs.World.{World, step, siteStep}
 use Rattle.rules.specs.World as world
@@ -53,7 +54,8 @@ module _ {sites : ℕ} {w : World} {p : Protocol} (r : Refines sites w p) (i : I
 
   abandons : requestCode (siteOk here) (length out) spot (isMine here t) ≡ 0
       → abandonCode (course .stage) (countsLow (here .channels .sent) (course .mask) (here .counters .own)) ≡ 0
-      → Follows sites p (siteStep w s (changed here spot (abortStep (turnAt here spot) reason.abandoned) []) (w .base s) (w .lists s) .world) []
+      → Follows sites p
+      (siteStep w s (changed here spot (abortStep (turnAt here spot) reason.abandoned) []) (w .base s) (w .lists s) .world) []
   unfolding abortStep sendAll
   abandons e f =
       let c = request-clear (siteOk here) (length out) spot (isMine here t) e in
@@ -68,7 +70,8 @@ module _ {sites : ℕ} {w : World} {p : Protocol} (r : Refines sites w p) (i : I
   pub abandon-moves : Follows sites p (step w (world.abandon s out t) .world) []
   unfolding step abandonOf
   abandon-moves =
-      by-code (λ e. Follows sites p (siteStep w s e (w .base s) (w .lists s) .world) []) (requestCode (siteOk here) (length out) spot (isMine here t)) here [] _
+      by-code (λ e. Follows sites p (siteStep w s e (w .base s) (w .lists s) .world) [])
+      (requestCode (siteOk here) (length out) spot (isMine here t)) here [] _
       (λ e. by-code (λ e. Follows sites p (siteStep w s e (w .base s) (w .lists s) .world) [])
       (abandonCode (course .stage) (countsLow (here .channels .sent) (course .mask) (here .counters .own))) here []
       (changed here spot (abortStep (turnAt here spot) reason.abandoned) []) (abandons e) (stays r s _ refl refl))
@@ -93,11 +96,13 @@ module _ {sites : ℕ} {w : World} {p : Protocol} (r : Refines sites w p) (i : I
   not-full f = eqb-true _ _ (not-false _ f)
 
   commits : requestCode (handedOk site (w .lists s)) (length out) place (isMine site t) ≡ 0
-      → commitCode (stood .stage) (allHeard (site .counters .own) (stood .heard) (stood .mask)) (countsLow (site .channels .sent) (stood .mask) (site .counters .own)) ≡ 0
+      → commitCode (stood .stage) (allHeard (site .counters .own) (stood .heard) (stood .mask))
+      (countsLow (site .channels .sent) (stood .mask) (site .counters .own)) ≡ 0
       → Goal (changed site place (commitChange site place) (commitLists site (w .lists s) place))
   commits e f =
       let c = request-clear (handedOk site (w .lists s)) (length out) place (isMine site t) e in
-      let d = commit-clear (stood .stage) (allHeard (site .counters .own) (stood .heard) (stood .mask)) (countsLow (site .channels .sent) (stood .mask) (site .counters .own)) f in
+      let d = commit-clear (stood .stage) (allHeard (site .counters .own) (stood .heard) (stood .mask))
+      (countsLow (site .channels .sent) (stood .mask) (site .counters .own)) f in
       let valid = handed-site site (w .lists s) (c .valid) in
       let (l, h) = inside r s valid in
       let y = r .site s l h in
@@ -107,10 +112,13 @@ module _ {sites : ℕ} {w : World} {p : Protocol} (r : Refines sites w p) (i : I
       let active : AtStage p s t stage.active = sym (ap (λ (z : Course). z .stage) k) ∙ d .active in
       let early : AtStage p s t stage.decided → ⊥ = λ z. omega arith in
       by-test (isFull site place)
-      (λ full. rw (commit-full site place full, lists-kept site place (w .lists s) full) (acts-follow r s l h (changed site place (abortStep (turnAt site place) reason.full) (w .lists s)) (abort-acts (r .few) i mine y a reason.full early .1)))
+      (λ full. rw (commit-full site place full, lists-kept site place (w .lists s) full)
+      (acts-follow r s l h (changed site place (abortStep (turnAt site place) reason.full) (w .lists s))
+      (abort-acts (r .few) i mine y a reason.full early .1)))
       (λ full. by-test (isLost site place)
       (λ lost. rw (commit-lost site place full lost, lists-lost site place (w .lists s) full lost)
-      (acts-follow r s l h (changed site place (abortStep (turnAt site place) reason.uncertain) (w .lists s)) (abort-acts (r .few) i mine y a reason.uncertain early .1)))
+      (acts-follow r s l h (changed site place (abortStep (turnAt site place) reason.uncertain) (w .lists s))
+      (abort-acts (r .few) i mine y a reason.uncertain early .1)))
       (λ lost.
       let own = concurrent site place in
       let n = entryCount own in
@@ -126,14 +134,18 @@ module _ {sites : ℕ} {w : World} {p : Protocol} (r : Refines sites w p) (i : I
       (λ lone. rw (request-lone site place own n refl lone)
       (acts-follow r s l h (changed site place _ _)
       (lone-commit-acts (r .few) l i mine y a valid ready (heard-here (y .counters .own-is) k (λ z. 0) lone) .1)))
-      (λ more. rw (request-prepare site place own n refl more) (acts-follow r s l h (changed site place _ _) (prepare-acts (r .few) i mine y a valid ready))))))
+      (λ more. rw (request-prepare site place own n refl more)
+      (acts-follow r s l h (changed site place _ _) (prepare-acts (r .few) i mine y a valid ready))))))
 
-  pub commit-moves : let x = step w (world.commit s out t) in Follows sites p (x .world) (toldBy (world.commit s out t) (x .answer) (x .words))
+  pub commit-moves : let x = step w (world.commit s out t) in
+      Follows sites p (x .world) (toldBy (world.commit s out t) (x .answer) (x .words))
   unfolding step siteStep commitOf
   commit-moves =
       let code = requestCode (handedOk site (w .lists s)) (length out) place (isMine site t) in
-      let late = commitCode (stood .stage) (allHeard (site .counters .own) (stood .heard) (stood .mask)) (countsLow (site .channels .sent) (stood .mask) (site .counters .own)) in
+      let late = commitCode (stood .stage) (allHeard (site .counters .own) (stood .heard) (stood .mask))
+      (countsLow (site .channels .sent) (stood .mask) (site .counters .own)) in
       by-code Goal code site (w .lists s) _
       (λ e. by-code Goal late site (w .lists s)
-      (changed site place (commitChange site place) (commitLists site (w .lists s) place)) (commits e) (stays r s (refused late site (w .lists s)) refl refl))
+      (changed site place (commitChange site place) (commitLists site (w .lists s) place)) (commits e)
+      (stays r s (refused late site (w .lists s)) refl refl))
       (stays r s (refused code site (w .lists s)) refl refl)

@@ -56,10 +56,13 @@ reply-listed c a n = refl
 -- the protocol with the entries gathered
 abbrev pub gatherAt : Protocol → ℕ → ℕ → ℕ → List ℕ → Protocol
 gatherAt p s a t es =
-    withCourseAt (set-gathered (upd (p .gathered) t (p .gathered t ++ es)) (took p a s)) s t (withReply (courseAt p s t) a 0 (entryCount es))
+    withCourseAt (set-gathered (upd (p .gathered) t (p .gathered t ++ es)) (took p a s)) s t
+    (withReply (courseAt p s t) a 0 (entryCount es))
 
-module _ {sites : ℕ} (p : Protocol) (s a : ℕ) {t : ℕ} {x : Site} {base lists : List ℕ} (few : sites ≤ sizes.sites) (from : 1 ≤ s) (to : s ≤ sites) (low : 1 ≤ a) (high : a ≤ sites)
-    (i : Invariant sites p) (y : SiteIs sites s x base lists (sliceOf p s)) (place : ℕ) (A : AtPlace x p s t place) (valid : siteOk x ≡ true)
+module _ {sites : ℕ} (p : Protocol) (s a : ℕ) {t : ℕ} {x : Site} {base lists : List ℕ} (few : sites ≤ sizes.sites) (from : 1 ≤ s)
+    (to : s ≤ sites) (low : 1 ≤ a) (high : a ≤ sites)
+    (i : Invariant sites p) (y : SiteIs sites s x base lists (sliceOf p s)) (place : ℕ) (A : AtPlace x p s t place)
+    (valid : siteOk x ≡ true)
     (es : List ℕ) (whole : length es ≡ sizes.entry * entryCount es) (short : entryCount es ≤ sizes.concEntries) (marks : Marks es)
     (next : Next p a s (mConc t es)) (prepared : AtStage p s t stage.prepared) (out : isOutstanding (courseAt p s t) a ≡ true) where
   abbrev course : Course
@@ -73,7 +76,8 @@ module _ {sites : ℕ} (p : Protocol) (s a : ℕ) {t : ℕ} {x : Site} {base lis
   room =
       let c = valid-site x valid .part place (A .spot .low) .course in
       let own : inMask (course .heard) s ≡ false = rw (← y .counters .own-is) (c .others) in
-      let other : inMask (course .heard) a ≡ false = outstanding-unheard course a (ap (λ (c : Course). isOutstanding c a) (course-is A) ∙ out) in
+      let other : inMask (course .heard) a ≡ false =
+      outstanding-unheard course a (ap (λ (c : Course). isOutstanding c a) (course-is A) ∙ out) in
       by-order a s
       (λ l. omega (arith, c .listed, participants-lack-two (course .heard) a s (c .heard-low) low l (omega arith) other own))
       (λ l. by-order s a
@@ -97,7 +101,8 @@ module _ {sites : ℕ} (p : Protocol) (s a : ℕ) {t : ℕ} {x : Site} {base lis
       let k = course-is A in
       let tx : subAt x place .tx ≡ t = tx-of A in
       let old = y .lists .each place (A .spot .low) (ap (λ (c : Course). c .stage) k ∙ prepared) (ap coordinatorOf tx ∙ mine) in
-      list-more lists place (subAt x place) part (p .gathered t) es (entryCount es) (y .lists .size) (A .spot .low) (rw tx at old) room whole
+      list-more lists place (subAt x place) part (p .gathered t) es (entryCount es) (y .lists .size) (A .spot .low)
+      (rw tx at old) room whole
       (reply-listed (courseAt p s t) a (entryCount es) ∙ ap (λ (c : Course). c .listed + entryCount es) (sym k)) marks
 
   gather-acts : Acts sites s p (gatherAt p s a t es) (settle x place turn) base gatheredLists [] []
@@ -113,7 +118,8 @@ module _ {sites : ℕ} (p : Protocol) (s a : ℕ) {t : ℕ} {x : Site} {base lis
         history = y .history;
         lists =
             rw part-is
-            (lists-put place t part (sizes.gathered * place + sizes.entry * course .listed) es (p .gathered t ++ es) (y .lists) (y .live .size) (A .spot) (A .tx) (omega arith)
+            (lists-put place t part (sizes.gathered * place + sizes.entry * course .listed) es (p .gathered t ++ es) (y .lists)
+            (y .live .size) (A .spot) (A .tx) (omega arith)
             (omega (arith, room, whole)) (listed-few x valid) list-is);
         base-size = y .base-size;
       })
@@ -137,14 +143,17 @@ module _ {sites : ℕ} (p : Protocol) (s a : ℕ) {t : ℕ} {x : Site} {base lis
       let g = p .gathered t ++ es in
       let n = heard .listed in
       let k : n ≡ part .course .listed = ap (λ (c : Course). withReply c a 0 (entryCount es) .listed) (course-is A) in
-      let words : take (sizes.entry * n) (drop (sizes.gathered * place) gatheredLists) ≡ g = ap (λ (z : ℕ). take (sizes.entry * z) (drop (sizes.gathered * place) gatheredLists)) k ∙ list-is .words in
+      let words : take (sizes.entry * n) (drop (sizes.gathered * place) gatheredLists) ≡ g =
+      ap (λ (z : ℕ). take (sizes.entry * z) (drop (sizes.gathered * place) gatheredLists)) k ∙ list-is .words in
       let count : entryCount g ≡ n = whole-count g n (list-is .size ∙ ap (λ (z : ℕ). sizes.entry * z) (sym k)) in
-      let same : join ≡ joined g (entryCount g) = joined-take (drop (sizes.gathered * place) gatheredLists) n ∙ ap (λ (l : List ℕ). joined l n) words ∙ ap (joined g) (sym count) in
+      let same : join ≡ joined g (entryCount g) = joined-take (drop (sizes.gathered * place) gatheredLists) n
+      ∙ ap (λ (l : List ℕ). joined l n) words ∙ ap (joined g) (sym count) in
       rw same (join-within g (list-is .marks))
 
   -- the last list
   all-acts : allHeard (x .counters .own) (heard .heard) (heard .mask) ≡ true
-      → (let c = castStep turn (voteOf x place join (entryCount join)) join in (q : Protocol) × Acts sites s p q (settle x place (c .turn)) base gatheredLists (c .words) (book.commits t (c .answer)))
+      → (let c = castStep turn (voteOf x place join (entryCount join)) join in
+      (q : Protocol) × Acts sites s p q (settle x place (c .turn)) base gatheredLists (c .words) (book.commits t (c .answer)))
   all-acts all =
       let v = voteOf x place join (entryCount join) in
       let p1 = gatherAt p s a t es in
@@ -152,14 +161,19 @@ module _ {sites : ℕ} (p : Protocol) (s a : ℕ) {t : ℕ} {x : Site} {base lis
       let same : p1 .live s t ≡ part = upd₂-same (p .live) s t part in
       let new : courseAt p1 s t ≡ heard = ap (λ (b : Sub). b .course) (same ∙ sym part-is) in
       let there = settled-place x place turn long (A .spot .low) (gather-acts .site) turn-tx turn-held in
-      let stage1 : AtStage p1 s t stage.prepared = ap (λ (b : Sub). b .course .stage) same ∙ reply-stage (courseAt p s t) a 0 (entryCount es) ∙ prepared in
+      let stage1 : AtStage p1 s t stage.prepared = ap (λ (b : Sub). b .course .stage) same
+      ∙ reply-stage (courseAt p s t) a 0 (entryCount es) ∙ prepared in
       let within : Within (p1 .gathered t) join = rw (upd-same (p .gathered) t (p .gathered t ++ es)) join-all in
       let (q, two) = cast-acts few from (invariant-moves few (gather-acts .moves) i) mine (gather-acts .site) there stage1
-      (heard-here (y .counters .own-is) (sym new) (λ c. c .heard) all) v join (join-whole (drop (sizes.gathered * place) gatheredLists) (heard .listed)) within
-      (λ z. certified-course p p1 s t join refl (ap (λ (b : Sub). b .keys) same) (ap (λ (b : Sub). b .snapshot) same) (certifies y (i .parts) A join z)) in
+      (heard-here (y .counters .own-is) (sym new) (λ c. c .heard) all) v join
+      (join-whole (drop (sizes.gathered * place) gatheredLists) (heard .listed)) within
+      (λ z. certified-course p p1 s t join refl (ap (λ (b : Sub). b .keys) same) (ap (λ (b : Sub). b .snapshot) same)
+      (certifies y (i .parts) A join z)) in
       (q, acts-then gather-acts (rw (settled-turn x place turn long, settled-again x place turn (castStep turn v join .turn)) at two))
 
-  pub conc-acts : (let c = pick (allHeard (x .counters .own) (heard .heard) (heard .mask)) (castStep turn (voteOf x place join (entryCount join)) join) (quietly turn) in
+  pub conc-acts : (let c =
+      pick (allHeard (x .counters .own) (heard .heard) (heard .mask)) (castStep turn (voteOf x place join (entryCount join)) join)
+      (quietly turn) in
       (q : Protocol) × Acts sites s p q (settle x place (c .turn)) base gatheredLists (c .words) (book.commits t (c .answer)))
   unfolding quietly
   conc-acts = by-test (allHeard (x .counters .own) (heard .heard) (heard .mask)) (λ f. rw f (all-acts f)) (λ f. rw f (_, gather-acts))

@@ -63,7 +63,8 @@ fresh-merger sites a b =
     record {
       house = refl;
       holds = fresh-holds sites sizes.queues a b refl;
-      source = λ i l. rw (fresh-source sites i (omega arith)) (record { queued = refl; state-is = refl; last-is = refl; low = omega arith; words = λ j h. absurd (omega arith) });
+      source = λ i l. rw (fresh-source sites i (omega arith))
+          (record { queued = refl; state-is = refl; last-is = refl; low = omega arith; words = λ j h. absurd (omega arith) });
     }
 
 pub stream-fresh : (sites : ℕ) → 1 ≤ sites → sites ≤ 8 → StreamIs sites (freshWorld sites) freshStream
@@ -91,14 +92,16 @@ pub record CopyStands (sites : ℕ) (p : Protocol) (copy : List ℕ) (k : ℕ) :
   pub up-to : ((number ≡ 0) × (coordinator ≡ 0)) ⊎ ((t : ℕ) × (0 < p .num t) × (p .num t ≡ number) × (coordinatorOf t ≡ coordinator))
   pub left : LeftUpTo p (record { sites = sites }) (rank number coordinator) k value
 
-standing : (copy : List ℕ) (k : ℕ) → length copy ≡ sizes.copy → k < sizes.keys → valueOf copy k ≡ Standing (copyValue copy k) (copyNumber copy) (copyCoordinator copy)
+standing : (copy : List ℕ) (k : ℕ) → length copy ≡ sizes.copy → k < sizes.keys
+    → valueOf copy k ≡ Standing (copyValue copy k) (copyNumber copy) (copyCoordinator copy)
 unfolding valueOf valueCode
 standing copy k e h = rw (eq-eqb (length copy) sizes.copy e, lt-leb sizes.keys k h)
 
 module _ {sites : ℕ} {w : World} {v : Stream} (x : StreamIs sites w v) (z : reached.Standing sites v) where
   last-committed : (n : ℕ) → n ≤ length (v .merger .out)
       → ((endNumber 0 (take n (v .merger .out)) ≡ 0) × (endCoordinator 0 (take n (v .merger .out)) ≡ 0))
-      ⊎ ((t : ℕ) × (0 < v .protocol .num t) × (v .protocol .num t ≡ endNumber 0 (take n (v .merger .out))) × (coordinatorOf t ≡ endCoordinator 0 (take n (v .merger .out))))
+      ⊎ ((t : ℕ) × (0 < v .protocol .num t) × (v .protocol .num t ≡ endNumber 0 (take n (v .merger .out)))
+      × (coordinatorOf t ≡ endCoordinator 0 (take n (v .merger .out))))
   last-committed zero h = inl (refl, refl)
   last-committed (suc n) h =
       let m = v .merger in
@@ -118,5 +121,6 @@ module _ {sites : ℕ} {w : World} {v : Stream} (x : StreamIs sites w v) (z : re
         pair = (refl, refl);
         low = rw (i .coordinator) (pair-low x z n l);
         up-to = rw (i .number, i .coordinator) (last-committed n l);
-        left = rw (i .number, i .coordinator, end-rank (v .merger) n l, i .value k h) (left-upto (z .invariant) (z .streamed) (record { sites = sites }) k n l);
+        left = rw (i .number, i .coordinator, end-rank (v .merger) n l, i .value k h)
+            (left-upto (z .invariant) (z .streamed) (record { sites = sites }) k n l);
       }

@@ -26,7 +26,8 @@ use Rattle.rules.specs.Course.{withCourseOf, sendAll, abortStep, commitS
 use Rattle.rules.specs.World.{upd}
 use Rattle.rules.specs.Book as book
 use Rattle.rules.proofs.Tables.{upd₂, upd₂-same, upd-same, upd-other, row-other}
-use Rattle.rules.proofs.Protocol.{Protocol, Msg, mAbort, mCert, mCommit, others, courseAt, AtStage, Whole, Within, Certified, abort, cast, decide, stop, more, postedAll, withCourseAt, set-certed, set-cert, set-yes, set-mark}
+use Rattle.rules.proofs.Protocol.{Protocol, Msg, mAbort, mCert, mCommit, others, courseAt, AtStage, Whole, Within, Certified, abort}
+use Rattle.rules.proofs.Protocol.{cast, decide, stop, more, postedAll, withCourseAt, set-certed, set-cert, set-yes, set-mark}
 use Rattle.rules.proofs.Invariants.{In, Held, Invariant}
 use Rattle.rules.proofs.Masks.{none-in, all-heard}
 use Rattle.rules.proofs.Frames.{others-cases}
@@ -35,14 +36,17 @@ use Rattle.rules.proofs.Refines.{IsFree, sliceOf, SiteIs}
 use Rattle.rules.proofs.RefineSite.{site-clock, site-channels}
 use Rattle.rules.proofs.RefineMail.{none, grows-all}
 use Rattle.rules.proofs.RefineTurn.{AtPlace, part-place, course-is, site-course, site-gone, mark-stage, decision-stage, tx-of}
-use Rattle.rules.proofs.RefineActs.{Acts, acts-then, settled-turn, settled-again, others-elsewhere, members, send-all-site, send-all-made}
+use Rattle.rules.proofs.RefineActs.{Acts, acts-then, settled-turn, settled-again, others-elsewhere, members, send-all-site}
+use Rattle.rules.proofs.RefineActs.{send-all-made}
 
 -- what a site counts of its part's replies is what the protocol's course has
-pub heard-here : {own s : ℕ} {b c : Course} → own ≡ s → b ≡ c → (f : Course → ℕ) → allHeard own (f b) (b .mask) ≡ true → allHeard s (f c) (c .mask) ≡ true
+pub heard-here : {own s : ℕ} {b c : Course} → own ≡ s → b ≡ c → (f : Course → ℕ) → allHeard own (f b) (b .mask) ≡ true
+    → allHeard s (f c) (c .mask) ≡ true
 heard-here e k f h = rw (e, k) at h
 
 -- Alone, a coordinator has nobody to send to.
-pub lone : {sites : ℕ} {p : Protocol} (s t : ℕ) → Invariant sites p → coordinatorOf t ≡ s → 1 ≤ s → Held p s t → allHeard s 0 (courseAt p s t .mask) ≡ true
+pub lone : {sites : ℕ} {p : Protocol} (s t : ℕ) → Invariant sites p → coordinatorOf t ≡ s → 1 ≤ s → Held p s t
+    → allHeard s 0 (courseAt p s t .mask) ≡ true
     → (r : ℕ) → In (courseAt p s t .mask) r → (r ≡ s → ⊥) → ⊥
 lone {p = p} s t i e l h all r k n =
     let held : Held p (coordinatorOf t) t = rw e h in
@@ -51,7 +55,8 @@ lone {p = p} s t i e l h all r k n =
     none-in r
     (all-heard 0 (courseAt p s t .mask) s (omega arith) (rw e at small) (λ r z. absurd (none-in r (z .1))) (l, rw e at own) all r k n)
 
-pub others-lone : (post : ℕ → ℕ → List Msg) (s mask : ℕ) (m : Msg) → ((r : ℕ) → In mask r → (r ≡ s → ⊥) → ⊥) → (i j : ℕ) → others post s mask m i j ≡ post i j
+pub others-lone : (post : ℕ → ℕ → List Msg) (s mask : ℕ) (m : Msg) → ((r : ℕ) → In mask r → (r ≡ s → ⊥) → ⊥) → (i j : ℕ)
+    → others post s mask m i j ≡ post i j
 others-lone post s mask m f = others-cases (λ i j l. l ≡ post i j) post s mask m (λ j l e n. absurd (f j (l, e) n)) (λ i j. refl)
 
 -- the protocol after the coordinator's yes on a joined list
@@ -73,7 +78,8 @@ mark-mask : (c : Course) (n : ℕ) → withMark c n .mask ≡ c .mask
 unfolding withMark
 mark-mask c n = refl
 
-module _ {sites s t place : ℕ} {x : Site} {base lists : List ℕ} {p : Protocol} (few : sites ≤ sizes.sites) (i : Invariant sites p) (e : coordinatorOf t ≡ s)
+module _ {sites s t place : ℕ} {x : Site} {base lists : List ℕ} {p : Protocol} (few : sites ≤ sizes.sites) (i : Invariant sites p)
+    (e : coordinatorOf t ≡ s)
     (y : SiteIs sites s x base lists (sliceOf p s)) (a : AtPlace x p s t place) where
   abbrev mask : ℕ
   mask = courseAt p s t .mask
@@ -89,7 +95,9 @@ module _ {sites s t place : ℕ} {x : Site} {base lists : List ℕ} {p : Protoco
 
   -- Abort: ABORT to the others, and the part is gone.
   pub abort-acts : (r : ℕ) → (AtStage p s t stage.decided → ⊥)
-      → (q : Protocol) × Acts sites s p q (settle x place (abortStep turn r .turn)) base lists (abortStep turn r .words) (book.commits t (abortStep turn r .answer))
+      → (q : Protocol)
+      × Acts sites s p q (settle x place (abortStep turn r .turn)) base lists (abortStep turn r .words)
+      (book.commits t (abortStep turn r .answer))
   unfolding abortStep settle turnAt sendAll
   abort-acts r n =
       let m = mAbort t in (
@@ -109,21 +117,26 @@ module _ {sites s t place : ℕ} {x : Site} {base lists : List ℕ} {p : Protoco
               };
           grows = grows-all (p .post) s mask m;
           log = λ j. refl;
-          site = send-all-site (p .post) turn (Aborted r) s mask m few (y .counters .own-is) mask-is (y .channels) refl (site-gone y refl a);
-          made = send-all-made (p .post) turn (Aborted r) s mask m few (y .counters .own-is) mask-is (y .channels) (no-entries .0) inHouse (tx-of a);
+          site = send-all-site (p .post) turn (Aborted r) s mask m few (y .counters .own-is) mask-is (y .channels) refl
+              (site-gone y refl a);
+          made = send-all-made (p .post) turn (Aborted r) s mask m few (y .counters .own-is) mask-is (y .channels) (no-entries .0)
+              inHouse (tx-of a);
         },
       )
 
   -- The decision: the clock plus 1 is the commit number.
   commit-acts : AtStage p s t stage.queued → allHeard s (courseAt p s t .heard) mask ≡ true → (n : ℕ) → n ≡ p .clock s + 1
-      → (q : Protocol) × Acts sites s p q (settle x place (commitStep turn n .turn)) base lists (commitStep turn n .words) (book.commits t (commitStep turn n .answer))
+      → (q : Protocol)
+      × Acts sites s p q (settle x place (commitStep turn n .turn)) base lists (commitStep turn n .words)
+      (book.commits t (commitStep turn n .answer))
   unfolding commitStep settle turnAt sendAll
   commit-acts g all n z =
       let m = mCommit t (p .clock s + 1) in
       let c = withDecision (courseAt p s t) (p .clock s + 1) in
       let d = withDecision (subAt x place .course) (p .clock s + 1) in
       let b = withCourse (p .live s t) c in
-      let u : Turn = record { counters = withClock (x .counters) (p .clock s + 1); channels = x .channels; sub = withCourse (subAt x place) d } in
+      let u : Turn =
+      record { counters = withClock (x .counters) (p .clock s + 1); channels = x .channels; sub = withCourse (subAt x place) d } in
       let k : d ≡ c = rw (course-is a) in
       let part : d .mask ≡ mask = decision-mask (subAt x place .course) (p .clock s + 1) ∙ mask-is in
       rw z (
@@ -147,13 +160,16 @@ module _ {sites s t place : ℕ} {x : Site} {base lists : List ℕ} {p : Protoco
               send-all-site (p .post) u (Committed (p .clock s + 1)) s mask m few (y .counters .own-is) part (y .channels) refl
               (site-clock (site-course y refl a c d k (λ o f. absurd (omega (arith, decision-stage (courseAt p s t) (p .clock s + 1)))))
               (p .clock s + 1) (upd-same (p .clock) s (p .clock s + 1)));
-          made = send-all-made (p .post) u (Committed (p .clock s + 1)) s mask m few (y .counters .own-is) part (y .channels) (no-entries .0) inHouse (tx-of a);
+          made = send-all-made (p .post) u (Committed (p .clock s + 1)) s mask m few (y .counters .own-is) part (y .channels)
+              (no-entries .0) inHouse (tx-of a);
         },
       )
 
   -- at the last clock an abort
   pub decide-acts : AtStage p s t stage.queued → allHeard s (courseAt p s t .heard) mask ≡ true
-      → (q : Protocol) × Acts sites s p q (settle x place (decideStep turn .turn)) base lists (decideStep turn .words) (book.commits t (decideStep turn .answer))
+      → (q : Protocol)
+      × Acts sites s p q (settle x place (decideStep turn .turn)) base lists (decideStep turn .words)
+      (book.commits t (decideStep turn .answer))
   unfolding decideStep turnAt
   decide-acts g all =
       by-test (leb sizes.last (x .counters .clock))
@@ -175,8 +191,11 @@ module _ {sites s t place : ℕ} {x : Site} {base lists : List ℕ} {p : Protoco
   marks : withMark (subAt x place .course) (x .counters .clock) ≡ withMark (courseAt p s t) (p .clock s)
   marks = rw (course-is a, y .counters .clock-is)
 
-  cert-acts : AtStage p s t stage.prepared → allHeard s (courseAt p s t .heard) mask ≡ true → (es : List ℕ) → Whole es → Within (p .gathered t) es → Certified p s t es
-      → (q : Protocol) × Acts sites s p q (settle x place (sendAll marked Done kind.cert 0 0 es .turn)) base lists (sendAll marked Done kind.cert 0 0 es .words) (book.commits t (sendAll marked Done kind.cert 0 0 es .answer))
+  cert-acts : AtStage p s t stage.prepared → allHeard s (courseAt p s t .heard) mask ≡ true → (es : List ℕ) → Whole es
+      → Within (p .gathered t) es → Certified p s t es
+      → (q : Protocol)
+      × Acts sites s p q (settle x place (sendAll marked Done kind.cert 0 0 es .turn)) base lists
+      (sendAll marked Done kind.cert 0 0 es .words) (book.commits t (sendAll marked Done kind.cert 0 0 es .answer))
   unfolding settle turnAt sendAll
   cert-acts g all es whole w v =
       let m = mCert t es in
@@ -200,13 +219,15 @@ module _ {sites s t place : ℕ} {x : Site} {base lists : List ℕ} {p : Protoco
           log = λ j. refl;
           site =
               send-all-site (p .post) marked Done s mask m few (y .counters .own-is) part (y .channels) refl
-              (site-course y refl a c (withMark (subAt x place .course) (x .counters .clock)) marks (λ o f. absurd (omega (arith, mark-stage (courseAt p s t) (p .clock s)))));
+              (site-course y refl a c (withMark (subAt x place .course) (x .counters .clock)) marks
+              (λ o f. absurd (omega (arith, mark-stage (courseAt p s t) (p .clock s)))));
           made = send-all-made (p .post) marked Done s mask m few (y .counters .own-is) part (y .channels) whole inHouse (tx-of a);
         },
       )
 
   -- Alone, all votes are there.
-  lone-acts : AtStage p s t stage.prepared → allHeard s (courseAt p s t .heard) mask ≡ true → (es : List ℕ) → Within (p .gathered t) es → Certified p s t es
+  lone-acts : AtStage p s t stage.prepared → allHeard s (courseAt p s t .heard) mask ≡ true → (es : List ℕ) → Within (p .gathered t) es
+      → Certified p s t es
       → ((r : ℕ) → In mask r → (r ≡ s → ⊥) → ⊥) → Acts sites s p (castAt p s t es) (settle x place marked) base lists [] []
   unfolding settle turnAt
   lone-acts g all es w v alone =
@@ -230,7 +251,8 @@ module _ {sites s t place : ℕ} {x : Site} {base lists : List ℕ} {p : Protoco
         log = λ j. refl;
         site =
             site-channels
-            (site-course y refl a c (withMark (subAt x place .course) (x .counters .clock)) marks (λ o f. absurd (omega (arith, mark-stage (courseAt p s t) (p .clock s)))))
+            (site-course y refl a c (withMark (subAt x place .course) (x .counters .clock)) marks
+            (λ o f. absurd (omega (arith, mark-stage (courseAt p s t) (p .clock s)))))
             (x .channels) _ _
             (record {
               sent-size = y .channels .sent-size;
@@ -242,23 +264,29 @@ module _ {sites s t place : ℕ} {x : Site} {base lists : List ℕ} {p : Protoco
       }
 
 -- the part at a place where a turn was settled
-pub settled-place : {sites s t : ℕ} {base lists : List ℕ} {q : Protocol} (x : Site) (place : ℕ) (u : Turn) → place < length (x .live) → place < sizes.live
-    → SiteIs sites s (settle x place u) base lists (sliceOf q s) → u .sub .tx ≡ t → (IsFree (u .sub) → ⊥) → AtPlace (settle x place u) q s t place
+pub settled-place : {sites s t : ℕ} {base lists : List ℕ} {q : Protocol} (x : Site) (place : ℕ) (u : Turn) → place < length (x .live)
+    → place < sizes.live
+    → SiteIs sites s (settle x place u) base lists (sliceOf q s) → u .sub .tx ≡ t → (IsFree (u .sub) → ⊥)
+    → AtPlace (settle x place u) q s t place
 unfolding turnAt
 settled-place {s = s} {t = t} {q = q} x place u h l y e f =
     let b : subAt (settle x place u) place ≡ u .sub = ap (λ (z : Turn). z .sub) (settled-turn x place u h) in
-    rw (ap (λ (z : Sub). z .tx) b ∙ e) at (part-place (settle x place u) q s place (y .live) l (λ z. f (sym (ap (λ (c : Sub). c .course .stage) b) ∙ z)))
+    rw (ap (λ (z : Sub). z .tx) b ∙ e) at
+    (part-place (settle x place u) q s place (y .live) l (λ z. f (sym (ap (λ (c : Sub). c .course .stage) b) ∙ z)))
 
 mark-all : (s : ℕ) (c : Course) (n : ℕ) → allHeard s 0 (c .mask) ≡ true → allHeard s (withMark c n .heard) (withMark c n .mask) ≡ true
 unfolding withMark
 mark-all s c n h = h
 
 -- The vote on the joined lists: with a yes CERT, or the decision where the coordinator is alone; with a no an abort.
-module _ {sites s t place : ℕ} {x : Site} {base lists : List ℕ} {p : Protocol} (few : sites ≤ sizes.sites) (low : 1 ≤ s) (i : Invariant sites p)
+module _ {sites s t place : ℕ} {x : Site} {base lists : List ℕ} {p : Protocol} (few : sites ≤ sizes.sites) (low : 1 ≤ s)
+    (i : Invariant sites p)
     (e : coordinatorOf t ≡ s) (y : SiteIs sites s x base lists (sliceOf p s)) (a : AtPlace x p s t place) where
-  lone-decides : AtStage p s t stage.prepared → allHeard s (courseAt p s t .heard) (courseAt p s t .mask) ≡ true → (es : List ℕ) → Within (p .gathered t) es → Certified p s t es
+  lone-decides : AtStage p s t stage.prepared → allHeard s (courseAt p s t .heard) (courseAt p s t .mask) ≡ true → (es : List ℕ)
+      → Within (p .gathered t) es → Certified p s t es
       → allHeard s 0 (courseAt p s t .mask) ≡ true
-      → (q : Protocol) × Acts sites s p q (settle x place (decideStep (marked few i e y a) .turn)) base lists (decideStep (marked few i e y a) .words)
+      → (q : Protocol)
+      × Acts sites s p q (settle x place (decideStep (marked few i e y a) .turn)) base lists (decideStep (marked few i e y a) .words)
       (book.commits t (decideStep (marked few i e y a) .answer))
   lone-decides g all es w c h =
       let u = marked few i e y a in
@@ -274,9 +302,11 @@ module _ {sites s t place : ℕ} {x : Site} {base lists : List ℕ} {p : Protoco
       (ap (λ (c : Course). allHeard s (c .heard) (c .mask)) new ∙ mark-all s (courseAt p s t) (p .clock s) h) in
       (q, acts-then one (rw (settled-turn x place u long, settled-again x place u (decideStep u .turn)) at two))
 
-  pub cast-acts : AtStage p s t stage.prepared → allHeard s (courseAt p s t .heard) (courseAt p s t .mask) ≡ true → (v : ℕ) (es : List ℕ) → Whole es → Within (p .gathered t) es
+  pub cast-acts : AtStage p s t stage.prepared → allHeard s (courseAt p s t .heard) (courseAt p s t .mask) ≡ true → (v : ℕ) (es : List ℕ)
+      → Whole es → Within (p .gathered t) es
       → (v ≡ 0 → Certified p s t es)
-      → (q : Protocol) × Acts sites s p q (settle x place (castStep (turnAt x place) v es .turn)) base lists (castStep (turnAt x place) v es .words)
+      → (q : Protocol)
+      × Acts sites s p q (settle x place (castStep (turnAt x place) v es .turn)) base lists (castStep (turnAt x place) v es .words)
       (book.commits t (castStep (turnAt x place) v es .answer))
   unfolding castStep turnAt
   cast-acts g all v es whole w c =

@@ -71,7 +71,8 @@ module _ {sites : ℕ} {w : World} {p : Protocol} (r : Refines sites w p) (s : �
       let u = withCourseOf (turnAt here spot) (withParticipant course n) in
       let words = send-words u (mJoin t) s n own (tx-of a) in (
         _,
-        more stop (enlist s t n (eqb-true _ _ (c .coordinator) ∙ own) active (o .low) m apart (sym (ap (λ (z : Course). inMask (z .mask) n) k) ∙ d .new)),
+        more stop (enlist s t n (eqb-true _ _ (c .coordinator) ∙ own) active (o .low) m apart
+            (sym (ap (λ (z : Course). inMask (z .mask) n) k) ∙ d .new)),
         refl,
         site-step r s l h
             (record {
@@ -85,7 +86,8 @@ module _ {sites : ℕ} {w : World} {p : Protocol} (r : Refines sites w p) (s : �
             })
             (changed here spot (enlistStep (turnAt here spot) n) []) (w .base s) (w .lists s)
             (site-channels
-            (site-course y refl a q (withParticipant course n) (rw k) (λ z g. absurd (omega (arith, participant-stage (courseAt p s t) n, active, z))))
+            (site-course y refl a q (withParticipant course n) (rw k)
+            (λ z g. absurd (omega (arith, participant-stage (courseAt p s t) n, active, z))))
             (sentTo (here .channels) n) _ _ (channels-one (p .post) s n (mJoin t) (r .few) (o .low) m (y .channels)))
             (grows-one (p .post) s n (mJoin t)) (λ j. refl)
             (made-in (rw words (made-one (p .post) s n (getD (here .channels .sent) (n - 1) 0) (mJoin t) (no-entries .0) number))),
@@ -94,7 +96,9 @@ module _ {sites : ℕ} {w : World} {p : Protocol} (r : Refines sites w p) (s : �
   pub enlist-moves : Follows sites p (step w (world.enlist s out t n) .world) []
   unfolding step enlistOf enlistAt
   enlist-moves =
-      by-code Goal (enlistCode (siteOk here) room (isSite (here .house) n) spot (eqb (coordinatorOf t) (here .counters .own))) here [] (enlistAt here spot n)
-      (λ e. by-code Goal (joinerCode (course .stage) (eqb n (here .counters .own)) (inMask (course .mask) n) (channelSpent (here .channels) n)) here []
+      by-code Goal (enlistCode (siteOk here) room (isSite (here .house) n) spot (eqb (coordinatorOf t) (here .counters .own))) here []
+      (enlistAt here spot n)
+      (λ e. by-code Goal
+      (joinerCode (course .stage) (eqb n (here .counters .own)) (inMask (course .mask) n) (channelSpent (here .channels) n)) here []
       (changed here spot (enlistStep (turnAt here spot) n) []) (enlists e) (stays r s _ refl refl))
       (stays r s _ refl refl)

@@ -21,7 +21,8 @@ use Rattle.rules.proofs.Protocol.{freshProtocol}
 use Rattle.rules.proofs.Refines.{IsFree, sliceOf, SiteIs, Refines}
 
 -- a site of the house starts fresh,
-pub started : (sites s : ℕ) → 1 ≤ sites → sites ≤ sizes.sites → 1 ≤ s → s ≤ sites → startOf sites s sizes.keys sizes.lists .site ≡ freshSite sites s
+pub started : (sites s : ℕ) → 1 ≤ sites → sites ≤ sizes.sites → 1 ≤ s → s ≤ sites
+    → startOf sites s sizes.keys sizes.lists .site ≡ freshSite sites s
 unfolding startOf startCode houseOk isSite
 started sites s a b l h = rw (le-leb 1 sites a, le-leb sites sizes.sites b, le-leb 1 s l, le-leb s sites h)
 
@@ -37,7 +38,8 @@ free-place : (i : ℕ) → i < sizes.live → IsFree (partAt (replicate sizes.li
 unfolding noSub
 free-place i h = rw (getD-replicate sizes.live i noSub pastSub h)
 
-fresh-site : (sites s : ℕ) → 1 ≤ sites → sites ≤ sizes.sites → SiteIs sites s (freshSite sites s) (replicate sizes.keys 0) (replicate sizes.lists 0) (sliceOf freshProtocol s)
+fresh-site : (sites s : ℕ) → 1 ≤ sites → sites ≤ sizes.sites
+    → SiteIs sites s (freshSite sites s) (replicate sizes.keys 0) (replicate sizes.lists 0) (sliceOf freshProtocol s)
 unfolding freshSite freshProtocol remembered noSub
 fresh-site sites s a b =
     record {
@@ -77,7 +79,11 @@ unfolding freshWorld freshProtocol
 refines-fresh sites a b =
     record {
       few = b;
-      site = λ s l h. rw (started sites s a b l h, fresh-table (startCode sites s sizes.keys sizes.lists) sizes.keys, fresh-table (startCode sites s sizes.keys sizes.lists) sizes.lists) (fresh-site sites s a b);
+      site = λ s l h. rw (
+        started sites s a b l h,
+        fresh-table (startCode sites s sizes.keys sizes.lists) sizes.keys,
+        fresh-table (startCode sites s sizes.keys sizes.lists) sizes.lists,
+      ) (fresh-site sites s a b);
       outside = not-started sites;
       sent = a-nil;
       log = λ s. refl;

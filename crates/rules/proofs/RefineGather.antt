@@ -37,7 +37,8 @@ module _ (c : Course) (a v : ℕ) (e : voteInTurn c a v ≡ true) where
   vote-stage : (c .stage ≡ stage.queued) ⊎ ((c .stage ≡ stage.prepared) × (v ≡ 0 → ⊥))
   unfolding voteInTurn
   vote-stage =
-      let l = some (eqb (c .stage) stage.queued ∷ every (eqb (c .stage) stage.prepared ∷ not (eqb v 0) ∷ []) ∷ []) ∷ isOutstanding c a ∷ [] in
+      let l = some (eqb (c .stage) stage.queued ∷ every (eqb (c .stage) stage.prepared ∷ not (eqb v 0) ∷ []) ∷ [])
+      ∷ isOutstanding c a ∷ [] in
       let k = eqb (c .stage) stage.prepared ∷ not (eqb v 0) ∷ [] in
       ⊎-elim
       (λ (z : eqb (c .stage) stage.queued ≡ true). inl (eqb-true _ _ z))
@@ -47,9 +48,11 @@ module _ (c : Course) (a v : ℕ) (e : voteInTurn c a v ≡ true) where
   vote-outstanding : isOutstanding c a ≡ true
   unfolding voteInTurn
   vote-outstanding =
-      every-at (some (eqb (c .stage) stage.queued ∷ every (eqb (c .stage) stage.prepared ∷ not (eqb v 0) ∷ []) ∷ []) ∷ isOutstanding c a ∷ []) 1 e
+      every-at (some (eqb (c .stage) stage.queued ∷ every (eqb (c .stage) stage.prepared ∷ not (eqb v 0) ∷ []) ∷ [])
+      ∷ isOutstanding c a ∷ []) 1 e
 
-module _ {sites : ℕ} (p : Protocol) (s a : ℕ) {t : ℕ} {x : Site} {base lists : List ℕ} (few : sites ≤ sizes.sites) (low : 1 ≤ a) (high : a ≤ sites)
+module _ {sites : ℕ} (p : Protocol) (s a : ℕ) {t : ℕ} {x : Site} {base lists : List ℕ} (few : sites ≤ sizes.sites) (low : 1 ≤ a)
+    (high : a ≤ sites)
     (i : Invariant sites p) (y : SiteIs sites s x base lists (sliceOf p s)) (place : ℕ) (A : AtPlace x p s t place) where
   long : place < length (x .live)
   long = omega (arith, A .spot .low, y .live .size)
@@ -73,7 +76,8 @@ module _ {sites : ℕ} (p : Protocol) (s a : ℕ) {t : ℕ} {x : Site} {base lis
       let u = raisedTurn n in
       let one = raised-acts p s a few low high y place A n (mVote t n v) next in
       let mine = said i next .0 in
-      let there = settled-place x place u long (A .spot .low) (one .site) (raised-tx n) (λ z. held (sym (ap (λ (c : Course). c .stage) (raised-course n)) ∙ z)) in
+      let there = settled-place x place u long (A .spot .low) (one .site) (raised-tx n)
+      (λ z. held (sym (ap (λ (c : Course). c .stage) (raised-course n)) ∙ z)) in
       let (q, two) = abort-acts few (invariant-moves few (one .moves) i) mine (one .site) there v undecided in
       (q, acts-then one (rw (settled-turn x place u long, settled-again x place u (abortStep u v .turn)) at two))
 
@@ -96,13 +100,17 @@ module _ {sites : ℕ} (p : Protocol) (s a : ℕ) {t : ℕ} {x : Site} {base lis
       let p1 = withCourseAt (raised (took p a s) s n) s t c in
       let new : courseAt p1 s t ≡ c = ap (λ (b : Sub). b .course) (upd₂-same (p .live) s t (withCourse (p .live s t) c)) in
       let queued1 : AtStage p1 s t stage.queued = ap (λ (c : Course). c .stage) new ∙ reply-stage (courseAt p s t) a 0 0 ∙ queued in
-      let held : (IsFree (u .sub) → ⊥) = λ z. omega (arith, reply-stage (subAt x place .course) a 0 0, ap (λ (c : Course). c .stage) (course-is A)) in
+      let held : (IsFree (u .sub) → ⊥) =
+      λ z. omega (arith, reply-stage (subAt x place .course) a 0 0, ap (λ (c : Course). c .stage) (course-is A)) in
       let there = settled-place x place u long (A .spot .low) (one .site) (heard-tx n) held in
-      let (q, two) = decide-acts few (invariant-moves few (one .moves) i) (said i next .0) (one .site) there queued1 (ap (λ (c : Course). allHeard s (c .heard) (c .mask)) new ∙ all) in
+      let (q, two) =
+      decide-acts few (invariant-moves few (one .moves) i) (said i next .0) (one .site) there queued1
+      (ap (λ (c : Course). allHeard s (c .heard) (c .mask)) new ∙ all) in
       (q, acts-then one (rw (settled-turn x place u long, settled-again x place u (decideStep u .turn)) at two))
 
   pub vote-acts : (n v : ℕ) → Next p a s (mVote t n v) → voteInTurn (subAt x place .course) a v ≡ true
-      → (q : Protocol) × Acts sites s p q (settle x place (voteStep (raisedTurn n) a v .turn)) base lists (voteStep (raisedTurn n) a v .words)
+      → (q : Protocol)
+      × Acts sites s p q (settle x place (voteStep (raisedTurn n) a v .turn)) base lists (voteStep (raisedTurn n) a v .words)
       (book.commits t (voteStep (raisedTurn n) a v .answer))
   unfolding voteStep raise arrived quietly
   vote-acts n v next inTurn =
@@ -114,11 +122,16 @@ module _ {sites : ℕ} (p : Protocol) (s a : ℕ) {t : ℕ} {x : Site} {base lis
       (λ e.
       let z : v ≡ 0 = eqb-true v 0 e in
       let next′ : Next p a s (mVote t n 0) = rw z at next in
-      let queued : AtStage p s t stage.queued = sym (ap (λ (c : Course). c .stage) k) ∙ ⊎-elim (λ (q : b .stage ≡ stage.queued). q) (λ (q : (b .stage ≡ stage.prepared) × (v ≡ 0 → ⊥)). absurd (q .1 z)) g in
+      let queued : AtStage p s t stage.queued = sym (ap (λ (c : Course). c .stage) k)
+      ∙ ⊎-elim (λ (q : b .stage ≡ stage.queued). q) (λ (q : (b .stage ≡ stage.prepared) × (v ≡ 0 → ⊥)). absurd (q .1 z)) g in
       by-test (allHeard (x .counters .own) (withReply b a 0 0 .heard) (withReply b a 0 0 .mask))
-      (λ f. rw (e, f) (last-acts n next′ queued out (heard-here (y .counters .own-is) (ap (λ (c : Course). withReply c a 0 0) k) (λ c. c .heard) f)))
+      (λ f. rw (e, f)
+      (last-acts n next′ queued out (heard-here (y .counters .own-is) (ap (λ (c : Course). withReply c a 0 0) k) (λ c. c .heard) f)))
       (λ f. rw (e, f) (_, votes-acts p s a few low high y place A n next′ queued out)))
       (λ e.
-      let st : (b .stage ≡ stage.queued) ⊎ (b .stage ≡ stage.prepared) = ⊎-elim (λ (q : b .stage ≡ stage.queued). inl q) (λ (q : (b .stage ≡ stage.prepared) × (v ≡ 0 → ⊥)). inr (q .0)) g in
+      let st : (b .stage ≡ stage.queued)
+      ⊎ (b .stage ≡ stage.prepared) =
+      ⊎-elim (λ (q : b .stage ≡ stage.queued). inl q) (λ (q : (b .stage ≡ stage.prepared) × (v ≡ 0 → ⊥)). inr (q .0)) g in
       rw e (no-acts n v next (A .held)
-      (λ q. let z : b .stage ≡ stage.decided = ap (λ (c : Course). c .stage) k ∙ q in ⊎-elim (λ (o : b .stage ≡ stage.queued). omega arith) (λ (o : b .stage ≡ stage.prepared). omega arith) st)))
+      (λ q. let z : b .stage ≡ stage.decided = ap (λ (c : Course). c .stage) k ∙ q in
+      ⊎-elim (λ (o : b .stage ≡ stage.queued). omega arith) (λ (o : b .stage ≡ stage.prepared). omega arith) st)))

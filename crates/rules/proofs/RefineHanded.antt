@@ -40,8 +40,10 @@ use Rattle.rules.proofs.RefineMessage.{headIn, toldTaken, takes}
 log-record : (s : ℕ) (a : Rec) → IsRecord (recWords s a)
 unfolding entryWords partHeadOf stateWords recordWords
 log-record s (rPart e) = (shape-written (partHeadOf s e) _ (words-length (e .keys) (sortedCount (e .keys))), omega arith)
-log-record s (rState n) =
-    (shape-written (record { kind = kind.state; site = s; number = n; coordinator = 0; tx = 0; mask = 0; count = 0 }) [] (omega arith), omega arith)
+log-record s (rState n) = (
+  shape-written (record { kind = kind.state; site = s; number = n; coordinator = 0; tx = 0; mask = 0; count = 0 }) [] (omega arith),
+  omega arith,
+)
 
 log-all : (s : ℕ) (l : List Rec) → All IsRecord (map (recWords s) l)
 log-all s [] = a-nil
@@ -76,9 +78,11 @@ next-is p a b s k e f l =
       is = ap (λ (z : ℕ). getD (p .post a s) z m) (sym f) ∙ in-range (p .post a s) k m (mAbort 0) l′;
     })
 
-module _ {sites : ℕ} {p : Protocol} (i : Invariant sites p) (s : ℕ) {x : Site} {base lists : List ℕ} (y : SiteIs sites s x base lists (sliceOf p s)) (ws : List ℕ) where
+module _ {sites : ℕ} {p : Protocol} (i : Invariant sites p) (s : ℕ) {x : Site} {base lists : List ℕ}
+    (y : SiteIs sites s x base lists (sliceOf p s)) (ws : List ℕ) where
   -- it is the next one, if its number is
-  pub arrives : Posted (p .post) ws → messageHead ws .to ≡ x .counters .own → messageHead ws .channel ≡ getD (x .channels .taken) (messageHead ws .from - 1) 0 + 1 → Arrival sites p s ws
+  pub arrives : Posted (p .post) ws → messageHead ws .to ≡ x .counters .own
+      → messageHead ws .channel ≡ getD (x .channels .taken) (messageHead ws .from - 1) 0 + 1 → Arrival sites p s ws
   unfolding headOf
   arrives m to channel =
       let a = m .from in
@@ -88,7 +92,8 @@ module _ {sites : ℕ} {p : Protocol} (i : Invariant sites p) (s : ℕ) {x : Sit
       let hd : messageHead ws ≡ headIn a b (k + 1) msg = ap messageHead (m .words) ∙ encoded-head a b (k + 1) msg in
       let here : b ≡ s = sym (ap (λ (h : MessageHead). h .to) hd) ∙ to ∙ y .counters .own-is in
       let ((low, high), _) = i .posts .sender a b (omega (arith, m .low)) in
-      let count : k + 1 ≡ getD (x .channels .taken) (a - 1) 0 + 1 = sym (ap (λ (h : MessageHead). h .channel) hd) ∙ channel ∙ ap (λ (h : MessageHead). getD (x .channels .taken) (h .from - 1) 0 + 1) hd in
+      let count : k + 1 ≡ getD (x .channels .taken) (a - 1) 0 + 1 = sym (ap (λ (h : MessageHead). h .channel) hd) ∙ channel
+      ∙ ap (λ (h : MessageHead). getD (x .channels .taken) (h .from - 1) 0 + 1) hd in
       let taken : k ≡ p .taken a s = omega (arith, count, y .channels .taken-is a low high) in
       record {
         from = a;
@@ -117,7 +122,8 @@ module _ {sites : ℕ} {w : World} {p : Protocol} (r : Refines sites w p) (i : I
   -- words that pass are a posted message
   pub posted : Handed w (world.message s out m) → messageOk (site .house) m ≡ true → Posted (p .post) m
   posted (inl h) e = all-is (r .sent) h
-  posted (inr (inl (j, h))) e = let l : All IsRecord (w .log j) = rw (r .log j) (log-all j (p .log j)) in let (a, b) = all-is l h in absurd (set-not _ e (record-no-message (site .house) m a b))
+  posted (inr (inl (j, h))) e = let l : All IsRecord (w .log j) = rw (r .log j) (log-all j (p .log j)) in let (a, b) = all-is l h in
+      absurd (set-not _ e (record-no-message (site .house) m a b))
   posted (inr (inr h)) e = let (a, b) = all-is (r .stream) h in absurd (set-not _ e (record-no-message (site .house) m a b))
 
   delivers : Handed w (world.message s out m) → arrivalCode (handedOk site lists) (length out) (messageOk (site .house) m) ≡ 0
@@ -130,14 +136,17 @@ module _ {sites : ℕ} {w : World} {p : Protocol} (r : Refines sites w p) (i : I
       let (l, h) = inside r s (handed-site site lists (c .valid)) in
       let a = arrives i s (r .site s l h) m (posted handed (c .formed)) (d .here) (d .in-order) in
       let good = rw (a .head, a .entries) at (passed-good (site .house) m (c .formed)) in
-      rw (a .head, a .entries) (takes r i s (a .from) (a .number) l h (a .low) (a .high) (handed-site site lists (c .valid)) (a .message) (a .next) good)
+      rw (a .head, a .entries)
+      (takes r i s (a .from) (a .number) l h (a .low) (a .high) (handed-site site lists (c .valid)) (a .message) (a .next) good)
 
-  pub message-moves : Handed w (world.message s out m) → (let x = step w (world.message s out m) in Follows sites p (x .world) (toldBy (world.message s out m) (x .answer) (x .words)))
+  pub message-moves : Handed w (world.message s out m)
+      → (let x = step w (world.message s out m) in Follows sites p (x .world) (toldBy (world.message s out m) (x .answer) (x .words)))
   unfolding step siteStep messageOf messageAt
   message-moves handed =
       let code = arrivalCode (handedOk site lists) (length out) (messageOk (site .house) m) in
       let late = nextCode (head .to) (site .counters .own) (head .channel) (getD (site .channels .taken) (head .from - 1) 0) in
       by-code Goal code site lists (messageAt site lists m)
-      (λ e. by-code Goal late site lists (takeKind (head .kind) site head (messageEntries m) lists (placeOf (site .live) (head .tx))) (delivers handed e)
+      (λ e. by-code Goal late site lists (takeKind (head .kind) site head (messageEntries m) lists (placeOf (site .live) (head .tx)))
+      (delivers handed e)
       (stays r s (refused late site lists) refl refl))
       (stays r s (refused code site lists) refl refl)

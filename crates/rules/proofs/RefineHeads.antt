@@ -57,7 +57,8 @@ module _ {sites : ℕ} {w : World} {v : Stream} (x : StreamIs sites w v) (z : St
         ∙ ap recordHead clear-head ∙ part-head (i + 1) e
 
     pub head-low : coordinatorOf (e .tx) ≤ 8
-    head-low = low-coordinator (x .refines .few) (z .invariant .parts) (i + 1) (e .tx) (head-real (z .invariant) (z .streamed) (i + 1) e r (omega arith) q .has)
+    head-low = low-coordinator (x .refines .few) (z .invariant .parts) (i + 1) (e .tx)
+        (head-real (z .invariant) (z .streamed) (i + 1) e r (omega arith) q .has)
 
   -- the least head, at site k + 1
   module _ (k : ℕ) (l : LeastOf g heads (g .house .sites) k) (G : Entry) (r : List Entry) (q : m .queue (k + 1) ≡ G ∷ r) where
@@ -79,7 +80,8 @@ module _ {sites : ℕ} {w : World} {v : Stream} (x : StreamIs sites w v) (z : St
     least-rank i b e u f =
         let c : precedes (e .number) (coordinatorOf (e .tx)) (G .number) (coordinatorOf (G .tx)) ≡ false =
         rw (head-is i b e u f, due-is) at (l .least i (inside i b) (some-queued i b e u f)) in
-        not-precedes-rank (e .number) (coordinatorOf (e .tx)) (G .number) (coordinatorOf (G .tx)) (omega (arith, head-low i b e u f)) (omega (arith, G-low)) c
+        not-precedes-rank (e .number) (coordinatorOf (e .tx)) (G .number) (coordinatorOf (G .tx)) (omega (arith, head-low i b e u f))
+        (omega (arith, G-low)) c
 
     pub due-at : IsDue g heads k → (i : ℕ) → i < sites → DueAt G (m .state (i + 1)) (m .queue (i + 1))
     unfolding partHeadOf
@@ -95,14 +97,20 @@ module _ {sites : ℕ} {w : World} {v : Stream} (x : StreamIs sites w v) (z : St
         go (e ∷ u) f = least-rank i b e u f
 
     -- a head with its pair
-    pub rank-part : (i : ℕ) → i < sites → (e : Entry) (u : List Entry) → m .queue (i + 1) ≡ e ∷ u → rankOf e ≡ rankOf G → HasPart g heads (headIn heads k) i
+    pub rank-part : (i : ℕ) → i < sites → (e : Entry) (u : List Entry) → m .queue (i + 1) ≡ e ∷ u → rankOf e ≡ rankOf G
+        → HasPart g heads (headIn heads k) i
     unfolding partHeadOf
     rank-part i b e u f n =
         let a = head-low i b e u f in
         let c = G-low in
-        rw due-is (record { queued = some-queued i b e u f; number = rw (head-is i b e u f) (omega arith); coordinator = rw (head-is i b e u f) (omega arith) })
+        rw due-is (record {
+          queued = some-queued i b e u f;
+          number = rw (head-is i b e u f) (omega arith);
+          coordinator = rw (head-is i b e u f) (omega arith);
+        })
 
-    pub part-rank : (i : ℕ) → i < sites → (e : Entry) (u : List Entry) → m .queue (i + 1) ≡ e ∷ u → HasPart g heads (headIn heads k) i → rankOf e ≡ rankOf G
+    pub part-rank : (i : ℕ) → i < sites → (e : Entry) (u : List Entry) → m .queue (i + 1) ≡ e ∷ u → HasPart g heads (headIn heads k) i
+        → rankOf e ≡ rankOf G
     unfolding partHeadOf
     part-rank i b e u f o =
         let h = head-is i b e u f in

@@ -11,7 +11,8 @@ use Rattle.laws.specs.Scan.{firstBelow, foldBelow}
 use Rattle.kinds.specs.Sizes as sizes
 use Rattle.rules.specs.Join.{lesserAbove, leastAbove, listedOf, joinTx, joinCount, joinWords, joined}
 
-fold-agree : {A : Type 0} (f g : ℕ → A → A) (n : ℕ) (a : A) → ((i : ℕ) → i < n → (b : A) → f i b ≡ g i b) → foldBelow f n a ≡ foldBelow g n a
+fold-agree : {A : Type 0} (f g : ℕ → A → A) (n : ℕ) (a : A) → ((i : ℕ) → i < n → (b : A) → f i b ≡ g i b)
+    → foldBelow f n a ≡ foldBelow g n a
 unfolding foldBelow
 fold-agree f g zero a e = refl
 fold-agree f g (suc n) a e = e n (omega arith) (foldBelow f n a) ∙ ap (g n) (fold-agree f g n a (λ i h b. e i (omega arith) b))

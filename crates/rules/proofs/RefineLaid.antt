@@ -41,9 +41,11 @@ pub put-header : (copy ws : List ℕ) (n i : ℕ) → i < sizes.copyHeader → g
 unfolding putWrites foldBelow
 put-header copy ws zero i h = refl
 put-header copy ws (suc n) i h =
-    getD-set-other (putWrites copy ws n) (sizes.copyHeader + writeKey ws n) i (writeValue ws n) 0 (λ e. omega arith) ∙ put-header copy ws n i h
+    getD-set-other (putWrites copy ws n) (sizes.copyHeader + writeKey ws n) i (writeValue ws n) 0 (λ e. omega arith)
+    ∙ put-header copy ws n i h
 
-pub put-value : (copy ws : List ℕ) (n k : ℕ) → length copy ≡ sizes.copy → k < sizes.keys → copyValue (putWrites copy ws n) k ≡ laid ws k n (copyValue copy k)
+pub put-value : (copy ws : List ℕ) (n k : ℕ) → length copy ≡ sizes.copy → k < sizes.keys
+    → copyValue (putWrites copy ws n) k ≡ laid ws k n (copyValue copy k)
 unfolding putWrites foldBelow laid
 put-value copy ws zero k e h = refl
 put-value copy ws (suc n) k e h =
@@ -52,7 +54,8 @@ put-value copy ws (suc n) k e h =
     (λ t. let q = eqb-true (writeKey ws n) k t in
     rw t (rw q (getD-set-same (putWrites copy ws n) (sizes.copyHeader + k) (writeValue ws n) 0 (omega arith))))
     (λ t. let q = eqb-false (writeKey ws n) k t in
-    rw t (getD-set-other (putWrites copy ws n) (sizes.copyHeader + writeKey ws n) (sizes.copyHeader + k) (writeValue ws n) 0 (λ z. q (omega arith)) ∙ put-value copy ws n k e h))
+    rw t (getD-set-other (putWrites copy ws n) (sizes.copyHeader + writeKey ws n) (sizes.copyHeader + k) (writeValue ws n) 0
+    (λ z. q (omega arith)) ∙ put-value copy ws n k e h))
 
 -- Writes behind writes.
 module _ (ws p : List ℕ) (a k : ℕ) (v : Value) (e : length ws ≡ sizes.write * a) where
@@ -60,7 +63,11 @@ module _ (ws p : List ℕ) (a k : ℕ) (v : Value) (e : length ws ≡ sizes.writ
   unfolding laid
   laid-left zero h = refl
   laid-left (suc n) h =
-      rw (List·getD-append ws p 0 (sizes.write * n + word.writeKey) (omega arith), List·getD-append ws p 0 (sizes.write * n + word.writeValue) (omega arith), laid-left n (omega arith))
+      rw (
+        List·getD-append ws p 0 (sizes.write * n + word.writeKey) (omega arith),
+        List·getD-append ws p 0 (sizes.write * n + word.writeValue) (omega arith),
+        laid-left n (omega arith),
+      )
 
   laid-append : (b : ℕ) → laid (ws ++ p) k (a + b) v ≡ laid p k b (laid ws k a v)
   unfolding laid
@@ -69,7 +76,13 @@ module _ (ws p : List ℕ) (a k : ℕ) (v : Value) (e : length ws ≡ sizes.writ
       let z : a + suc b ≡ suc (a + b) = omega arith in
       let x : sizes.write * (a + b) + word.writeKey ≡ length ws + (sizes.write * b + word.writeKey) = omega arith in
       let y : sizes.write * (a + b) + word.writeValue ≡ length ws + (sizes.write * b + word.writeValue) = omega arith in
-      rw z (rw (x, y, getD-append-add ws p (sizes.write * b + word.writeKey) 0, getD-append-add ws p (sizes.write * b + word.writeValue) 0, laid-append b))
+      rw z (rw (
+        x,
+        y,
+        getD-append-add ws p (sizes.write * b + word.writeKey) 0,
+        getD-append-add ws p (sizes.write * b + word.writeValue) 0,
+        laid-append b,
+      ))
 
 -- The writes of one part.
 module _ (b : Keys) (k : ℕ) (v : Value) where
@@ -91,7 +104,8 @@ module _ (b : Keys) (k : ℕ) (v : Value) where
   unfolding laid
   laid-miss zero h f = refl
   laid-miss (suc n) h f =
-      rw (ne-eqb (writeKey (keyWords b) n) k (λ e. f n (omega arith) (sym (key-at n h) ∙ e))) (laid-miss n (omega arith) (λ j l. f j (omega arith)))
+      rw (ne-eqb (writeKey (keyWords b) n) k (λ e. f n (omega arith) (sym (key-at n h) ∙ e)))
+      (laid-miss n (omega arith) (λ j l. f j (omega arith)))
 
   laid-sorted : k < sizes.keys → laid (keyWords b) k (sortedCount b) v ≡ pick (wroteKey b k) (wroteValue b k) v
   laid-sorted h =
@@ -136,7 +150,8 @@ module _ {sites : ℕ} (x : Item) (c : Placed sites x) (k : ℕ) (h : k < sizes.
   block-there i v e =
       by-test (inMask (x .mask) (i + 1))
       (λ t. let b = x .keys (i + 1) in
-      let n : wroteKey b k ≡ false = unset _ (λ u. let (j, l, q) = wrote-sorted b k h u in e (ap (siteOf o) (sym q) ∙ c .keys (i + 1) j (omega arith) t l)) in
+      let n : wroteKey b k ≡ false =
+      unset _ (λ u. let (j, l, q) = wrote-sorted b k h u in e (ap (siteOf o) (sym q) ∙ c .keys (i + 1) j (omega arith) t l)) in
       rw (t, key-count b) (laid-sorted b k v h ∙ rw n))
       (λ t. rw t)
 
@@ -146,14 +161,21 @@ module _ {sites : ℕ} (x : Item) (c : Placed sites x) (k : ℕ) (h : k < sizes.
     unfolding itemWrites foldBelow laid
     below zero l = refl
     below (suc n) l =
-        rw (item-count n x, laid-append (itemWrites n x) (siteWrites x n) (writesIn (itemWrites n x)) k v (item-size n x) (writesIn (siteWrites x n)), below n (omega arith))
+        rw (
+          item-count n x,
+          laid-append (itemWrites n x) (siteWrites x n) (writesIn (itemWrites n x)) k v (item-size n x) (writesIn (siteWrites x n)),
+          below n (omega arith),
+        )
         (block-there n v (λ e. omega arith))
 
     beyond : (n : ℕ) → siteOf o k ≤ n → laid (itemWrites n x) k (writesIn (itemWrites n x)) v ≡ leaves o k v x
     unfolding itemWrites foldBelow
     beyond zero l = absurd (omega (arith, positive-site o k))
     beyond (suc n) l =
-        rw (item-count n x, laid-append (itemWrites n x) (siteWrites x n) (writesIn (itemWrites n x)) k v (item-size n x) (writesIn (siteWrites x n)))
+        rw (
+          item-count n x,
+          laid-append (itemWrites n x) (siteWrites x n) (writesIn (itemWrites n x)) k v (item-size n x) (writesIn (siteWrites x n)),
+        )
         (by-order n (siteOf o k)
         (λ a. rw (below n a) (block-here n v (omega arith)))
         (λ a. rw (beyond n a) (block-there n (leaves o k v x) (λ e. omega arith))))

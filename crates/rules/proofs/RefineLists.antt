@@ -28,13 +28,15 @@ put-back a d ws n h e =
     rw z at (put-within a d ws 0 n h (omega arith)) ∙ take-all n ws (omega arith)
 
 -- the first list of a part
-pub list-first : (lists : List ℕ) (i : ℕ) (b : Sub) (es : List ℕ) → length lists ≡ sizes.lists → i < sizes.live → length es ≡ sizes.entry * b .course .listed → Marks es
+pub list-first : (lists : List ℕ) (i : ℕ) (b : Sub) (es : List ℕ) → length lists ≡ sizes.lists → i < sizes.live
+    → length es ≡ sizes.entry * b .course .listed → Marks es
     → ListIs (putAt (sizes.gathered * i) lists es) i b es
 list-first lists i b es e h n m =
     record { size = n; words = put-back (sizes.gathered * i) lists es (sizes.entry * b .course .listed) (omega arith) n; marks = m }
 
 -- one more behind those that stand there
-pub list-more : (lists : List ℕ) (i : ℕ) (b c : Sub) (fs es : List ℕ) (k : ℕ) → length lists ≡ sizes.lists → i < sizes.live → ListIs lists i b fs
+pub list-more : (lists : List ℕ) (i : ℕ) (b c : Sub) (fs es : List ℕ) (k : ℕ) → length lists ≡ sizes.lists → i < sizes.live
+    → ListIs lists i b fs
     → b .course .listed + k ≤ sizes.certEntries → length es ≡ sizes.entry * k → c .course .listed ≡ b .course .listed + k → Marks es
     → ListIs (putAt (sizes.gathered * i + sizes.entry * b .course .listed) lists es) i c (fs ++ es)
 list-more lists i b c fs es k e h l room n new m =
@@ -42,8 +44,10 @@ list-more lists i b c fs es k e h l room n new m =
     let a = sizes.gathered * i + sizes.entry * j in
     let ws = putAt a lists es in
     let q : sizes.entry * c .course .listed ≡ sizes.entry * j + sizes.entry * k = omega arith in
-    let one : take (sizes.entry * j) (drop (sizes.gathered * i) ws) ≡ fs = put-before a lists es (sizes.gathered * i) (sizes.entry * j) (omega arith) (omega arith) ∙ l .words in
-    let two : take (sizes.entry * k) (drop (sizes.entry * j) (drop (sizes.gathered * i) ws)) ≡ es = rw (drop-drop (sizes.entry * j) (sizes.gathered * i) ws) (put-back a lists es (sizes.entry * k) (omega arith) n) in
+    let one : take (sizes.entry * j) (drop (sizes.gathered * i) ws) ≡ fs =
+    put-before a lists es (sizes.gathered * i) (sizes.entry * j) (omega arith) (omega arith) ∙ l .words in
+    let two : take (sizes.entry * k) (drop (sizes.entry * j) (drop (sizes.gathered * i) ws)) ≡ es =
+    rw (drop-drop (sizes.entry * j) (sizes.gathered * i) ws) (put-back a lists es (sizes.entry * k) (omega arith) n) in
     record {
       size = omega (arith, length-append fs es, l .size);
       words = rw (q, take-add (sizes.entry * j) (sizes.entry * k) (drop (sizes.gathered * i) ws), one, two);
@@ -51,7 +55,8 @@ list-more lists i b c fs es k e h l room n new m =
     }
 
 -- the others stay
-pub lists-put : {own : ℕ} {live : List Sub} {lists : List ℕ} {gathered : ℕ → List ℕ} (i t : ℕ) (b : Sub) (at : ℕ) (ws es : List ℕ) → ListsAre own live lists gathered
+pub lists-put : {own : ℕ} {live : List Sub} {lists : List ℕ} {gathered : ℕ → List ℕ} (i t : ℕ) (b : Sub) (at : ℕ) (ws es : List ℕ)
+    → ListsAre own live lists gathered
     → length live ≡ sizes.live → Spot live i t → b .tx ≡ t → sizes.gathered * i ≤ at → at + length ws ≤ sizes.gathered * i + sizes.gathered
     → ((j : ℕ) → j < sizes.live → partAt live j .course .listed ≤ sizes.certEntries)
     → ListIs (putAt at lists ws) i b es → ListsAre own (set live i b) (putAt at lists ws) (upd gathered t es)
@@ -70,7 +75,8 @@ lists-put {own} {live} {lists} {gathered} i t b at ws es a size s x from to few 
           (record {
             size = old .size;
             words = by-order j i
-                (λ l. put-before at lists ws (sizes.gathered * j) (sizes.entry * k) (omega (arith, s .low, a .size)) (omega (arith, few j h)) ∙ old .words)
+                (λ l. put-before at lists ws (sizes.gathered * j) (sizes.entry * k) (omega (arith, s .low, a .size))
+                (omega (arith, few j h)) ∙ old .words)
                 (λ l. let m : sizes.gathered * i + sizes.gathered ≤ sizes.gathered * j = apart j i l n in
                 rw (put-behind at lists ws (sizes.gathered * j) (omega (arith, s .low, a .size)) (omega arith)) (old .words));
             marks = old .marks;

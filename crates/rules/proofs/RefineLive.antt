@@ -115,7 +115,8 @@ module _ {live : List Sub} {row : ℕ → Sub} (l : LiveIs live row) where
               absurd (n (s .alone j h f′ (q′ ∙ x g′ .0))))
               (λ o. l .apart j k h m f′ (rw (there k o) at g) (rw (there j n, there k o) at q)));
           found =
-              upd-cases (λ u c. (IsFree c → ⊥) → (j : ℕ) × (j < sizes.live) × (partAt (set live i b) j ≡ c) × (partAt (set live i b) j .tx ≡ u)) row t b
+              upd-cases (λ u c. (IsFree c → ⊥)
+              → (j : ℕ) × (j < sizes.live) × (partAt (set live i b) j ≡ c) × (partAt (set live i b) j .tx ≡ u)) row t b
               (λ f. (i, s .low, here, rw here (x f .0)))
               (λ u n f.
               let (j, h, e, y) = l .found u f in
@@ -125,7 +126,8 @@ module _ {live : List Sub} {row : ℕ → Sub} (l : LiveIs live row) where
         }
 
     -- the gathered lists, where the part there is none whose entries the site gathers
-    pub lists-set : (own : ℕ) (lists : List ℕ) (gathered : ℕ → List ℕ) → (b .course .stage ≡ stage.prepared → coordinatorOf (b .tx) ≡ own → ⊥)
+    pub lists-set : (own : ℕ) (lists : List ℕ) (gathered : ℕ → List ℕ)
+        → (b .course .stage ≡ stage.prepared → coordinatorOf (b .tx) ≡ own → ⊥)
         → ListsAre own live lists gathered → ListsAre own (set live i b) lists gathered
     lists-set own lists gathered n a =
         record {

@@ -29,7 +29,8 @@ use Rattle.rules.specs.Queue.{leastQueued, isDue, stateNumber}
 use Rattle.rules.specs.QueueLaws.{least-first, state-clock, state-open, state-decided, StateIs, state-is}
 use Rattle.rules.specs.Valid.{siteOk}
 use Rattle.rules.specs.Effect.{Effect, refused}
-use Rattle.rules.specs.Install.{installCode, entryOf, partHead, partWords, baseAfter, installedAt, installOf, reportCode, stateWords, reportOf}
+use Rattle.rules.specs.Install.{installCode, entryOf, partHead, partWords, baseAfter, installedAt, installOf, reportCode, stateWords}
+use Rattle.rules.specs.Install.{reportOf}
 use Rattle.rules.specs.CallLaws.{install-clear, report-clear}
 use Rattle.rules.specs.World.{World, upd, step, logStep, recordIn}
 use Rattle.rules.specs.World as world
@@ -55,14 +56,23 @@ unfolding partWords partHead entryWords partHeadOf entryOf recordWords
 part-record own s b c e f = rw (e, f)
 
 -- The state number, by transaction.
-state-at : (live : List Sub) (p : Protocol) (s clock : ℕ) → LiveIs live (p .live s) → clock ≡ p .clock s → StateAt p s (stateNumber live clock sizes.live)
+state-at : (live : List Sub) (p : Protocol) (s clock : ℕ) → LiveIs live (p .live s) → clock ≡ p .clock s
+    → StateAt p s (stateNumber live clock sizes.live)
 state-at live p s clock l e =
     record {
       clock = omega (arith, state-clock live clock sizes.live);
       marks = λ u g. let (i, h, q, x) = l .found u (λ f. omega arith) in
-          omega (arith, state-open live clock sizes.live i h (ap (λ (b : Sub). b .course .stage) q ∙ g), ap (λ (b : Sub). b .course .number) q);
+          omega (
+            arith,
+            state-open live clock sizes.live i h (ap (λ (b : Sub). b .course .stage) q ∙ g),
+            ap (λ (b : Sub). b .course .number) q,
+          );
       numbers = λ u g. let (i, h, q, x) = l .found u (λ f. omega arith) in
-          omega (arith, state-decided live clock sizes.live i h (ap (λ (b : Sub). b .course .stage) q ∙ g), ap (λ (b : Sub). b .course .number) q);
+          omega (
+            arith,
+            state-decided live clock sizes.live i h (ap (λ (b : Sub). b .course .stage) q ∙ g),
+            ap (λ (b : Sub). b .course .number) q,
+          );
       is = one (state-is live clock sizes.live);
     }
   where
@@ -120,7 +130,8 @@ module _ {sites : ℕ} {w : World} {p : Protocol} (r : Refines sites w p) (s : �
               base-size = y .base-size;
             })
             (λ a b. refl)
-            (rw g (log-more s (w .log s) (p .log s) (rState state) (stateWords (here .counters .own) state) (r .log s) (state-record (here .counters .own) s state (y .counters .own-is)))),
+            (rw g (log-more s (w .log s) (p .log s) (rState state) (stateWords (here .counters .own) state) (r .log s)
+            (state-record (here .counters .own) s state (y .counters .own-is)))),
       )
 
   pub report-moves : Follows sites p (step w (world.report s out) .world) []
@@ -149,7 +160,8 @@ newest : (n i : ℕ) → i < remembered (n + 1) → n ≤ forgotten (n + 1) + i 
 unfolding remembered forgotten
 newest n i l h = omega arith
 
-history-more : (history es : List Entry) (e : Entry) → HistoryIs history es → HistoryIs (set history (slotOf (length es)) e) (es ++ (e ∷ []))
+history-more : (history es : List Entry) (e : Entry) → HistoryIs history es
+    → HistoryIs (set history (slotOf (length es)) e) (es ++ (e ∷ []))
 history-more history es e x =
     record {
       size = length-set history (slotOf (length es)) e ∙ x .size;
@@ -173,7 +185,8 @@ history-more history es e x =
     }
 
 -- what is forgotten keeps the base values' number
-pub forget-length : (b : Keys) (n : ℕ) (base : List Value) → length (foldBelow (λ i l. set l (getD (b .writes) i 0) (getD (b .values) i fresh)) n base) ≡ length base
+pub forget-length : (b : Keys) (n : ℕ) (base : List Value)
+    → length (foldBelow (λ i l. set l (getD (b .writes) i 0) (getD (b .values) i fresh)) n base) ≡ length base
 unfolding foldBelow
 forget-length b zero base = refl
 forget-length b (suc n) base = simp length-set (forget-length b n base)
@@ -190,7 +203,8 @@ queued-held : (b : Sub) → isQueued b ≡ true → IsFree b → ⊥
 unfolding isQueued
 queued-held b q f = let z = rw f at q in let y : _≡_ {A = ℕ} 0 1 = cc in omega arith
 
-least-at : (live : List Sub) (p : Protocol) (s t : ℕ) → LiveIs live (p .live s) → partAt live (leastQueued live sizes.live) ≡ p .live s t → LeastQueued p s t
+least-at : (live : List Sub) (p : Protocol) (s t : ℕ) → LiveIs live (p .live s) → partAt live (leastQueued live sizes.live) ≡ p .live s t
+    → LeastQueued p s t
 unfolding isQueued
 least-at live p s t l e u q =
     let (i, h, x, y) = l .found u (queued-held (p .live s u) q) in
@@ -205,23 +219,29 @@ module _ {sites : ℕ} {w : World} {p : Protocol} (r : Refines sites w p) (s : �
   due = leastQueued (site .live) sizes.live
 
   installs : installCode (siteOk site) (length out) (length (w .base s)) (isDue (site .live) due) (site .counters .installs) ≡ 0
-      → Follows sites p (logStep w s (installedAt site (w .base s) due) (baseAfter site (w .base s)) .world) (book.installs s (installedAt site (w .base s) due .answer))
+      → Follows sites p (logStep w s (installedAt site (w .base s) due) (baseAfter site (w .base s)) .world)
+      (book.installs s (installedAt site (w .base s) due .answer))
   unfolding installedAt isDue
   installs e =
       let c = install-clear (siteOk site) (length out) (length (w .base s)) (isDue (site .live) due) (site .counters .installs) e in
       let (l, h) = inside r s (c .valid) in
       let y = r .site s l h in
-      let low : due < sizes.live = ltb-true due sizes.live (every-at (ltb due sizes.live ∷ eqb (partAt (site .live) due .course .stage) stage.decided ∷ []) 0 (c .least)) in
-      let decided : subAt site due .course .stage ≡ stage.decided = eqb-true _ _ (every-at (ltb due sizes.live ∷ eqb (partAt (site .live) due .course .stage) stage.decided ∷ []) 1 (c .least)) in
+      let low : due < sizes.live =
+      ltb-true due sizes.live
+      (every-at (ltb due sizes.live ∷ eqb (partAt (site .live) due .course .stage) stage.decided ∷ []) 0 (c .least)) in
+      let decided : subAt site due .course .stage ≡ stage.decided =
+      eqb-true _ _ (every-at (ltb due sizes.live ∷ eqb (partAt (site .live) due .course .stage) stage.decided ∷ []) 1 (c .least)) in
       let a = part-place site p s due (y .live) low (λ f. omega arith) in
       let t = subAt site due .tx in
       let b = p .live s t in
       let k = p .log s ++ (rPart (entryOf b) ∷ []) in
       let g : upd (p .log) s k s ≡ k = upd-same (p .log) s k in
-      let z : partsOf (upd (p .log) s k s) ≡ partsOf (p .log s) ++ (entryOf b ∷ []) = rw g (parts-append (p .log s) (rPart (entryOf b) ∷ [])) in
+      let z : partsOf (upd (p .log) s k s) ≡ partsOf (p .log s) ++ (entryOf b ∷ []) =
+      rw g (parts-append (p .log s) (rPart (entryOf b) ∷ [])) in
       let gone = site-gone y refl a in (
         _,
-        more stop (install s t (sym (ap (λ (x : Sub). x .course .stage) (a .part)) ∙ decided) (least-at (site .live) p s t (y .live) (a .part))),
+        more stop (install s t (sym (ap (λ (x : Sub). x .course .stage) (a .part)) ∙ decided)
+            (least-at (site .live) p s t (y .live) (a .part))),
         ap (λ (b : Sub). book.installed s (b .course .number) (coordinatorOf t) ∷ []) (sym (a .part)),
         log-step r s l h
             (record {
@@ -245,7 +265,8 @@ module _ {sites : ℕ} {w : World} {p : Protocol} (r : Refines sites w p) (s : �
                   };
               channels = y .channels;
               live = gone .live;
-              history = rw (z, y .counters .installs-are, ap entryOf (a .part)) (history-more (site .history) (partsOf (p .log s)) (entryOf b) (y .history));
+              history = rw (z, y .counters .installs-are, ap entryOf (a .part))
+                  (history-more (site .history) (partsOf (p .log s)) (entryOf b) (y .history));
               lists = gone .lists;
               base-size = base-length site (w .base s) ∙ y .base-size;
             })
@@ -255,7 +276,8 @@ module _ {sites : ℕ} {w : World} {p : Protocol} (r : Refines sites w p) (s : �
             (part-record (site .counters .own) s (subAt site due) b (y .counters .own-is) (a .part)))),
       )
 
-  pub install-moves : let x = step w (world.install s out) in Follows sites p (x .world) (toldBy (world.install s out) (x .answer) (x .words))
+  pub install-moves : let x = step w (world.install s out) in
+      Follows sites p (x .world) (toldBy (world.install s out) (x .answer) (x .words))
   unfolding step logStep installOf installedAt
   install-moves =
       let code = installCode (siteOk site) (length out) (length (w .base s)) (isDue (site .live) due) (site .counters .installs) in

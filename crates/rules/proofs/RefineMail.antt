@@ -56,14 +56,16 @@ made-append {vs = vs} (one {m = m} {ws = ws} e l q p k) b = one (ap (λ z. z ++ 
 module _ (a b n : ℕ) (m : Msg) (whole : Whole (entriesIn m)) where
   encode-length : getD (encode a b n m) 0 0 ≡ length (encode a b n m)
   unfolding encode messageWords headOf
-  encode-length = sym (length-message (headOf (kindOf m) a b n (txIn m) (clockIn m) (argumentIn m) (entryCount (entriesIn m))) (entriesIn m) whole)
+  encode-length =
+      sym (length-message (headOf (kindOf m) a b n (txIn m) (clockIn m) (argumentIn m) (entryCount (entriesIn m))) (entriesIn m) whole)
 
   encode-some : 0 < length (encode a b n m)
   unfolding encode messageWords headOf
   encode-some = omega arith
 
 -- The last message posted from a to b.
-pub posted-new : (post new : ℕ → ℕ → List Msg) (a b n : ℕ) (m : Msg) → new a b ≡ post a b ++ (m ∷ []) → n ≡ length (post a b) → Posted new (encode a b (n + 1) m)
+pub posted-new : (post new : ℕ → ℕ → List Msg) (a b n : ℕ) (m : Msg) → new a b ≡ post a b ++ (m ∷ []) → n ≡ length (post a b)
+    → Posted new (encode a b (n + 1) m)
 posted-new post new a b n m e q =
     record {
       from = a;
@@ -87,7 +89,8 @@ unfolding sendTo encode
 send-words u m a b e f = rw (e, f)
 
 pub grows-one : (post : ℕ → ℕ → List Msg) (a b : ℕ) (m : Msg) → Grows post (upd₂ post a b (post a b ++ (m ∷ [])))
-grows-one post a b m = upd₂-cases (λ i j l. (k : List Msg) × (l ≡ post i j ++ k)) post a b _ (m ∷ [], refl) (λ i j o. ([], sym (append-nil (post i j))))
+grows-one post a b m =
+    upd₂-cases (λ i j l. (k : List Msg) × (l ≡ post i j ++ k)) post a b _ (m ∷ [], refl) (λ i j o. ([], sym (append-nil (post i j))))
 
 -- one message from a to each other participant
 pub recipient-in : (mask a i : ℕ) → isRecipient mask a i ≡ true → inMask mask (i + 1) ≡ true
@@ -120,11 +123,14 @@ module _ {sites : ℕ} {c : Channels} {taken : ℕ → ℕ} (post : ℕ → ℕ 
   made-all zero = rw (messages-none (headAll a m) (c .sent) mask (entriesIn m)) none
   made-all (suc k) = rw (← add-one k, messages-more (headAll a m) (c .sent) mask (entriesIn m) k) (made-append (made-all k) (words-one k))
 
-pub send-all-words : (u : Turn) (answer : Answer) (m : Msg) (a mask : ℕ) → u .counters .own ≡ a → u .sub .tx ≡ txIn m → u .sub .course .mask ≡ mask
-    → sendAll u answer (kindOf m) (clockIn m) (argumentIn m) (entriesIn m) .words ≡ messagesTo (headAll a m) (u .channels .sent) mask (entriesIn m) sizes.sites
+pub send-all-words : (u : Turn) (answer : Answer) (m : Msg) (a mask : ℕ) → u .counters .own ≡ a → u .sub .tx ≡ txIn m
+    → u .sub .course .mask ≡ mask
+    → sendAll u answer (kindOf m) (clockIn m) (argumentIn m) (entriesIn m) .words
+    ≡ messagesTo (headAll a m) (u .channels .sent) mask (entriesIn m) sizes.sites
 unfolding sendAll
 send-all-words u answer m a mask e f g = rw (e, f, g)
 
 pub grows-all : (post : ℕ → ℕ → List Msg) (a mask : ℕ) (m : Msg) → Grows post (others post a mask m)
 grows-all post a mask m =
-    others-cases (λ i j l. (k : List Msg) × (l ≡ post i j ++ k)) post a mask m (λ j l e n. (m ∷ [], refl)) (λ i j. ([], sym (append-nil (post i j))))
+    others-cases (λ i j l. (k : List Msg) × (l ≡ post i j ++ k)) post a mask m (λ j l e n. (m ∷ [], refl))
+    (λ i j. ([], sym (append-nil (post i j))))

@@ -38,7 +38,8 @@ use Rattle.rules.proofs.Stream.{Stream, Steps, NextRecord, rankOf}
 use Rattle.rules.proofs.StreamInv.{NotAbove}
 use Rattle.rules.proofs.StreamReached.{Standing}
 use Rattle.rules.proofs.Told.{toldSteps}
-use Rattle.rules.proofs.RefineMerger.{itemWords, MergerIs, StreamIs, Onward, one-step, posted-no-record, is-map, part-head, state-head, item-head, map-at, same-words, words-same}
+use Rattle.rules.proofs.RefineMerger.{itemWords, MergerIs, StreamIs, Onward, one-step, posted-no-record, is-map, part-head}
+use Rattle.rules.proofs.RefineMerger.{state-head, item-head, map-at, same-words, words-same}
 use Rattle.rules.proofs.RefineQueue.{TakesPart, TakesState, merge-cases, tx-low, more-queued, still-queued}
 
 module _ {sites : ℕ} {w : World} {v : Stream} (x : StreamIs sites w v) where
@@ -52,7 +53,8 @@ module _ {sites : ℕ} {w : World} {v : Stream} (x : StreamIs sites w v) where
   with-merger n = record { protocol = v .protocol; merger = n; replayed = v .replayed }
 
   -- nothing is emitted
-  quiet : (e : Merging) (merged : ℕ → ℕ) (n : stream.Merger) (s : Steps sites v (with-merger n)) → toldSteps s ≡ [] → n .out ≡ m .out → e .words ≡ []
+  quiet : (e : Merging) (merged : ℕ → ℕ) (n : stream.Merger) (s : Steps sites v (with-merger n)) → toldSteps s ≡ [] → n .out ≡ m .out
+      → e .words ≡ []
       → MergerIs sites (e .merger) (e .queues) n → ((s : ℕ) → merged s ≡ n .took s) → Onward sites v (mergerStep w e merged .world) []
   unfolding mergerStep
   quiet e merged n s t o k i c =
@@ -79,7 +81,8 @@ module _ {sites : ℕ} {w : World} {v : Stream} (x : StreamIs sites w v) where
     below : place < length (p .log s)
     words : ws ≡ recWords s (getD (p .log s) place (rState 0))
 
-  pub logged : (s i : ℕ) → i < length (w .log s) → (i < length (p .log s)) × (getD (w .log s) i [] ≡ recWords s (getD (p .log s) i (rState 0)))
+  pub logged : (s i : ℕ) → i < length (w .log s)
+      → (i < length (p .log s)) × (getD (w .log s) i [] ≡ recWords s (getD (p .log s) i (rState 0)))
   logged s i h = rw (x .refines .log s) (map-at (recWords s) (p .log s) (rState 0) i (rw (x .refines .log s) at h))
 
   site-in : (s : ℕ) (r : Rec) → recordHead (recWords s r) .site ≡ s
@@ -87,17 +90,20 @@ module _ {sites : ℕ} {w : World} {v : Stream} (x : StreamIs sites w v) where
   site-in s (rPart e) = rw (part-head s e)
   site-in s (rState n) = rw (state-head s n)
 
-  from-log : (ws : List ℕ) → Handed w (world.merge ws) → recordShape ws ≡ true → recordHead ws .kind ≤ kind.state → FromLog ws (recordHead ws .site)
+  from-log : (ws : List ℕ) → Handed w (world.merge ws) → recordShape ws ≡ true → recordHead ws .kind ≤ kind.state
+      → FromLog ws (recordHead ws .site)
   unfolding recordHead
   from-log ws (inl a) e k = absurd (posted-no-record (p .post) ws (all-is (x .refines .sent) a) e (omega arith))
   from-log ws (inr (inl (s, (i, a, b, c)))) e k =
       let (d, q) = logged s i b in
       let f : FromLog ws s = record { place = i; reached = omega (arith, x .merged s); below = d; words = sym c ∙ q } in
-      let y : s ≡ recordHead ws .site = sym (ap (λ (l : List ℕ). recordHead l .site) (f .words) ∙ site-in s (getD (p .log s) i (rState 0))) in
+      let y : s ≡ recordHead ws .site =
+      sym (ap (λ (l : List ℕ). recordHead l .site) (f .words) ∙ site-in s (getD (p .log s) i (rState 0))) in
       rw y at f
   from-log ws (inr (inr a)) e k =
       let (y, q) = is-map (itemWords sites) (m .out) (rw (x .emitted) at a) in
-      absurd (let z : recordHead ws .kind ≡ kind.merged = ap (λ (l : List ℕ). recordHead l .kind) q ∙ ap (λ (r : RecordHead). r .kind) (item-head sites y) in omega arith)
+      absurd (let z : recordHead ws .kind ≡ kind.merged = ap (λ (l : List ℕ). recordHead l .kind) q
+      ∙ ap (λ (r : RecordHead). r .kind) (item-head sites y) in omega arith)
 
   -- One record more is counted where it is the next.
   abbrev counted : List ℕ → ℕ → ℕ
@@ -171,7 +177,8 @@ module _ {sites : ℕ} {w : World} {v : Stream} (x : StreamIs sites w v) where
       part-words = f .words ∙ ap (recWords (i + 1)) q
 
       new-source : Source
-      new-source = record { state = sourceAt g i .state; number = e .number; coordinator = coordinatorOf (e .tx); queued = sourceAt g i .queued + 1 }
+      new-source =
+          record { state = sourceAt g i .state; number = e .number; coordinator = coordinatorOf (e .tx); queued = sourceAt g i .queued + 1 }
 
       e-low : coordinatorOf (e .tx) < 16
       unfolding partHeadOf
@@ -186,7 +193,8 @@ module _ {sites : ℕ} {w : World} {v : Stream} (x : StreamIs sites w v) where
       unfolding partHeadOf
       above =
           let c = x .merger .source i l in
-          let k = precedes-rank (sourceAt g i .number) (sourceAt g i .coordinator) (e .number) (coordinatorOf (e .tx)) (c .low) e-low (t .above) in
+          let k = precedes-rank (sourceAt g i .number) (sourceAt g i .coordinator) (e .number) (coordinatorOf (e .tx)) (c .low) e-low
+          (t .above) in
           omega (arith, c .last-is)
 
       beyond : m .state (i + 1) < e .number
@@ -200,7 +208,8 @@ module _ {sites : ℕ} {w : World} {v : Stream} (x : StreamIs sites w v) where
           (eq-or-lt-of-le (f .reached))
 
       part-tables : Holds (withSource g i new-source) (putAt (placeAt i (sourceAt g i .queued)) (w .queues) ws)
-          → MergerIs sites (withSource g i new-source) (putAt (placeAt i (sourceAt g i .queued)) (w .queues) ws) (stream.tookPart m (i + 1) e)
+          → MergerIs sites (withSource g i new-source) (putAt (placeAt i (sourceAt g i .queued)) (w .queues) ws)
+          (stream.tookPart m (i + 1) e)
       unfolding upd new-source
       part-tables h =
           record {
@@ -209,13 +218,16 @@ module _ {sites : ℕ} {w : World} {v : Stream} (x : StreamIs sites w v) where
             source = λ k b. by-test (eqb (k + 1) (i + 1))
                 (λ u. let y : k ≡ i = omega (arith, eqb-true (k + 1) (i + 1) u) in
                 rw (u, y) (rw (set-here new-source)
-                (more-queued g (w .queues) ws i (x .merger .holds) bound (t .room) o e (m .queue (i + 1)) (m .state (i + 1)) (m .last (i + 1)) part-words e-low (x .merger .source i l))))
+                (more-queued g (w .queues) ws i (x .merger .holds) bound (t .room) o e (m .queue (i + 1)) (m .state (i + 1))
+                (m .last (i + 1)) part-words e-low (x .merger .source i l))))
                 (λ u. let n = other-site k u in
                 rw (u, set-there new-source k n)
-                (still-queued g (w .queues) ws i (x .merger .holds) bound (t .room) o k _ _ _ (rw (x .merger .house) b) n (x .merger .source k b)));
+                (still-queued g (w .queues) ws i (x .merger .holds) bound (t .room) o k _ _ _ (rw (x .merger .house) b) n
+                (x .merger .source k b)));
           }
 
-      part-onward : mergeOf g (w .queues) ws ≡ doneMerger (withSource g i new-source) (putAt (placeAt i (sourceAt g i .queued)) (w .queues) ws)
+      part-onward : mergeOf g (w .queues) ws
+          ≡ doneMerger (withSource g i new-source) (putAt (placeAt i (sourceAt g i .queued)) (w .queues) ws)
           → After ws i
       part-onward d =
           let h = rw d at (merge-kept g (w .queues) ws (x .merger .holds)) in
@@ -230,10 +242,13 @@ module _ {sites : ℕ} {w : World} {v : Stream} (x : StreamIs sites w v) where
       state-words = f .words ∙ ap (recWords (i + 1)) q
 
       with-number : Source
-      with-number = record { state = n; number = sourceAt g i .number; coordinator = sourceAt g i .coordinator; queued = sourceAt g i .queued }
+      with-number =
+          record { state = n; number = sourceAt g i .number; coordinator = sourceAt g i .coordinator; queued = sourceAt g i .queued }
 
-      state-tables : (states : ℕ → ℕ) (took : ℕ → ℕ) → states (i + 1) ≡ n → ((k : ℕ) → (k ≡ i → ⊥) → states (k + 1) ≡ m .state (k + 1)) → Holds (withSource g i with-number) (w .queues)
-          → MergerIs sites (withSource g i with-number) (w .queues) (record { took = took; queue = m .queue; state = states; last = m .last; out = m .out })
+      state-tables : (states : ℕ → ℕ) (took : ℕ → ℕ) → states (i + 1) ≡ n → ((k : ℕ) → (k ≡ i → ⊥) → states (k + 1) ≡ m .state (k + 1))
+          → Holds (withSource g i with-number) (w .queues)
+          → MergerIs sites (withSource g i with-number) (w .queues)
+          (record { took = took; queue = m .queue; state = states; last = m .last; out = m .out })
       unfolding with-number
       state-tables states took a b h =
           record {
@@ -241,7 +256,8 @@ module _ {sites : ℕ} {w : World} {v : Stream} (x : StreamIs sites w v) where
             holds = h;
             source = λ k c. by-test (eqb k i)
                 (λ u. let y = eqb-true k i u in let d = x .merger .source i l in
-                rw y (rw (set-here with-number) (record { queued = d .queued; state-is = sym a; last-is = d .last-is; low = d .low; words = d .words })))
+                rw y (rw (set-here with-number)
+                (record { queued = d .queued; state-is = sym a; last-is = d .last-is; low = d .low; words = d .words })))
                 (λ u. let y = eqb-false k i u in rw (set-there with-number k y, b k y) (x .merger .source k c));
           }
 
@@ -295,7 +311,8 @@ module _ {sites : ℕ} {w : World} {v : Stream} (x : StreamIs sites w v) where
     Merged = Onward sites v (step w (world.merge ws) .world) []
 
     -- a record taken, by its site's index
-    part-on : (i : ℕ) → recordHead ws .site ≡ i + 1 → i < sites → TakesPart (w .merger) (w .queues) ws (recordHead ws) i → FromLog ws (i + 1) → Merged
+    part-on : (i : ℕ) → recordHead ws .site ≡ i + 1 → i < sites → TakesPart (w .merger) (w .queues) ws (recordHead ws) i
+        → FromLog ws (i + 1) → Merged
     unfolding step mergeStep partHeadOf new-source
     part-on i e l t f = rw e (go (getD (p .log (i + 1)) (f .place) (rState 0)) refl)
       where
@@ -306,16 +323,25 @@ module _ {sites : ℕ} {w : World} {v : Stream} (x : StreamIs sites w v) where
             part-onward z ws i l f y q (t .ok) (u .taken) (u .is)
         go (rState n) q =
             let c = ap recordHead (f .words ∙ ap (recWords (i + 1)) q) ∙ state-head (i + 1) n in
-            absurd (omega (arith, part-clear (w .merger .house) (recordHead ws) (part-passed-good (w .merger .house) ws (t .ok) .head) .kind, ap (λ (r : RecordHead). r .kind) c))
+            absurd (omega (
+              arith,
+              part-clear (w .merger .house) (recordHead ws) (part-passed-good (w .merger .house) ws (t .ok) .head) .kind,
+              ap (λ (r : RecordHead). r .kind) c,
+            ))
 
-    state-on : (i : ℕ) → recordHead ws .site ≡ i + 1 → i < sites → TakesState (w .merger) (w .queues) ws (recordHead ws) i → FromLog ws (i + 1) → Merged
+    state-on : (i : ℕ) → recordHead ws .site ≡ i + 1 → i < sites → TakesState (w .merger) (w .queues) ws (recordHead ws) i
+        → FromLog ws (i + 1) → Merged
     unfolding step mergeStep partHeadOf with-number
     state-on i e l t f = rw e (go (getD (p .log (i + 1)) (f .place) (rState 0)) refl)
       where
         go : (r : Rec) → getD (p .log (i + 1)) (f .place) (rState 0) ≡ r → After ws i
         go (rPart y) q =
             let c : recordHead ws ≡ partHeadOf (i + 1) y = ap recordHead (f .words ∙ ap (recWords (i + 1)) q) ∙ part-head (i + 1) y in
-            absurd (omega (arith, state-clear (w .merger .house) (recordHead ws) (state-passed-good (w .merger .house) ws (t .ok) .head) .kind, ap (λ (r : RecordHead). r .kind) c))
+            absurd (omega (
+              arith,
+              state-clear (w .merger .house) (recordHead ws) (state-passed-good (w .merger .house) ws (t .ok) .head) .kind,
+              ap (λ (r : RecordHead). r .kind) c,
+            ))
         go (rState n) q =
             let c = ap recordHead (f .words ∙ ap (recWords (i + 1)) q) ∙ state-head (i + 1) n in
             let u = rw c at t in
@@ -329,13 +355,18 @@ module _ {sites : ℕ} {w : World} {v : Stream} (x : StreamIs sites w v) where
         index s e = let c = site-clear (w .merger .house) s e in (omega arith, omega (arith, x .merger .house))
 
         go : ((n : ℕ) × (mergeOf (w .merger) (w .queues) ws ≡ refusedMerger n (w .merger) (w .queues)))
-            ⊎ (TakesPart (w .merger) (w .queues) ws (recordHead ws) (recordHead ws .site - 1) ⊎ TakesState (w .merger) (w .queues) ws (recordHead ws) (recordHead ws .site - 1)) → Merged
-        go (inl (n, d)) = rw d (quiet (refusedMerger n (w .merger) (w .queues)) _ m stream.stop refl refl refl (x .merger) (λ j. took-none (recordHead ws .site) _ j (x .merged (recordHead ws .site))))
+            ⊎ (TakesPart (w .merger) (w .queues) ws (recordHead ws) (recordHead ws .site - 1)
+            ⊎ TakesState (w .merger) (w .queues) ws (recordHead ws) (recordHead ws .site - 1)) → Merged
+        go (inl (n, d)) =
+            rw d (quiet (refusedMerger n (w .merger) (w .queues)) _ m stream.stop refl refl refl (x .merger)
+            (λ j. took-none (recordHead ws .site) _ j (x .merged (recordHead ws .site))))
         go (inr (inl t)) =
             let c = part-clear (w .merger .house) (recordHead ws) (part-passed-good (w .merger .house) ws (t .ok) .head) in
             let (e, l) = index (recordHead ws .site) (c .site) in
-            part-on (recordHead ws .site - 1) e l t (rw e at (from-log ws h (part-shape (w .merger .house) ws (t .ok)) (omega (arith, c .kind))))
+            part-on (recordHead ws .site - 1) e l t
+            (rw e at (from-log ws h (part-shape (w .merger .house) ws (t .ok)) (omega (arith, c .kind))))
         go (inr (inr t)) =
             let c = state-clear (w .merger .house) (recordHead ws) (state-passed-good (w .merger .house) ws (t .ok) .head) in
             let (e, l) = index (recordHead ws .site) (c .site) in
-            state-on (recordHead ws .site - 1) e l t (rw e at (from-log ws h (state-shape (w .merger .house) ws (t .ok)) (omega (arith, c .kind))))
+            state-on (recordHead ws .site - 1) e l t
+            (rw e at (from-log ws h (state-shape (w .merger .house) ws (t .ok)) (omega (arith, c .kind))))

@@ -82,7 +82,8 @@ pub record MergerIs (sites : ℕ) (g : Merger) (queues : List ℕ) (m : stream.M
 
 -- an item's keys are of its parts' sites, which the house has
 pub record Placed (sites : ℕ) (x : Item) : Type 0 where
-  pub keys : (s j : ℕ) → 1 ≤ s → inMask (x .mask) s ≡ true → j < sortedCount (x .keys s) → siteOf (record { sites = sites }) (sortedKey (x .keys s) j) ≡ s
+  pub keys : (s j : ℕ) → 1 ≤ s → inMask (x .mask) s ≡ true → j < sortedCount (x .keys s)
+      → siteOf (record { sites = sites }) (sortedKey (x .keys s) j) ≡ s
   pub few : (s : ℕ) → 1 ≤ s → inMask (x .mask) s ≡ true → s ≤ sites
 
 -- the pair of the last of some items
@@ -132,7 +133,8 @@ module _ (g : stream.Merger) (n : ℕ → ℕ) where
   told-moved (more ms m) = ap (λ (l : List Fact). l ++ told m) (told-moved ms)
 
 pub site-onward : {sites : ℕ} {w x : World} {v : Stream} {fs : List Fact} → StreamIs sites w v → Follows sites (v .protocol) x fs
-    → x .merger ≡ w .merger → x .queues ≡ w .queues → x .merged ≡ w .merged → x .stream ≡ w .stream → x .replayed ≡ w .replayed → x .copy ≡ w .copy → Onward sites v x fs
+    → x .merger ≡ w .merger → x .queues ≡ w .queues → x .merged ≡ w .merged → x .stream ≡ w .stream → x .replayed ≡ w .replayed
+    → x .copy ≡ w .copy → Onward sites v x fs
 site-onward {v = v} i (q, m, t, r) a b c d e f = (
   record { protocol = q; merger = v .merger; replayed = v .replayed },
   moved (v .merger) (v .replayed) m,
@@ -160,7 +162,8 @@ message-shape a b n (mVote t c r) e k = omega arith
 message-shape a b n (mCommit t c) e k = omega arith
 message-shape a b n (mAbort t) e k = omega arith
 
-pub posted-no-record : (post : ℕ → ℕ → List Msg) (ws : List ℕ) → Posted post ws → recordShape ws ≡ true → getD ws word.kind 0 < kind.conc → ⊥
+pub posted-no-record : (post : ℕ → ℕ → List Msg) (ws : List ℕ) → Posted post ws → recordShape ws ≡ true
+    → getD ws word.kind 0 < kind.conc → ⊥
 posted-no-record post ws p e k = message-shape (p .from) (p .to) (p .place + 1) _ (rw (p .words) at e) (rw (p .words) at k)
 
 -- What is in a list of words of things.
@@ -173,7 +176,8 @@ pub part-head : (s : ℕ) (e : Entry) → recordHead (entryWords s e) ≡ partHe
 unfolding entryWords
 part-head s e = head-back (partHeadOf s e) (keyWords (e .keys))
 
-pub state-head : (s n : ℕ) → recordHead (stateWords s n) ≡ record { kind = kind.state; site = s; number = n; coordinator = 0; tx = 0; mask = 0; count = 0 }
+pub state-head : (s n : ℕ)
+    → recordHead (stateWords s n) ≡ record { kind = kind.state; site = s; number = n; coordinator = 0; tx = 0; mask = 0; count = 0 }
 unfolding stateWords
 state-head s n = head-back _ []
 
@@ -182,7 +186,8 @@ unfolding itemWords
 item-head n x = head-back (itemHead n x) (itemWrites n x)
 
 -- the i-th of a list of words
-pub map-at : {A : Type 0} (f : A → List ℕ) (l : List A) (d : A) (i : ℕ) → i < length (map f l) → (i < length l) × (getD (map f l) i [] ≡ f (getD l i d))
+pub map-at : {A : Type 0} (f : A → List ℕ) (l : List A) (d : A) (i : ℕ) → i < length (map f l)
+    → (i < length l) × (getD (map f l) i [] ≡ f (getD l i d))
 map-at f l d i h = (omega (arith, length-map l f), in-range (map f l) i [] (f d) h ∙ List·getD-map f l i d)
 
 -- Words compared.

@@ -24,7 +24,8 @@ use Rattle.rules.specs.House.{coordinatorOf, isTx}
 use Rattle.rules.specs.MessageLaws.{site-clear}
 use Rattle.rules.specs.Record.{recordHead, partOk, stateOk}
 use Rattle.rules.specs.RecordLaws.{shape-clear, part-clear, part-passed-good, part-shape}
-use Rattle.rules.specs.Merger.{doneMerger, refusedMerger, sourceAt, withSource, placeAt, placeWords, queuedPart, mergePartCode, mergePart, mergeStateCode, mergeState, mergeCode, mergeOf}
+use Rattle.rules.specs.Merger.{doneMerger, refusedMerger, sourceAt, withSource, placeAt, placeWords, queuedPart, mergePartCode}
+use Rattle.rules.specs.Merger.{mergePart, mergeStateCode, mergeState, mergeCode, mergeOf}
 use Rattle.rules.specs.MergerClear.{PartTaken, part-taken, merge-clear, taken-part, part-short}
 use Rattle.rules.specs.MergerKept.{Holds}
 use Rattle.rules.specs.MergerWords.{put-part-back, put-elsewhere}
@@ -38,20 +39,30 @@ pub record TakesPart (g : Merger) (queues m : List ℕ) (r : RecordHead) (i : �
   pub ok : partOk (g .house) m ≡ true
   pub taken : PartTaken (sourceAt g i) r
   pub is : mergeOf g queues m
-      ≡ doneMerger (withSource g i (record { state = sourceAt g i .state; number = r .number; coordinator = r .coordinator; queued = sourceAt g i .queued + 1 }))
+      ≡ doneMerger
+      (withSource g i
+      (record { state = sourceAt g i .state; number = r .number; coordinator = r .coordinator; queued = sourceAt g i .queued + 1 }))
       (putAt (placeAt i (sourceAt g i .queued)) queues m)
 
 pub record TakesState (g : Merger) (queues m : List ℕ) (r : RecordHead) (i : ℕ) : Type 0 where
   pub ok : stateOk (g .house) m ≡ true
   pub beyond : sourceAt g i .state ≤ r .number
   pub is : mergeOf g queues m
-      ≡ doneMerger (withSource g i (record { state = r .number; number = sourceAt g i .number; coordinator = sourceAt g i .coordinator; queued = sourceAt g i .queued })) queues
+      ≡ doneMerger
+      (withSource g i
+      (record {
+        state = r .number;
+        number = sourceAt g i .number;
+        coordinator = sourceAt g i .coordinator;
+        queued = sourceAt g i .queued;
+      })) queues
 
 state-taken : (c : Source) (r : RecordHead) → mergeStateCode c r ≡ 0 → c .state ≤ r .number
 unfolding mergeStateCode
 state-taken c r e = ltb-false _ _ (clear-at (cause (ltb (r .number) (c .state)) reason.behind ∷ []) 0 refl e)
 
-taken-state : (g : Merger) (queues m : List ℕ) → mergeCode g queues m ≡ 0 → (recordHead m .kind ≡ kind.part → ⊥) → stateOk (g .house) m ≡ true
+taken-state : (g : Merger) (queues m : List ℕ) → mergeCode g queues m ≡ 0 → (recordHead m .kind ≡ kind.part → ⊥)
+    → stateOk (g .house) m ≡ true
 taken-state g queues m e k =
     ⊎-elim
     (λ (p : partOk (g .house) m ≡ true). absurd (k (part-clear (g .house) (recordHead m) (part-passed-good (g .house) m p .head) .kind)))
@@ -59,7 +70,8 @@ taken-state g queues m e k =
     (merge-clear g queues m e .record-ok)
 
 pub merge-cases : (g : Merger) (queues m : List ℕ)
-    → ((n : ℕ) × (mergeOf g queues m ≡ refusedMerger n g queues)) ⊎ (TakesPart g queues m (recordHead m) (recordHead m .site - 1) ⊎ TakesState g queues m (recordHead m) (recordHead m .site - 1))
+    → ((n : ℕ) × (mergeOf g queues m ≡ refusedMerger n g queues))
+    ⊎ (TakesPart g queues m (recordHead m) (recordHead m .site - 1) ⊎ TakesState g queues m (recordHead m) (recordHead m .site - 1))
 unfolding mergeOf mergePart mergeState
 merge-cases g queues m =
     let r = recordHead m in
@@ -67,10 +79,20 @@ merge-cases g queues m =
     by-test (eqb (mergeCode g queues m) 0)
     (λ e. by-test (eqb (r .kind) kind.part)
     (λ k. by-test (eqb (mergePartCode c r) 0)
-    (λ d. inr (inl (record { ok = taken-part g queues m (eqb-true _ _ e) (eqb-true _ _ k); taken = part-taken c r (eqb-true _ _ d); is = rw (e, k, d) })))
+    (λ d. inr (inl
+    (record {
+      ok = taken-part g queues m (eqb-true _ _ e) (eqb-true _ _ k);
+      taken = part-taken c r (eqb-true _ _ d);
+      is = rw (e, k, d);
+    })))
     (λ d. inl (mergePartCode c r, rw (e, k, d))))
     (λ k. by-test (eqb (mergeStateCode c r) 0)
-    (λ d. inr (inr (record { ok = taken-state g queues m (eqb-true _ _ e) (eqb-false _ _ k); beyond = state-taken c r (eqb-true _ _ d); is = rw (e, k, d) })))
+    (λ d. inr (inr
+    (record {
+      ok = taken-state g queues m (eqb-true _ _ e) (eqb-false _ _ k);
+      beyond = state-taken c r (eqb-true _ _ d);
+      is = rw (e, k, d);
+    })))
     (λ d. inl (mergeStateCode c r, rw (e, k, d)))))
     (λ e. inl (mergeCode g queues m, rw e))
 
@@ -79,11 +101,13 @@ unfolding isTx
 tx-low o t e = site-clear o (coordinatorOf t) (picked-left _ _ e) .high
 
 -- One site's queue with a part more, and the others.
-module _ (g : Merger) (queues ws : List ℕ) (i : ℕ) (h : Holds g queues) (l : i < g .house .sites) (c : sourceAt g i .queued < sizes.queue) (o : partOk (g .house) ws ≡ true) where
+module _ (g : Merger) (queues ws : List ℕ) (i : ℕ) (h : Holds g queues) (l : i < g .house .sites) (c : sourceAt g i .queued < sizes.queue)
+    (o : partOk (g .house) ws ≡ true) where
   abbrev after : List ℕ
   after = putAt (placeAt i (sourceAt g i .queued)) queues ws
 
-  place-kept : (k j : ℕ) → k < g .house .sites → j < sourceAt g k .queued → ((k ≡ i) × (j ≡ sourceAt g i .queued) → ⊥) → queuedPart after k j ≡ queuedPart queues k j
+  place-kept : (k j : ℕ) → k < g .house .sites → j < sourceAt g k .queued → ((k ≡ i) × (j ≡ sourceAt g i .queued) → ⊥)
+      → queuedPart after k j ≡ queuedPart queues k j
   unfolding queuedPart
   place-kept k j a b n =
       let f = h .clear .few in
@@ -106,11 +130,17 @@ module _ (g : Merger) (queues ws : List ℕ) (i : ℕ) (h : Holds g queues) (l :
   new-part =
       let f = h .clear .few in
       let s = shape-clear ws (part-shape (g .house) ws o) in
-      put-part-back queues ws i (sourceAt g i .queued) (h .clear .size) (omega arith) c (part-short (g .house) ws o) (omega arith) (s .whole)
+      put-part-back queues ws i (sourceAt g i .queued) (h .clear .size) (omega arith) c (part-short (g .house) ws o)
+      (omega arith) (s .whole)
 
   pub more-queued : (e : Entry) (queue : List Entry) (state last : ℕ) → ws ≡ entryWords (i + 1) e → coordinatorOf (e .tx) < 16
       → SourceIs (sourceAt g i) queues i queue state last
-      → SourceIs (record { state = sourceAt g i .state; number = e .number; coordinator = coordinatorOf (e .tx); queued = sourceAt g i .queued + 1 }) after i
+      → SourceIs (record {
+        state = sourceAt g i .state;
+        number = e .number;
+        coordinator = coordinatorOf (e .tx);
+        queued = sourceAt g i .queued + 1;
+      }) after i
       (queue ++ (e ∷ [])) state (rankOf e)
   more-queued e queue state last q b x =
       record {
@@ -123,7 +153,8 @@ module _ (g : Merger) (queues ws : List ℕ) (i : ℕ) (h : Holds g queues) (l :
             (rw (← x .queued) (new-part ∙ q));
       }
 
-  pub still-queued : (k : ℕ) (queue : List Entry) (state last : ℕ) → k < g .house .sites → (k ≡ i → ⊥) → SourceIs (sourceAt g k) queues k queue state last
+  pub still-queued : (k : ℕ) (queue : List Entry) (state last : ℕ) → k < g .house .sites → (k ≡ i → ⊥)
+      → SourceIs (sourceAt g k) queues k queue state last
       → SourceIs (sourceAt g k) after k queue state last
   still-queued k queue state last a n x =
       record {

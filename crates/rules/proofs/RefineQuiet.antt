@@ -15,7 +15,8 @@ use Rattle.rules.specs.Course.{takenFrom, raise, quietly, withSubOf, wit
 use Rattle.rules.specs.Deliver.{arrived}
 use Rattle.rules.specs.World.{upd}
 use Rattle.rules.proofs.Tables.{upd-same, upd-other, row-other}
-use Rattle.rules.proofs.Protocol.{Protocol, Msg, mJoined, mVote, mCommit, mAbort, Next, AtStage, courseAt, withCourseAt, withLive, took, raised, joined, votes, commits, aborts, passes}
+use Rattle.rules.proofs.Protocol.{Protocol, Msg, mJoined, mVote, mCommit, mAbort, Next, AtStage, courseAt, withCourseAt, withLive}
+use Rattle.rules.proofs.Protocol.{took, raised, joined, votes, commits, aborts, passes}
 use Rattle.rules.proofs.Refines.{sliceOf, SiteIs}
 use Rattle.rules.proofs.RefineTurn.{AtPlace, course-is, site-course, site-gone, decision-stage}
 use Rattle.rules.proofs.RefineActs.{Acts}
@@ -32,9 +33,11 @@ module _ {sites : ℕ} (p : Protocol) (s a : ℕ) {x : Site} {base lists : List 
   raised-clock n = upd-same (p .clock) s (max (p .clock s) n) ∙ ap (λ (k : ℕ). max k n) (sym (y .counters .clock-is))
 
   -- For a transaction not held.
-  pub pass-acts : (m : Msg) → Next p a s m → Acts sites s p (raised (took p a s) s 0) (withChannels x (takenFrom (x .channels) a)) base lists [] []
+  pub pass-acts : (m : Msg) → Next p a s m
+      → Acts sites s p (raised (took p a s) s 0) (withChannels x (takenFrom (x .channels) a)) base lists [] []
   pass-acts m next =
-      quiet-acts s a (passes a s 0 m next) (λ j n. upd-other (p .clock) s (max (p .clock s) 0) j n) refl (λ j n. refl) refl refl refl (λ t n. refl)
+      quiet-acts s a (passes a s 0 m next) (λ j n. upd-other (p .clock) s (max (p .clock s) 0) j n) refl (λ j n. refl) refl refl refl
+      (λ t n. refl)
       (took-site p s a few low high y (x .counters .clock) (raised-clock 0 ∙ omega arith) refl y)
 
   module _ {t : ℕ} (place : ℕ) (A : AtPlace x p s t place) where
@@ -44,23 +47,28 @@ module _ {sites : ℕ} (p : Protocol) (s a : ℕ) {x : Site} {base lists : List 
     unfolding settle arrived quietly
     joined-acts r next active out =
         let c = withReply (courseAt p s t) a r 0 in
-        quiet-acts s a (joined a s t r next active out) (λ j n. refl) refl (λ j n. row-other (p .live) s t (withCourse (p .live s t) c) j n) refl refl refl (λ t n. refl)
+        quiet-acts s a (joined a s t r next active out) (λ j n. refl) refl (λ j n. row-other (p .live) s t (withCourse (p .live s t) c) j n)
+        refl refl refl (λ t n. refl)
         (took-site p s a few low high y (x .counters .clock) (sym (y .counters .clock-is)) refl
-        (site-course y refl A c (withReply (subAt x place .course) a r 0) (rw (course-is A)) (λ z e. absurd (omega (arith, reply-stage (courseAt p s t) a r 0)))))
+        (site-course y refl A c (withReply (subAt x place .course) a r 0) (rw (course-is A))
+        (λ z e. absurd (omega (arith, reply-stage (courseAt p s t) a r 0)))))
 
     pub commits-acts : (n : ℕ) → Next p a s (mCommit t n) → AtStage p s t stage.queued
         → Acts sites s p (withCourseAt (raised (took p a s) s n) s t (withDecision (courseAt p s t) n))
-        (settle x place (quietly (withCourseOf (raise (arrived x place a) n) (withDecision (subAt x place .course) n)) .turn)) base lists [] []
+        (settle x place (quietly (withCourseOf (raise (arrived x place a) n) (withDecision (subAt x place .course) n)) .turn)) base
+        lists [] []
     unfolding settle arrived quietly raise
     commits-acts n next queued =
         let c = withDecision (courseAt p s t) n in
         quiet-acts s a (commits a s t n next queued) (λ j z. upd-other (p .clock) s (max (p .clock s) n) j z) refl
         (λ j z. row-other (p .live) s t (withCourse (p .live s t) c) j z) refl refl refl (λ t z. refl)
         (took-site p s a few low high y (max (x .counters .clock) n) (raised-clock n) refl
-        (site-course y refl A c (withDecision (subAt x place .course) n) (rw (course-is A)) (λ z e. absurd (omega (arith, decision-stage (courseAt p s t) n)))))
+        (site-course y refl A c (withDecision (subAt x place .course) n) (rw (course-is A))
+        (λ z e. absurd (omega (arith, decision-stage (courseAt p s t) n)))))
 
     pub aborts-acts : Next p a s (mAbort t) → (AtStage p s t stage.decided → ⊥)
-        → Acts sites s p (withLive (took p a s) s t noSub) (settle x place (quietly (withSubOf (arrived x place a) noSub) .turn)) base lists [] []
+        → Acts sites s p (withLive (took p a s) s t noSub) (settle x place (quietly (withSubOf (arrived x place a) noSub) .turn)) base
+        lists [] []
     unfolding settle arrived quietly
     aborts-acts next n =
         quiet-acts s a (aborts a s t next n) (λ j z. refl) refl (λ j z. row-other (p .live) s t noSub j z) refl refl refl (λ t z. refl)
@@ -76,11 +84,14 @@ module _ {sites : ℕ} (p : Protocol) (s a : ℕ) {x : Site} {base lists : List 
         quiet-acts s a (votes a s t n next queued out) (λ j z. upd-other (p .clock) s (max (p .clock s) n) j z) refl
         (λ j z. row-other (p .live) s t (withCourse (p .live s t) c) j z) refl refl refl (λ t z. refl)
         (took-site p s a few low high y (max (x .counters .clock) n) (raised-clock n) refl
-        (site-course y refl A c (withReply (subAt x place .course) a 0 0) (rw (course-is A)) (λ z e. absurd (omega (arith, reply-stage (courseAt p s t) a 0 0)))))
+        (site-course y refl A c (withReply (subAt x place .course) a 0 0) (rw (course-is A))
+        (λ z e. absurd (omega (arith, reply-stage (courseAt p s t) a 0 0)))))
 
     -- any message, before an abort that it brings
-    pub raised-acts : (n : ℕ) (m : Msg) → Next p a s m → Acts sites s p (raised (took p a s) s n) (settle x place (raise (arrived x place a) n)) base lists [] []
+    pub raised-acts : (n : ℕ) (m : Msg) → Next p a s m
+        → Acts sites s p (raised (took p a s) s n) (settle x place (raise (arrived x place a) n)) base lists [] []
     unfolding settle arrived raise
     raised-acts n m next =
-        quiet-acts s a (passes a s n m next) (λ j z. upd-other (p .clock) s (max (p .clock s) n) j z) refl (λ j z. refl) refl refl refl (λ t z. refl)
+        quiet-acts s a (passes a s n m next) (λ j z. upd-other (p .clock) s (max (p .clock s) n) j z) refl (λ j z. refl) refl refl refl
+        (λ t z. refl)
         (rw (set-getD (x .live) place pastSub) (took-site p s a few low high y (max (x .counters .clock) n) (raised-clock n) refl y))

@@ -35,7 +35,8 @@ use Rattle.rules.proofs.Stream.{Item, Stream, itemRank}
 use Rattle.rules.proofs.StreamInv.{pastItem, itemAt, item-low}
 use Rattle.rules.proofs.StreamReached.{Standing}
 use Rattle.rules.proofs.StreamClaims.{lastRank, prefix, item-rank, leftIn, left-more}
-use Rattle.rules.proofs.RefineMerger.{itemWrites, itemHead, itemWords, Placed, endNumber, endCoordinator, CopyIs, StreamIs, Onward, one-step, posted-no-record, is-map, part-head, state-head, item-head, map-at, words-same}
+use Rattle.rules.proofs.RefineMerger.{itemWrites, itemHead, itemWords, Placed, endNumber, endCoordinator, CopyIs, StreamIs, Onward}
+use Rattle.rules.proofs.RefineMerger.{one-step, posted-no-record, is-map, part-head, state-head, item-head, map-at, words-same}
 use Rattle.rules.proofs.RefineLaid.{laid, length-put, put-header, put-value, laid-item}
 
 -- The pair of the last of some items.
@@ -47,7 +48,8 @@ pub end-coordinator : (k : ℕ) (l : List Item) (x : Item) → endCoordinator k 
 end-coordinator k [] x = refl
 end-coordinator k (y ∷ l) x = end-coordinator (coordinatorOf (y .tx)) l x
 
-pub end-rank : (m : stream.Merger) (n : ℕ) → n ≤ length (m .out) → rank (endNumber 0 (take n (m .out))) (endCoordinator 0 (take n (m .out))) ≡ lastRank m n
+pub end-rank : (m : stream.Merger) (n : ℕ) → n ≤ length (m .out)
+    → rank (endNumber 0 (take n (m .out))) (endCoordinator 0 (take n (m .out))) ≡ lastRank m n
 end-rank m zero h = refl
 end-rank m (suc n) h =
     rw (take-suc (m .out) n pastItem h, end-number 0 (take n (m .out)) (itemAt m n), end-coordinator 0 (take n (m .out)) (itemAt m n)) refl
@@ -82,13 +84,15 @@ item-writes : (n : ℕ) (x : Item) → recordWrites (itemWords n x) ≡ itemWrit
 unfolding itemWords
 item-writes n x = writes-back (itemHead n x) (itemWrites n x)
 
-copy-more : {sites : ℕ} {copy : List ℕ} {l : List Item} (x : Item) → Placed sites x → CopyIs sites copy l → CopyIs sites (replayed copy (itemWords sites x)) (l ++ (x ∷ []))
+copy-more : {sites : ℕ} {copy : List ℕ} {l : List Item} (x : Item) → Placed sites x → CopyIs sites copy l
+    → CopyIs sites (replayed copy (itemWords sites x)) (l ++ (x ∷ []))
 unfolding replayed
 copy-more {sites} {copy} {l} x c i =
     let n = writesIn (itemWrites sites x) in
     let a = set copy word.lastNumber (x .number) in
     let b = set a word.lastCoordinator (coordinatorOf (x .tx)) in
-    let e : length b ≡ sizes.copy = length-set a word.lastCoordinator (coordinatorOf (x .tx)) ∙ length-set copy word.lastNumber (x .number) ∙ i .size in
+    let e : length b ≡ sizes.copy = length-set a word.lastCoordinator (coordinatorOf (x .tx)) ∙ length-set copy word.lastNumber (x .number)
+    ∙ i .size in
     let f : length a ≡ sizes.copy = length-set copy word.lastNumber (x .number) ∙ i .size in
     rw (item-head sites x, item-writes sites x)
     (record {
@@ -137,10 +141,12 @@ module _ {sites : ℕ} {w : World} {v : Stream} (x : StreamIs sites w v) (z : St
       k = merged-clear (recordHead ws) (merged-passed-good ws e .head) .kind
 
       go : Handed w (world.replay c ws) → FromStream c ws
-      go (inl a) = absurd (posted-no-record (v .protocol .post) ws (all-is (x .refines .sent) a) (every-at (mergedTests ws) 0 e) (omega (arith, k)))
+      go (inl a) =
+          absurd (posted-no-record (v .protocol .post) ws (all-is (x .refines .sent) a) (every-at (mergedTests ws) 0 e) (omega (arith, k)))
       go (inr (inl (s, a))) =
           let (r, q) = is-map (recWords s) (v .protocol .log s) (rw (x .refines .log s) at a) in
-          absurd (let y : recordHead ws .kind ≡ recordHead (recWords s r) .kind = ap (λ (l : List ℕ). recordHead l .kind) q in omega (arith, k, kind-in s r))
+          absurd (let y : recordHead ws .kind ≡ recordHead (recWords s r) .kind = ap (λ (l : List ℕ). recordHead l .kind) q in
+          omega (arith, k, kind-in s r))
       go (inr (inr (i, a, b, q))) =
           let (d, f) = map-at (itemWords sites) (m .out) pastItem i (rw (x .emitted) at b) in
           record { place = i; reached = omega (arith, x .replayed c); below = d; words = sym q ∙ rw (x .emitted) f; there = b }
@@ -149,7 +155,8 @@ module _ {sites : ℕ} {w : World} {v : Stream} (x : StreamIs sites w v) (z : St
   pub pair-low : (n : ℕ) → n ≤ length (m .out) → endCoordinator 0 (take n (m .out)) < 16
   pair-low zero h = omega arith
   pair-low (suc n) h =
-      rw (take-suc (m .out) n pastItem h, end-coordinator 0 (take n (m .out)) (itemAt m n)) (omega (arith, item-low (z .invariant) (z .streamed) (x .refines .few) n h))
+      rw (take-suc (m .out) n pastItem h, end-coordinator 0 (take n (m .out)) (itemAt m n))
+      (omega (arith, item-low (z .invariant) (z .streamed) (x .refines .few) n h))
 
   module _ (c : ℕ) (ws : List ℕ) (t : Replays (w .copy c) ws) (f : FromStream c ws) where
     abbrev next : Item
@@ -160,8 +167,10 @@ module _ {sites : ℕ} {w : World} {v : Stream} (x : StreamIs sites w v) (z : St
         let i = x .copy c in
         let r : recordHead ws ≡ itemHead sites next = ap recordHead (f .words) ∙ item-head sites next in
         let a = rw (i .number, i .coordinator, r) at (t .above) in
-        let b = precedes-rank (endNumber 0 (take (v .replayed c) (m .out))) (endCoordinator 0 (take (v .replayed c) (m .out))) (next .number) (coordinatorOf (next .tx))
-        (pair-low (v .replayed c) (z .replayed c)) (omega (arith, item-low (z .invariant) (z .streamed) (x .refines .few) (f .place) (f .below))) a in
+        let b = precedes-rank (endNumber 0 (take (v .replayed c) (m .out))) (endCoordinator 0 (take (v .replayed c) (m .out)))
+        (next .number) (coordinatorOf (next .tx))
+        (pair-low (v .replayed c) (z .replayed c))
+        (omega (arith, item-low (z .invariant) (z .streamed) (x .refines .few) (f .place) (f .below))) a in
         omega (arith, end-rank m (v .replayed c) (z .replayed c))
 
     is-next : f .place ≡ v .replayed c
@@ -176,7 +185,9 @@ module _ {sites : ℕ} {w : World} {v : Stream} (x : StreamIs sites w v) (z : St
     counted =
         let n : w .replayed c ≡ f .place = x .replayed c ∙ sym is-next in
         let b : getD (w .stream) (f .place) [] ≡ ws =
-        rw (x .emitted) (map-at (itemWords sites) (m .out) pastItem (f .place) (omega (arith, length-map (m .out) (itemWords sites), f .below)) .1) ∙ sym (f .words) in
+        rw (x .emitted)
+        (map-at (itemWords sites) (m .out) pastItem (f .place) (omega (arith, length-map (m .out) (itemWords sites), f .below)) .1)
+        ∙ sym (f .words) in
         rw (n, lt-ltb (f .place) (length (w .stream)) (f .there), b, words-same ws) (ap (λ (k : ℕ). k + 1) is-next)
 
     -- the copy with it
@@ -191,7 +202,8 @@ module _ {sites : ℕ} {w : World} {v : Stream} (x : StreamIs sites w v) (z : St
   unfolding step replayStep copyStep stepTaken
   replay-onward c ws h = go (replay-cases (w .copy c) ws)
     where
-      go : ((n : ℕ) × (replayOf (w .copy c) ws ≡ record { answer = Refused n; copy = w .copy c })) ⊎ Replays (w .copy c) ws → Onward sites v (step w (world.replay c ws) .world) []
+      go : ((n : ℕ) × (replayOf (w .copy c) ws ≡ record { answer = Refused n; copy = w .copy c })) ⊎ Replays (w .copy c) ws
+          → Onward sites v (step w (world.replay c ws) .world) []
       go (inl (n, e)) =
           let r = x .refines in
           rw e (
@@ -205,7 +217,8 @@ module _ {sites : ℕ} {w : World} {v : Stream} (x : StreamIs sites w v) (z : St
               placed = x .placed;
               emitted = x .emitted;
               replayed = upd-cases (λ j k. k ≡ v .replayed j) (w .replayed) c (w .replayed c) (x .replayed c) (λ j a. x .replayed j);
-              copy = upd-cases (λ j y. CopyIs sites y (take (v .replayed j) (m .out))) (w .copy) c (w .copy c) (x .copy c) (λ j a. x .copy j);
+              copy = upd-cases (λ j y. CopyIs sites y (take (v .replayed j) (m .out))) (w .copy) c (w .copy c) (x .copy c)
+                  (λ j a. x .copy j);
             },
           )
       go (inr t) =
@@ -222,8 +235,10 @@ module _ {sites : ℕ} {w : World} {v : Stream} (x : StreamIs sites w v) (z : St
               merged = x .merged;
               placed = x .placed;
               emitted = x .emitted;
-              replayed = upd-both (λ j a b. a ≡ b) (w .replayed) (v .replayed) c _ (v .replayed c + 1) (counted c ws t f) (λ j a. x .replayed j);
-              copy = upd-both (λ j a b. CopyIs sites a (take b (m .out))) (w .copy) (v .replayed) c _ (v .replayed c + 1) (copied c ws t f) (λ j a. x .copy j);
+              replayed = upd-both (λ j a b. a ≡ b) (w .replayed) (v .replayed) c _ (v .replayed c + 1) (counted c ws t f)
+                  (λ j a. x .replayed j);
+              copy = upd-both (λ j a b. CopyIs sites a (take b (m .out))) (w .copy) (v .replayed) c _ (v .replayed c + 1) (copied c ws t f)
+                  (λ j a. x .copy j);
             },
           )
 

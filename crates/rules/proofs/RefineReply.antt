@@ -24,7 +24,8 @@ use Rattle.rules.specs.Deliver.{arrived}
 use Rattle.rules.specs.World.{upd}
 use Rattle.rules.specs.Book as book
 use Rattle.rules.proofs.Tables.{upd-other, row-same, row-other}
-use Rattle.rules.proofs.Protocol.{Protocol, mJoin, mJoined, mPrepare, mConc, mCert, mVote, Next, AtStage, courseAt, Covers, Certified, inst, joins, full, prepared, lost, unknown, certified, rejects}
+use Rattle.rules.proofs.Protocol.{Protocol, mJoin, mJoined, mPrepare, mConc, mCert, mVote, Next, AtStage, courseAt, Covers}
+use Rattle.rules.proofs.Protocol.{Certified, inst, joins, full, prepared, lost, unknown, certified, rejects}
 use Rattle.rules.proofs.Refines.{IsFree, sliceOf, SiteIs}
 use Rattle.rules.proofs.RefineLive.{Spot}
 use Rattle.rules.proofs.RefineSite.{site-sub, new-sub, new-stage}
@@ -43,9 +44,11 @@ namedTurn x a t = record { counters = x .counters; channels = takenFrom (x .chan
 
 -- a site with a turn's counters and channels
 abbrev pub spokenSite : Site → Change → Site
-spokenSite x c = record { house = x .house; counters = c .turn .counters; channels = c .turn .channels; live = x .live; history = x .history }
+spokenSite x c =
+    record { house = x .house; counters = c .turn .counters; channels = c .turn .channels; live = x .live; history = x .history }
 
-module _ {sites : ℕ} (p : Protocol) (s a t : ℕ) {x : Site} {base lists : List ℕ} (few : sites ≤ sizes.sites) (low : 1 ≤ a) (high : a ≤ sites)
+module _ {sites : ℕ} (p : Protocol) (s a t : ℕ) {x : Site} {base lists : List ℕ} (few : sites ≤ sizes.sites) (low : 1 ≤ a)
+    (high : a ≤ sites)
     (y : SiteIs sites s x base lists (sliceOf p s)) where
   -- JOIN: the part begins, or is answered 12.
   abbrev begins : Change
@@ -61,13 +64,15 @@ module _ {sites : ℕ} (p : Protocol) (s a t : ℕ) {x : Site} {base lists : Lis
         _,
         reply-acts s a (joins a s t next gone) (λ j z. refl) refl (λ j z. row-other (p .live) s t b j z) refl refl m refl refl
             (reply-site p s a few low high y m (x .counters .clock) (sym (y .counters .clock-is)) refl
-            (site-sub y free t (newSub t 0 (x .counters .installs)) spot (λ z. new-sub t 0 (x .counters .installs)) (λ z c. omega (arith, new-stage t 0 (x .counters .installs)))
+            (site-sub y free t (newSub t 0 (x .counters .installs)) spot (λ z. new-sub t 0 (x .counters .installs))
+            (λ z c. omega (arith, new-stage t 0 (x .counters .installs)))
             (row-same (p .live) s t b ∙ ap (upd (p .live s) t) (sym n))))
             (reply-made p s a few low high y (namedTurn x a t) m refl refl (new-sub t 0 (x .counters .installs) .0) (no-entries .0)),
       )
 
   pub full-acts : (r : ℕ) → (r ≡ 0 → ⊥) → Next p a s (mJoin t)
-      → (let c = sendTo (namedTurn x a t) kind.joined a 0 r [] in (q : Protocol) × Acts sites s p q (spokenSite x c) base lists (c .words) [])
+      → (let c = sendTo (namedTurn x a t) kind.joined a 0 r [] in
+      (q : Protocol) × Acts sites s p q (spokenSite x c) base lists (c .words) [])
   unfolding sendTo
   full-acts r some next =
       let m = mJoined t r in (
@@ -79,16 +84,20 @@ module _ {sites : ℕ} (p : Protocol) (s a t : ℕ) {x : Site} {base lists : Lis
 
   -- PREPARE for a transaction not held: voted no.
   pub unknown-acts : (n mask r : ℕ) → (r ≡ 0 → ⊥) → Next p a s (mPrepare t n mask) → IsFree (p .live s t)
-      → (let u = raise (namedTurn x a t) n in let c = sendTo u kind.vote a (u .counters .clock) r [] in (q : Protocol) × Acts sites s p q (spokenSite x c) base lists (c .words) [])
+      → (let u = raise (namedTurn x a t) n in let c = sendTo u kind.vote a (u .counters .clock) r [] in
+      (q : Protocol) × Acts sites s p q (spokenSite x c) base lists (c .words) [])
   unfolding sendTo raise
   unknown-acts n mask r some next gone =
       let m = mVote t (max (p .clock s) n) r in
       let u = raise (namedTurn x a t) n in
-      let same : sendTo u kind.vote a (u .counters .clock) r [] ≡ sendTo u kind.vote a (max (p .clock s) n) r [] = ap (λ (z : ℕ). sendTo u kind.vote a (max z n) r []) (y .counters .clock-is) in (
+      let same : sendTo u kind.vote a (u .counters .clock) r [] ≡ sendTo u kind.vote a (max (p .clock s) n) r [] =
+      ap (λ (z : ℕ). sendTo u kind.vote a (max z n) r []) (y .counters .clock-is) in (
         _,
-        reply-acts s a (unknown a s t n mask r next gone some) (λ j z. upd-other (p .clock) s (max (p .clock s) n) j z) refl (λ j z. refl) refl refl m refl refl
+        reply-acts s a (unknown a s t n mask r next gone some) (λ j z. upd-other (p .clock) s (max (p .clock s) n) j z) refl (λ j z. refl)
+            refl refl m refl refl
             (reply-site p s a few low high y m (max (x .counters .clock) n) (raised-clock p s a few low high y n) refl y)
-            (rw (ap (λ (c : Change). c .words) same) (reply-made p s a few low high y u m refl refl (new-sub t 0 (x .counters .installs) .0) (no-entries .0))),
+            (rw (ap (λ (c : Change). c .words) same)
+            (reply-made p s a few low high y u m refl refl (new-sub t 0 (x .counters .installs) .0) (no-entries .0))),
       )
 
   module _ (place : ℕ) (A : AtPlace x p s t place) where
@@ -96,7 +105,8 @@ module _ {sites : ℕ} (p : Protocol) (s a t : ℕ) {x : Site} {base lists : Lis
     abbrev raisedTurn : ℕ → Turn
     raisedTurn n = raise (arrived x place a) n
 
-    prepared-one : (n mask : ℕ) (es : List ℕ) → Next p a s (mPrepare t n mask) → AtStage p s t stage.active → (coordinatorOf t ≡ s → ⊥) → Covers p s t es
+    prepared-one : (n mask : ℕ) (es : List ℕ) → Next p a s (mPrepare t n mask) → AtStage p s t stage.active → (coordinatorOf t ≡ s → ⊥)
+        → Covers p s t es
         → (let c = sendTo (withCourseOf (raisedTurn n) (withStage (raisedTurn n .sub .course) mask stage.prepared)) kind.conc a 0 0 es in
         (q : Protocol) × Acts sites s p q (settle x place (c .turn)) base lists (c .words) [])
     unfolding settle sendTo raise arrived
@@ -114,7 +124,8 @@ module _ {sites : ℕ} (p : Protocol) (s a t : ℕ) {x : Site} {base lists : Lis
         )
 
     lost-one : (n mask r : ℕ) → (r ≡ 0 → ⊥) → Next p a s (mPrepare t n mask) → AtStage p s t stage.active
-        → (let c = sendTo (withCourseOf (raisedTurn n) (withStage (raisedTurn n .sub .course) mask stage.rejected)) kind.vote a (raisedTurn n .counters .clock) r [] in
+        → (let c = sendTo (withCourseOf (raisedTurn n) (withStage (raisedTurn n .sub .course) mask stage.rejected)) kind.vote a
+        (raisedTurn n .counters .clock) r [] in
         (q : Protocol) × Acts sites s p q (settle x place (c .turn)) base lists (c .words) [])
     unfolding settle sendTo raise arrived
     lost-one n mask r some next active =
@@ -122,7 +133,8 @@ module _ {sites : ℕ} (p : Protocol) (s a t : ℕ) {x : Site} {base lists : Lis
         let c = withStage (courseAt p s t) mask stage.rejected in
         let d = withStage (subAt x place .course) mask stage.rejected in
         let u = withCourseOf (raisedTurn n) d in
-        let same : sendTo u kind.vote a (raisedTurn n .counters .clock) r [] ≡ sendTo u kind.vote a (max (p .clock s) n) r [] = ap (λ (z : ℕ). sendTo u kind.vote a (max z n) r []) (y .counters .clock-is) in (
+        let same : sendTo u kind.vote a (raisedTurn n .counters .clock) r [] ≡ sendTo u kind.vote a (max (p .clock s) n) r [] =
+        ap (λ (z : ℕ). sendTo u kind.vote a (max z n) r []) (y .counters .clock-is) in (
           _,
           reply-acts s a (lost a s t n mask r next active some) (λ j z. upd-other (p .clock) s (max (p .clock s) n) j z) refl
               (λ j z. row-other (p .live) s t (withCourse (p .live s t) c) j z) refl refl m refl refl
@@ -131,9 +143,11 @@ module _ {sites : ℕ} (p : Protocol) (s a t : ℕ) {x : Site} {base lists : Lis
               (rw (ap (λ (c : Change). c .words) same) (reply-made p s a few low high y u m refl refl (tx-of A) (no-entries .0))),
         )
 
-    pub prepared-acts : (n mask : ℕ) (gone : Bool) (es : List ℕ) → Next p a s (mPrepare t n mask) → AtStage p s t stage.active → (coordinatorOf t ≡ s → ⊥)
+    pub prepared-acts : (n mask : ℕ) (gone : Bool) (es : List ℕ) → Next p a s (mPrepare t n mask) → AtStage p s t stage.active
+        → (coordinatorOf t ≡ s → ⊥)
         → (gone ≡ false → Covers p s t es)
-        → (let c = preparedStep (raisedTurn n) a mask gone es in (q : Protocol) × Acts sites s p q (settle x place (c .turn)) base lists (c .words) (book.commits t (c .answer)))
+        → (let c = preparedStep (raisedTurn n) a mask gone es in
+        (q : Protocol) × Acts sites s p q (settle x place (c .turn)) base lists (c .words) (book.commits t (c .answer)))
     unfolding preparedStep sendTo
     prepared-acts n mask gone es next active apart covers =
         by-test gone
@@ -142,7 +156,8 @@ module _ {sites : ℕ} (p : Protocol) (s a t : ℕ) {x : Site} {base lists : Lis
 
     -- CERT: it votes.
     yes-one : (es : List ℕ) → Next p a s (mCert t es) → AtStage p s t stage.prepared → Certified p s t es
-        → (let u = arrived x place a in let c = sendTo (withCourseOf u (withMark (u .sub .course) (u .counters .clock))) kind.vote a (u .counters .clock) 0 [] in
+        → (let u = arrived x place a in
+        let c = sendTo (withCourseOf u (withMark (u .sub .course) (u .counters .clock))) kind.vote a (u .counters .clock) 0 [] in
         (q : Protocol) × Acts sites s p q (settle x place (c .turn)) base lists (c .words) [])
     unfolding settle sendTo arrived
     yes-one es next g v =
@@ -150,16 +165,21 @@ module _ {sites : ℕ} (p : Protocol) (s a t : ℕ) {x : Site} {base lists : Lis
         let c = withMark (courseAt p s t) (p .clock s) in
         let d = withMark (subAt x place .course) (x .counters .clock) in
         let u = withCourseOf (arrived x place a) d in
-        let same : sendTo u kind.vote a (x .counters .clock) 0 [] ≡ sendTo u kind.vote a (p .clock s) 0 [] = ap (λ (z : ℕ). sendTo u kind.vote a z 0 []) (y .counters .clock-is) in (
+        let same : sendTo u kind.vote a (x .counters .clock) 0 [] ≡ sendTo u kind.vote a (p .clock s) 0 [] =
+        ap (λ (z : ℕ). sendTo u kind.vote a z 0 []) (y .counters .clock-is) in (
           _,
-          reply-acts s a (certified a s t es next g v) (λ j z. refl) refl (λ j z. row-other (p .live) s t (withCourse (p .live s t) c) j z) refl refl m refl refl
+          reply-acts s a (certified a s t es next g v) (λ j z. refl) refl (λ j z. row-other (p .live) s t (withCourse (p .live s t) c) j z)
+              refl refl m refl refl
               (reply-site p s a few low high y m (x .counters .clock) (sym (y .counters .clock-is)) refl
-              (site-course y refl A c d (rw (course-is A, y .counters .clock-is)) (λ z e. omega (arith, mark-stage (courseAt p s t) (p .clock s)))))
+              (site-course y refl A c d (rw (course-is A, y .counters .clock-is))
+              (λ z e. omega (arith, mark-stage (courseAt p s t) (p .clock s)))))
               (rw (ap (λ (c : Change). c .words) same) (reply-made p s a few low high y u m refl refl (tx-of A) (no-entries .0))),
         )
 
     no-one : (es : List ℕ) (r : ℕ) → (r ≡ 0 → ⊥) → Next p a s (mCert t es) → AtStage p s t stage.prepared
-        → (let u = arrived x place a in let c = sendTo (withCourseOf u (withStage (u .sub .course) (u .sub .course .mask) stage.rejected)) kind.vote a (u .counters .clock) r [] in
+        → (let u = arrived x place a in
+        let c = sendTo (withCourseOf u (withStage (u .sub .course) (u .sub .course .mask) stage.rejected)) kind.vote a
+        (u .counters .clock) r [] in
         (q : Protocol) × Acts sites s p q (settle x place (c .turn)) base lists (c .words) [])
     unfolding settle sendTo arrived
     no-one es r some next g =
@@ -167,16 +187,20 @@ module _ {sites : ℕ} (p : Protocol) (s a t : ℕ) {x : Site} {base lists : Lis
         let c = withStage (courseAt p s t) (courseAt p s t .mask) stage.rejected in
         let d = withStage (subAt x place .course) (subAt x place .course .mask) stage.rejected in
         let u = withCourseOf (arrived x place a) d in
-        let same : sendTo u kind.vote a (x .counters .clock) r [] ≡ sendTo u kind.vote a (p .clock s) r [] = ap (λ (z : ℕ). sendTo u kind.vote a z r []) (y .counters .clock-is) in (
+        let same : sendTo u kind.vote a (x .counters .clock) r [] ≡ sendTo u kind.vote a (p .clock s) r [] =
+        ap (λ (z : ℕ). sendTo u kind.vote a z r []) (y .counters .clock-is) in (
           _,
-          reply-acts s a (rejects a s t r es next g some) (λ j z. refl) refl (λ j z. row-other (p .live) s t (withCourse (p .live s t) c) j z) refl refl m refl refl
+          reply-acts s a (rejects a s t r es next g some) (λ j z. refl) refl
+              (λ j z. row-other (p .live) s t (withCourse (p .live s t) c) j z) refl refl m refl refl
               (reply-site p s a few low high y m (x .counters .clock) (sym (y .counters .clock-is)) refl
-              (site-course y refl A c d (rw (course-is A)) (λ z e. omega (arith, stage-is (courseAt p s t) (courseAt p s t .mask) stage.rejected))))
+              (site-course y refl A c d (rw (course-is A))
+              (λ z e. omega (arith, stage-is (courseAt p s t) (courseAt p s t .mask) stage.rejected))))
               (rw (ap (λ (c : Change). c .words) same) (reply-made p s a few low high y u m refl refl (tx-of A) (no-entries .0))),
         )
 
     pub certified-acts : (es : List ℕ) (v : ℕ) → Next p a s (mCert t es) → AtStage p s t stage.prepared → (v ≡ 0 → Certified p s t es)
-        → (let c = certifiedStep (arrived x place a) a v in (q : Protocol) × Acts sites s p q (settle x place (c .turn)) base lists (c .words) (book.commits t (c .answer)))
+        → (let c = certifiedStep (arrived x place a) a v in
+        (q : Protocol) × Acts sites s p q (settle x place (c .turn)) base lists (c .words) (book.commits t (c .answer)))
     unfolding certifiedStep sendTo
     certified-acts es v next g f =
         by-test (eqb v 0)

@@ -32,7 +32,8 @@ use Rattle.rules.specs.Course.{withCourseOf, sendAll, withRequest, prepa
 use Rattle.rules.specs.World.{upd}
 use Rattle.rules.specs.Book as book
 use Rattle.rules.proofs.Tables.{upd₂, upd₂-same, upd-same, upd-other, row-same, row-other}
-use Rattle.rules.proofs.Protocol.{Protocol, Msg, mPrepare, inst, Within, Moves, courseAt, AtStage, Certified, postedAll, withCourseAt, set-gathered, set-asked, set-mask, set-made, set-list, request, stop, more}
+use Rattle.rules.proofs.Protocol.{Protocol, Msg, mPrepare, inst, Within, Moves, courseAt, AtStage, Certified, postedAll}
+use Rattle.rules.proofs.Protocol.{withCourseAt, set-gathered, set-asked, set-mask, set-made, set-list, request, stop, more}
 use Rattle.rules.proofs.Invariants.{In, Invariant}
 use Rattle.rules.proofs.Reached.{invariant-moves}
 use Rattle.rules.proofs.Refines.{IsFree, kindOf, clockIn, argumentIn, entriesIn, sliceOf, SiteIs}
@@ -41,7 +42,8 @@ use Rattle.rules.proofs.RefineSite.{site-channels}
 use Rattle.rules.proofs.RefineStep.{Elsewhere}
 use Rattle.rules.proofs.RefineMail.{none, grows-all}
 use Rattle.rules.proofs.RefineTurn.{AtPlace, course-is, tx-of}
-use Rattle.rules.proofs.RefineActs.{Acts, acts-then, settled-turn, settled-again, others-elsewhere, members, send-all-site, send-all-made}
+use Rattle.rules.proofs.RefineActs.{Acts, acts-then, settled-turn, settled-again, others-elsewhere, members, send-all-site}
+use Rattle.rules.proofs.RefineActs.{send-all-made}
 use Rattle.rules.proofs.RefineCertify.{covers, certifies, concurrent-low, join-within}
 use Rattle.rules.proofs.RefineLists.{list-first, lists-put}
 use Rattle.rules.proofs.RefineCourse.{lone, others-lone, cast-acts, settled-place}
@@ -74,7 +76,8 @@ request-listed c n = refl
 pub listed-few : (x : Site) → siteOk x ≡ true → (j : ℕ) → j < sizes.live → partAt (x .live) j .course .listed ≤ sizes.certEntries
 listed-few x v j h = let c = valid-site x v .part j h .course in omega (arith, c .listed, c .heard-few)
 
-module _ {sites s t place : ℕ} {x : Site} {base lists : List ℕ} {p : Protocol} (few : sites ≤ sizes.sites) (i : Invariant sites p) (e : coordinatorOf t ≡ s)
+module _ {sites s t place : ℕ} {x : Site} {base lists : List ℕ} {p : Protocol} (few : sites ≤ sizes.sites) (i : Invariant sites p)
+    (e : coordinatorOf t ≡ s)
     (y : SiteIs sites s x base lists (sliceOf p s)) (a : AtPlace x p s t place) (valid : siteOk x ≡ true) where
   abbrev own : List ℕ
   own = concurrent x place
@@ -98,7 +101,15 @@ module _ {sites s t place : ℕ} {x : Site} {base lists : List ℕ} {p : Protoco
   part-is = rw (a .part)
 
   request-site : SiteIs sites s (withSub x place (withCourse (subAt x place) asked)) base made-lists
-      (record { clock = p .clock s; serial = p .serial s; live = upd₂ (p .live) s t part s; gathered = upd (p .gathered) t own; post = p .post s; taken = λ r. p .taken r s; log = p .log s })
+      (record {
+        clock = p .clock s;
+        serial = p .serial s;
+        live = upd₂ (p .live) s t part s;
+        gathered = upd (p .gathered) t own;
+        post = p .post s;
+        taken = λ r. p .taken r s;
+        log = p .log s;
+      })
   request-site =
       let l = list-first lists place part own (y .lists .size) (a .spot .low)
       (concurrent-whole x place ∙ ap (λ (n : ℕ). sizes.entry * n) (sym (request-listed (courseAt p s t) count))) (concurrent-low x place) in
@@ -150,7 +161,9 @@ module _ {sites s t place : ℕ} {x : Site} {base lists : List ℕ} {p : Protoco
   requests c = more stop (request s t own e (c .active) (c .heard) (c .joined) (covers y (i .parts) a (c .kept)))
 
   -- with PREPARE to the others
-  pub prepare-acts : Ready → Acts sites s p (requestAt p s t own) (settle x place (prepareStep turn .turn)) base made-lists (prepareStep turn .words) (book.commits t (prepareStep turn .answer))
+  pub prepare-acts : Ready
+      → Acts sites s p (requestAt p s t own) (settle x place (prepareStep turn .turn)) base made-lists (prepareStep turn .words)
+      (book.commits t (prepareStep turn .answer))
   unfolding settle turnAt sendAll requests
   prepare-acts c =
       rw prepare-is
@@ -160,14 +173,17 @@ module _ {sites s t place : ℕ} {x : Site} {base lists : List ℕ} {p : Protoco
         elsewhere = request-elsewhere;
         grows = grows-all (p .post) s (courseAt p s t .mask) message;
         log = λ j. refl;
-        site = send-all-site (p .post) turn Done s (courseAt p s t .mask) message few (y .counters .own-is) mask-is (y .channels) refl request-site;
+        site = send-all-site (p .post) turn Done s (courseAt p s t .mask) message few (y .counters .own-is) mask-is (y .channels) refl
+            request-site;
         made =
-            send-all-made (p .post) turn Done s (courseAt p s t .mask) message few (y .counters .own-is) mask-is (y .channels) (no-entries .0)
+            send-all-made (p .post) turn Done s (courseAt p s t .mask) message few (y .counters .own-is) mask-is (y .channels)
+            (no-entries .0)
             (members s t i e (a .held)) (tx-of a);
       })
 
   -- alone
-  pub lone-request-acts : Ready → ((r : ℕ) → In (courseAt p s t .mask) r → (r ≡ s → ⊥) → ⊥) → Acts sites s p (requestAt p s t own) (settle x place turn) base made-lists [] []
+  pub lone-request-acts : Ready → ((r : ℕ) → In (courseAt p s t .mask) r → (r ≡ s → ⊥) → ⊥)
+      → Acts sites s p (requestAt p s t own) (settle x place turn) base made-lists [] []
   unfolding settle turnAt requests
   lone-request-acts c alone =
       let same = others-lone (p .post) s (courseAt p s t .mask) message alone in
@@ -197,21 +213,27 @@ module _ {sites s t place : ℕ} {x : Site} {base lists : List ℕ} {p : Protoco
   turn-held z = omega (arith, request-stage (subAt x place .course) count)
 
 -- a yes says the same of a part with another course
-pub certified-course : (p q : Protocol) (s t : ℕ) (es : List ℕ) → inst q s ≡ inst p s → q .live s t .keys ≡ p .live s t .keys → q .live s t .snapshot ≡ p .live s t .snapshot
+pub certified-course : (p q : Protocol) (s t : ℕ) (es : List ℕ) → inst q s ≡ inst p s → q .live s t .keys ≡ p .live s t .keys
+    → q .live s t .snapshot ≡ p .live s t .snapshot
     → Certified p s t es → Certified q s t es
 certified-course p q s t es l k n c j m h names b seen tx =
     rw (l, k) (c j m h names (rw l at b) (rw (ap (λ (z : Snapshot). z .installs) n) at seen) (rw l at tx))
 
-request-all : (s : ℕ) (c : Course) (n : ℕ) → allHeard s 0 (c .mask) ≡ true → allHeard s (withRequest c n .heard) (withRequest c n .mask) ≡ true
+request-all : (s : ℕ) (c : Course) (n : ℕ) → allHeard s 0 (c .mask) ≡ true
+    → allHeard s (withRequest c n .heard) (withRequest c n .mask) ≡ true
 unfolding withRequest
 request-all s c n h = h
 
 -- Alone it votes on its list at once.
-module _ {sites s t place : ℕ} {x : Site} {base lists : List ℕ} {p : Protocol} (few : sites ≤ sizes.sites) (low : 1 ≤ s) (i : Invariant sites p) (e : coordinatorOf t ≡ s)
+module _ {sites s t place : ℕ} {x : Site} {base lists : List ℕ} {p : Protocol} (few : sites ≤ sizes.sites) (low : 1 ≤ s)
+    (i : Invariant sites p) (e : coordinatorOf t ≡ s)
     (y : SiteIs sites s x base lists (sliceOf p s)) (a : AtPlace x p s t place) (valid : siteOk x ≡ true) where
   pub lone-commit-acts : Ready few i e y a valid → allHeard s 0 (courseAt p s t .mask) ≡ true
-      → (let own = concurrent x place in let es = joined own (entryCount own) in let c = castStep (turn few i e y a valid) (voteOf x place es (entryCount es)) es in
-      (q : Protocol) × Acts sites s p q (settle x place (c .turn)) base (putAt (sizes.gathered * place) lists own) (c .words) (book.commits t (c .answer)))
+      → (let own = concurrent x place in let es = joined own (entryCount own) in
+      let c = castStep (turn few i e y a valid) (voteOf x place es (entryCount es)) es in
+      (q : Protocol)
+      × Acts sites s p q (settle x place (c .turn)) base (putAt (sizes.gathered * place) lists own) (c .words)
+      (book.commits t (c .answer)))
   lone-commit-acts c h =
       let own = concurrent x place in
       let es = joined own (entryCount own) in
@@ -225,7 +247,11 @@ module _ {sites s t place : ℕ} {x : Site} {base lists : List ℕ} {p : Protoco
       let new : courseAt p1 s t ≡ m = ap (λ (b : Sub). b .course) same in
       let there = settled-place x place u long (a .spot .low) (one .site) (turn-tx few i e y a valid) (turn-held few i e y a valid) in
       let within : Within (p1 .gathered t) es = rw (upd-same (p .gathered) t own) (join-within own (concurrent-low x place)) in
-      let (q, two) = cast-acts few low (invariant-moves few (one .moves) i) e (one .site) there (ap (λ (c : Course). c .stage) new ∙ request-stage (courseAt p s t) (entryCount own))
-      (ap (λ (c : Course). allHeard s (c .heard) (c .mask)) new ∙ request-all s (courseAt p s t) (entryCount own) h) v es (join-whole own (entryCount own)) within
-      (λ z. certified-course p p1 s t es refl (ap (λ (b : Sub). b .keys) same) (ap (λ (b : Sub). b .snapshot) same) (certifies y (i .parts) a es z)) in
+      let (q, two) =
+      cast-acts few low (invariant-moves few (one .moves) i) e (one .site) there
+      (ap (λ (c : Course). c .stage) new ∙ request-stage (courseAt p s t) (entryCount own))
+      (ap (λ (c : Course). allHeard s (c .heard) (c .mask)) new ∙ request-all s (courseAt p s t) (entryCount own) h) v es
+      (join-whole own (entryCount own)) within
+      (λ z. certified-course p p1 s t es refl (ap (λ (b : Sub). b .keys) same) (ap (λ (b : Sub). b .snapshot) same)
+      (certifies y (i .parts) a es z)) in
       (q, acts-then one (rw (settled-turn x place u long, settled-again x place u (castStep u v es .turn)) at two))

@@ -39,28 +39,35 @@ new-stage t mask installs = refl
 
 -- A slice with one table changed.
 abbrev pub live-in : Slice → (ℕ → Sub) → Slice
-live-in v x = record { clock = v .clock; serial = v .serial; live = x; gathered = v .gathered; post = v .post; taken = v .taken; log = v .log }
+live-in v x =
+    record { clock = v .clock; serial = v .serial; live = x; gathered = v .gathered; post = v .post; taken = v .taken; log = v .log }
 
 abbrev pub clock-in : Slice → ℕ → Slice
-clock-in v x = record { clock = x; serial = v .serial; live = v .live; gathered = v .gathered; post = v .post; taken = v .taken; log = v .log }
+clock-in v x =
+    record { clock = x; serial = v .serial; live = v .live; gathered = v .gathered; post = v .post; taken = v .taken; log = v .log }
 
 abbrev pub serial-in : Slice → ℕ → Slice
-serial-in v x = record { clock = v .clock; serial = x; live = v .live; gathered = v .gathered; post = v .post; taken = v .taken; log = v .log }
+serial-in v x =
+    record { clock = v .clock; serial = x; live = v .live; gathered = v .gathered; post = v .post; taken = v .taken; log = v .log }
 
 abbrev pub post-in : Slice → (ℕ → List Msg) → Slice
-post-in v x = record { clock = v .clock; serial = v .serial; live = v .live; gathered = v .gathered; post = x; taken = v .taken; log = v .log }
+post-in v x =
+    record { clock = v .clock; serial = v .serial; live = v .live; gathered = v .gathered; post = x; taken = v .taken; log = v .log }
 
 abbrev pub taken-in : Slice → (ℕ → ℕ) → Slice
-taken-in v x = record { clock = v .clock; serial = v .serial; live = v .live; gathered = v .gathered; post = v .post; taken = x; log = v .log }
+taken-in v x =
+    record { clock = v .clock; serial = v .serial; live = v .live; gathered = v .gathered; post = v .post; taken = x; log = v .log }
 
 -- Channels.
-pub channels-sent : {sites : ℕ} {c : Channels} {post : ℕ → List Msg} {taken : ℕ → ℕ} (sent : List ℕ) (new : ℕ → List Msg) → length sent ≡ sizes.sites
+pub channels-sent : {sites : ℕ} {c : Channels} {post : ℕ → List Msg} {taken : ℕ → ℕ} (sent : List ℕ) (new : ℕ → List Msg)
+    → length sent ≡ sizes.sites
     → ((r : ℕ) → 1 ≤ r → r ≤ sites → getD sent (r - 1) 0 ≡ length (new r))
     → ChannelsAre sites c post taken → ChannelsAre sites (record { sent = sent; taken = c .taken }) new taken
 channels-sent sent new e f x = record { sent-size = e; taken-size = x .taken-size; sent-is = f; taken-is = x .taken-is }
 
 -- one message more to site b
-pub channels-one : {sites : ℕ} {c : Channels} {taken : ℕ → ℕ} (post : ℕ → ℕ → List Msg) (a b : ℕ) (m : Msg) → sites ≤ sizes.sites → 1 ≤ b → b ≤ sites
+pub channels-one : {sites : ℕ} {c : Channels} {taken : ℕ → ℕ} (post : ℕ → ℕ → List Msg) (a b : ℕ) (m : Msg) → sites ≤ sizes.sites → 1 ≤ b
+    → b ≤ sites
     → ChannelsAre sites c (post a) taken → ChannelsAre sites (sentTo c b) (upd₂ post a b (post a b ++ (m ∷ [])) a) taken
 channels-one {sites} {c} {taken} post a b m few l h x =
     channels-sent (stepCount (c .sent) (b - 1)) (upd₂ post a b (post a b ++ (m ∷ [])) a)
@@ -93,14 +100,16 @@ pub channels-all : {sites : ℕ} {c : Channels} {taken : ℕ → ℕ} (post : �
     → ChannelsAre sites c (post a) taken
     → ChannelsAre sites (record { sent = stepRecipients (c .sent) mask a sizes.sites; taken = c .taken }) (others post a mask m a) taken
 channels-all {sites} {c} {taken} post a mask m few x =
-    channels-sent (stepRecipients (c .sent) mask a sizes.sites) (others post a mask m a) (length-steps (c .sent) mask a sizes.sites ∙ x .sent-size)
+    channels-sent (stepRecipients (c .sent) mask a sizes.sites) (others post a mask m a)
+    (length-steps (c .sent) mask a sizes.sites ∙ x .sent-size)
     (λ r k n. rw (others-row post a mask m r k)
     (steps-at (c .sent) mask a sizes.sites (r - 1) (omega (arith, x .sent-size)) (omega arith)
     ∙ rw (x .sent-is r k n) (sym (picked-length (isRecipient mask a (r - 1)) (post a r) m))))
     x
 
 -- one message more taken from site a
-pub channels-taken : {sites : ℕ} {c : Channels} {post : ℕ → List Msg} (taken : ℕ → ℕ → ℕ) (a b : ℕ) → sites ≤ sizes.sites → 1 ≤ a → a ≤ sites
+pub channels-taken : {sites : ℕ} {c : Channels} {post : ℕ → List Msg} (taken : ℕ → ℕ → ℕ) (a b : ℕ) → sites ≤ sizes.sites → 1 ≤ a
+    → a ≤ sites
     → ChannelsAre sites c post (λ r. taken r b) → ChannelsAre sites (takenFrom c a) post (λ r. upd₂ taken a b (taken a b + 1) r b)
 channels-taken {sites} {c} {post} taken a b few l h x =
     record {
@@ -109,8 +118,10 @@ channels-taken {sites} {c} {post} taken a b few l h x =
       sent-is = x .sent-is;
       taken-is = λ r k n. by-same r a
           (λ e. rw (e, upd₂-same taken a b (taken a b + 1))
-          (getD-set-same (c .taken) (a - 1) (getD (c .taken) (a - 1) 0 + 1) 0 (omega (arith, x .taken-size)) ∙ omega (arith, x .taken-is a l h)))
-          (λ e. getD-set-other (c .taken) (a - 1) (r - 1) (getD (c .taken) (a - 1) 0 + 1) 0 (λ z. e (omega arith)) ∙ x .taken-is r k n ∙ sym (old r e));
+          (getD-set-same (c .taken) (a - 1) (getD (c .taken) (a - 1) 0 + 1) 0 (omega (arith, x .taken-size))
+          ∙ omega (arith, x .taken-is a l h)))
+          (λ e. getD-set-other (c .taken) (a - 1) (r - 1) (getD (c .taken) (a - 1) 0 + 1) 0 (λ z. e (omega arith)) ∙ x .taken-is r k n
+          ∙ sym (old r e));
     }
   where
     old : (r : ℕ) → (r ≡ a → ⊥) → upd₂ taken a b (taken a b + 1) r b ≡ taken r b

@@ -42,7 +42,8 @@ toldBy (world.replay copy m) a words = []
 toldBy (world.value copy key) a words = factsOf (world.value copy key) a words
 
 -- the cause of a refusal, as a case
-pub by-code : (P : Effect → Type 0) (code : ℕ) (s : Site) (lent : List ℕ) (e : Effect) → (code ≡ 0 → P e) → P (refused code s lent) → P (unless code s lent e)
+pub by-code : (P : Effect → Type 0) (code : ℕ) (s : Site) (lent : List ℕ) (e : Effect) → (code ≡ 0 → P e) → P (refused code s lent)
+    → P (unless code s lent e)
 by-code P code s lent e f g = by-test (eqb code 0) (λ h. rw h (f (eqb-true code 0 h))) (λ h. rw h g)
 
 -- messages are only added
@@ -60,7 +61,9 @@ posted-still post new g ws m =
       to = m .to;
       place = m .place;
       low = rw e (omega (arith, m .low, length-append (post (m .from) (m .to)) l));
-      words = m .words ∙ ap (encode (m .from) (m .to) (m .place + 1)) (sym (rw e (List·getD-append (post (m .from) (m .to)) l (mAbort 0) (m .place) (m .low))));
+      words = m .words
+          ∙ ap (encode (m .from) (m .to) (m .place + 1))
+          (sym (rw e (List·getD-append (post (m .from) (m .to)) l (mAbort 0) (m .place) (m .low))));
     }
 
 -- what a call of site s leaves elsewhere
@@ -115,9 +118,11 @@ module _ {sites : ℕ} {w : World} {p : Protocol} (r : Refines sites w p) (s : �
       record {
         few = r .few;
         site =
-            upd-three (λ j x y z. 1 ≤ j → j ≤ sites → SiteIs sites j x y z (sliceOf p j)) (w .site) (w .base) (w .lists) s (e .site) base lists
+            upd-three (λ j x y z. 1 ≤ j → j ≤ sites → SiteIs sites j x y z (sliceOf p j)) (w .site) (w .base) (w .lists) s
+            (e .site) base lists
             (rw (a, c, d) (r .site s)) (λ j n. r .site j);
-        outside = upd-cases (λ j x. ((1 ≤ j) × (j ≤ sites) → ⊥) → siteOk x ≡ false) (w .site) s (e .site) (rw a (r .outside s)) (λ j n. r .outside j);
+        outside = upd-cases (λ j x. ((1 ≤ j) × (j ≤ sites) → ⊥) → siteOk x ≡ false) (w .site) s (e .site) (rw a (r .outside s))
+            (λ j n. r .outside j);
         sent = rw (b, append-nil) (r .sent);
         log = r .log;
         stream = r .stream;
@@ -134,9 +139,11 @@ module _ {sites : ℕ} {w : World} {p : Protocol} (r : Refines sites w p) (s : �
       record {
         few = r .few;
         site =
-            upd-three (λ j x y z. 1 ≤ j → j ≤ sites → SiteIs sites j x y (w .lists j) (sliceOf p j)) (w .site) (w .base) (w .lists) s (e .site) base (w .lists s)
+            upd-three (λ j x y z. 1 ≤ j → j ≤ sites → SiteIs sites j x y (w .lists j) (sliceOf p j)) (w .site) (w .base) (w .lists) s
+            (e .site) base (w .lists s)
             (rw (a, c) (r .site s)) (λ j n. r .site j);
-        outside = upd-cases (λ j x. ((1 ≤ j) × (j ≤ sites) → ⊥) → siteOk x ≡ false) (w .site) s (e .site) (rw a (r .outside s)) (λ j n. r .outside j);
+        outside = upd-cases (λ j x. ((1 ≤ j) × (j ≤ sites) → ⊥) → siteOk x ≡ false) (w .site) s (e .site) (rw a (r .outside s))
+            (λ j n. r .outside j);
         sent = r .sent;
         log = upd-cases (λ j x. x ≡ map (recWords j) (p .log j)) (w .log) s _ (rw (b, append-nil) (r .log s)) (λ j n. r .log j);
         stream = r .stream;
@@ -144,16 +151,19 @@ module _ {sites : ℕ} {w : World} {p : Protocol} (r : Refines sites w p) (s : �
 
   -- A call that changes its site, and sends what it wrote.
   module _ {q : Protocol} (l : 1 ≤ s) (h : s ≤ sites) (o : Elsewhere s p q) (e : Effect) where
-    pub site-step : (base lists : List ℕ) → SiteIs sites s (e .site) base lists (sliceOf q s) → Grows (p .post) (q .post) → ((j : ℕ) → q .log j ≡ p .log j)
+    pub site-step : (base lists : List ℕ) → SiteIs sites s (e .site) base lists (sliceOf q s) → Grows (p .post) (q .post)
+        → ((j : ℕ) → q .log j ≡ p .log j)
         → All (Posted (q .post)) (messagesIn (e .words)) → Refines sites (siteStep w s e base lists .world) q
     unfolding siteStep
     site-step base lists x g k m =
         record {
           few = r .few;
           site =
-              upd-three (λ j x y z. 1 ≤ j → j ≤ sites → SiteIs sites j x y z (sliceOf q j)) (w .site) (w .base) (w .lists) s (e .site) base lists
+              upd-three (λ j x y z. 1 ≤ j → j ≤ sites → SiteIs sites j x y z (sliceOf q j)) (w .site) (w .base) (w .lists) s
+              (e .site) base lists
               (λ a b. x) (λ j n a b. site-elsewhere s n o (r .site j a b));
-          outside = upd-cases (λ j x. ((1 ≤ j) × (j ≤ sites) → ⊥) → siteOk x ≡ false) (w .site) s (e .site) (λ z. absurd (z (l, h))) (λ j n. r .outside j);
+          outside = upd-cases (λ j x. ((1 ≤ j) × (j ≤ sites) → ⊥) → siteOk x ≡ false) (w .site) s (e .site) (λ z. absurd (z (l, h)))
+              (λ j n. r .outside j);
           sent = all-append (all-map (posted-still (p .post) (q .post) g) (r .sent)) m;
           log = λ j. rw (k j) (r .log j);
           stream = r .stream;
@@ -167,9 +177,11 @@ module _ {sites : ℕ} {w : World} {p : Protocol} (r : Refines sites w p) (s : �
         record {
           few = r .few;
           site =
-              upd-three (λ j x y z. 1 ≤ j → j ≤ sites → SiteIs sites j x y (w .lists j) (sliceOf q j)) (w .site) (w .base) (w .lists) s (e .site) base (w .lists s)
+              upd-three (λ j x y z. 1 ≤ j → j ≤ sites → SiteIs sites j x y (w .lists j) (sliceOf q j)) (w .site) (w .base) (w .lists) s
+              (e .site) base (w .lists s)
               (λ a b. x) (λ j n a b. site-elsewhere s n o (r .site j a b));
-          outside = upd-cases (λ j x. ((1 ≤ j) × (j ≤ sites) → ⊥) → siteOk x ≡ false) (w .site) s (e .site) (λ z. absurd (z (l, h))) (λ j n. r .outside j);
+          outside = upd-cases (λ j x. ((1 ≤ j) × (j ≤ sites) → ⊥) → siteOk x ≡ false) (w .site) s (e .site) (λ z. absurd (z (l, h)))
+              (λ j n. r .outside j);
           sent = all-map (posted-still (p .post) (q .post) (λ a b. ([], g a b ∙ sym (append-nil (p .post a b))))) (r .sent);
           log = upd-cases (λ j x. x ≡ map (recWords j) (q .log j)) (w .log) s _ k (λ j n. rw (o .log j n) (r .log j));
           stream = r .stream;

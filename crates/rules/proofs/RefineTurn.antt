@@ -42,7 +42,8 @@ pub record AtPlace (x : Site) (p : Protocol) (s t place : ℕ) : Type 0 where
   pub spot : Spot (x .live) place t
   pub sized : Sized (p .live s t .keys)
 
-pub at-place : (x : Site) (p : Protocol) (s t : ℕ) → LiveIs (x .live) (p .live s) → placeOf (x .live) t < sizes.live → AtPlace x p s t (placeOf (x .live) t)
+pub at-place : (x : Site) (p : Protocol) (s t : ℕ) → LiveIs (x .live) (p .live s) → placeOf (x .live) t < sizes.live
+    → AtPlace x p s t (placeOf (x .live) t)
 at-place x p s t l h =
     let (q, f, o) = place-held l t h in
     record { part = q; held = f; tx = o; spot = place-spot l t h; sized = l .sized t f }
@@ -57,7 +58,8 @@ by-held x p s l t f g =
     (λ e. g (place-none l t (ltb-false _ _ e)) e)
 
 -- of the part at any place that is not free
-pub part-place : (x : Site) (p : Protocol) (s i : ℕ) → LiveIs (x .live) (p .live s) → i < sizes.live → (IsFree (subAt x i) → ⊥) → AtPlace x p s (subAt x i .tx) i
+pub part-place : (x : Site) (p : Protocol) (s i : ℕ) → LiveIs (x .live) (p .live s) → i < sizes.live → (IsFree (subAt x i) → ⊥)
+    → AtPlace x p s (subAt x i .tx) i
 part-place x p s i l h f =
     let q = l .holds i h f in
     let g : (IsFree (p .live s (subAt x i .tx)) → ⊥) = λ z. f (ap (λ (b : Sub). b .course .stage) q ∙ z) in
@@ -79,7 +81,8 @@ course-is a = ap (λ (b : Sub). b .course) (a .part)
 module _ {sites s : ℕ} {x : Site} {base words : List ℕ} {p : Protocol} {v : Slice} {t place : ℕ}
     (y : SiteIs sites s x base words v) (row : v .live ≡ p .live s) (a : AtPlace x p s t place) where
   pub site-course : (c d : Course) → d ≡ c → (c .stage ≡ stage.prepared → coordinatorOf t ≡ s → ⊥)
-      → SiteIs sites s (withSub x place (withCourse (subAt x place) d)) base words (live-in v (upd₂ (p .live) s t (withCourse (p .live s t) c) s))
+      → SiteIs sites s (withSub x place (withCourse (subAt x place) d)) base words
+      (live-in v (upd₂ (p .live) s t (withCourse (p .live s t) c) s))
   site-course c d e n =
       let q : withCourse (subAt x place) d ≡ withCourse (p .live s t) c = rw (a .part, e) in
       rw q
@@ -88,4 +91,5 @@ module _ {sites s : ℕ} {x : Site} {base words : List ℕ} {p : Protocol} {v : 
 
   pub site-gone : SiteIs sites s (withSub x place noSub) base words (live-in v (upd₂ (p .live) s t noSub s))
   site-gone =
-      site-sub y place t noSub (a .spot) (λ f. absurd (f gone)) (λ f g. absurd (omega (arith, gone))) (rw row (row-same (p .live) s t noSub))
+      site-sub y place t noSub (a .spot) (λ f. absurd (f gone)) (λ f g. absurd (omega (arith, gone)))
+      (rw row (row-same (p .live) s t noSub))

@@ -29,7 +29,8 @@ use Rattle.rules.specs.Install.{stateWords}
 use Rattle.rules.specs.Valid.{siteOk}
 use Rattle.rules.specs.World.{World}
 use Rattle.rules.proofs.Tables.{All}
-use Rattle.rules.proofs.Protocol.{Protocol, Msg, mJoin, mJoined, mPrepare, mConc, mCert, mVote, mCommit, mAbort, Rec, rPart, rState, partsOf}
+use Rattle.rules.proofs.Protocol.{Protocol, Msg, mJoin, mJoined, mPrepare, mConc, mCert, mVote, mCommit, mAbort, Rec, rPart, rState}
+use Rattle.rules.proofs.Protocol.{partsOf}
 
 -- The words of a message of the protocol, from a to b with channel number n.
 abbrev pub kindOf : Msg → ℕ
@@ -178,7 +179,15 @@ pub record Slice : Type 0 where
 
 abbrev pub sliceOf : Protocol → ℕ → Slice
 sliceOf p s =
-    record { clock = p .clock s; serial = p .serial s; live = p .live s; gathered = p .gathered; post = p .post s; taken = λ r. p .taken r s; log = p .log s }
+    record {
+      clock = p .clock s;
+      serial = p .serial s;
+      live = p .live s;
+      gathered = p .gathered;
+      post = p .post s;
+      taken = λ r. p .taken r s;
+      log = p .log s;
+    }
 
 pub record SiteIs (sites own : ℕ) (s : Site) (base words : List ℕ) (v : Slice) : Type 0 where
   pub house : s .house .sites ≡ sites

@@ -97,7 +97,12 @@ module _ (p : Protocol) (t : ℕ) (c d : Course) where
 
   pub base-reset : c .mask ≡ d .mask → c .heard ≡ 0 → Base p t d → Base p t c
   base-reset e f b =
-      record { small = rw (e, f) (b .small .0, omega arith); own = rw e (b .own); heard = λ r h. absurd (none-in r (rw f at (h .1))); parts = rw e (b .parts) }
+      record {
+        small = rw (e, f) (b .small .0, omega arith);
+        own = rw e (b .own);
+        heard = λ r h. absurd (none-in r (rw f at (h .1)));
+        parts = rw e (b .parts);
+      }
 
 pub base-enlist : (p : Protocol) (t r : ℕ) (c : Course) → r ≤ sizes.sites → Base p t c → Base p t (withParticipant c r)
 unfolding withParticipant
@@ -118,7 +123,8 @@ heard-more c a k n r l (x, e) = go (in-more (c .heard) a r l x e)
     go (inl h) = inl (x, h)
     go (inr h) = inr h
 
-pub base-reply : (p : Protocol) (t a k n : ℕ) (c : Course) → 1 ≤ a → inMask (c .mask) a ≡ true → (a ≡ coordinatorOf t → ⊥) → Base p t c → Base p t (withReply c a k n)
+pub base-reply : (p : Protocol) (t a k n : ℕ) (c : Course) → 1 ≤ a → inMask (c .mask) a ≡ true → (a ≡ coordinatorOf t → ⊥) → Base p t c
+    → Base p t (withReply c a k n)
 unfolding withReply
 base-reply p t a k n c l e o b =
     record {
@@ -155,7 +161,8 @@ module _ (p : Protocol) (t : ℕ) (c : Course) where
         undecided = λ h. absurd (h e);
       }
 
-  pub at-active : c .stage ≡ stage.active → Base p t c → ((r : ℕ) → c .reason ≡ 0 → In (c .heard) r → p .has r t ≡ true) → p .asked t ≡ false → p .num t ≡ 0 → RoundOk p t c
+  pub at-active : c .stage ≡ stage.active → Base p t c → ((r : ℕ) → c .reason ≡ 0 → In (c .heard) r → p .has r t ≡ true)
+      → p .asked t ≡ false → p .num t ≡ 0 → RoundOk p t c
   at-active e b j a n =
       record {
         small = λ h. b .small;
@@ -173,7 +180,8 @@ module _ (p : Protocol) (t : ℕ) (c : Course) where
         undecided = λ h f. n;
       }
 
-  pub at-prepared : c .stage ≡ stage.prepared → Base p t c → AskedOf p t c → ((r : ℕ) → Replied t c r → ListOf p t r) → Whole (p .gathered t) → p .certed t ≡ false → p .num t ≡ 0 → RoundOk p t c
+  pub at-prepared : c .stage ≡ stage.prepared → Base p t c → AskedOf p t c → ((r : ℕ) → Replied t c r → ListOf p t r)
+      → Whole (p .gathered t) → p .certed t ≡ false → p .num t ≡ 0 → RoundOk p t c
   at-prepared e b a l w u n =
       record {
         small = λ h. b .small;
@@ -191,7 +199,8 @@ module _ (p : Protocol) (t : ℕ) (c : Course) where
         undecided = λ h f. n;
       }
 
-  pub at-queued : c .stage ≡ stage.queued → Base p t c → AskedOf p t c → ((r : ℕ) → Replied t c r → VoteOf p t r) → p .num t ≡ 0 → RoundOk p t c
+  pub at-queued : c .stage ≡ stage.queued → Base p t c → AskedOf p t c → ((r : ℕ) → Replied t c r → VoteOf p t r) → p .num t ≡ 0
+      → RoundOk p t c
   at-queued e b a v n =
       record {
         small = λ h. b .small;

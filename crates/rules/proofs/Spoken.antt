@@ -26,7 +26,8 @@ use Rattle.rules.specs.Live.{allHeard}
 use Rattle.rules.specs.Certify.{conflictsWith, uncertainOf, voteOf}
 use Rattle.rules.specs.Answers.{isRefused}
 use Rattle.rules.specs.Effect.{Change}
-use Rattle.rules.specs.Course.{headOf, sendTo, sendAll, quietly, leaving, withReply, enlistStep, abortStep, commitStep, decideStep, castStep, prepareStep, voteStep, preparedStep, certifiedStep}
+use Rattle.rules.specs.Course.{headOf, sendTo, sendAll, quietly, leaving, withReply, enlistStep, abortStep, commitStep, decideStep}
+use Rattle.rules.specs.Course.{castStep, prepareStep, voteStep, preparedStep, certifiedStep}
 use Rattle.rules.proofs.Protocol.{Whole}
 use Rattle.rules.proofs.RefineMail.{made-append, Made, none, one}
 
@@ -38,7 +39,8 @@ Known m = messageHead m .kind ≡ kind.vote → messageHead m .argument ≡ reas
 pub made-message : (P : List ℕ → Type 0) (h : MessageHead) (es : List ℕ) → length es ≡ sizes.entry * h .count → P (messageWords h es)
     → Made P (messageWords h es)
 unfolding messageWords
-made-message P h es e p = one {m = messageWords h es} (sym (append-nil (messageWords h es))) (sym (length-message h es e)) (omega arith) p none
+made-message P h es e p =
+    one {m = messageWords h es} (sym (append-nil (messageWords h es))) (sym (length-message h es e)) (omega arith) p none
 
 module _ (P : List ℕ → Type 0) (h : MessageHead) (sent : List ℕ) (mask : ℕ) (es : List ℕ) (size : length es ≡ sizes.entry * h .count)
     (each : (i : ℕ) → isRecipient mask (h .from) i ≡ true → P (messageWords (headTo h sent i) es)) where
@@ -62,13 +64,16 @@ pub quietly-speaks : (t : Turn) → Speaks (quietly t)
 unfolding quietly
 quietly-speaks t = record { accepts = refl; known = none }
 
-pub to-speaks : (t : Turn) (k to clock v : ℕ) (es : List ℕ) → Whole es → (k ≡ kind.vote → v ≡ reason.unknown → ⊥) → Speaks (sendTo t k to clock v es)
+pub to-speaks : (t : Turn) (k to clock v : ℕ) (es : List ℕ) → Whole es → (k ≡ kind.vote → v ≡ reason.unknown → ⊥)
+    → Speaks (sendTo t k to clock v es)
 unfolding sendTo headOf
 to-speaks t k to clock v es w n = record { accepts = refl; known = made-message Known _ es w (rw (head-back _ es) n) }
 
-all-speaks : (t : Turn) (a : Answer) (k clock v : ℕ) (es : List ℕ) → isRefused a ≡ false → Whole es → (k ≡ kind.vote → ⊥) → Speaks (sendAll t a k clock v es)
+all-speaks : (t : Turn) (a : Answer) (k clock v : ℕ) (es : List ℕ) → isRefused a ≡ false → Whole es → (k ≡ kind.vote → ⊥)
+    → Speaks (sendAll t a k clock v es)
 unfolding sendAll headOf headTo
-all-speaks t a k clock v es e w n = record { accepts = e; known = made-to-all Known _ _ _ es w (λ i r. rw (head-back _ es) (λ x y. n x)) sizes.sites }
+all-speaks t a k clock v es e w n =
+    record { accepts = e; known = made-to-all Known _ _ _ es w (λ i r. rw (head-back _ es) (λ x y. n x)) sizes.sites }
 
 leaving-speaks : (b : Sub) (c : Change) → Speaks c → Speaks (leaving b c)
 leaving-speaks b c x = record { accepts = x .accepts; known = x .known }

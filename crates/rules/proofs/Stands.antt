@@ -21,7 +21,8 @@ use Rattle.rules.proofs.BookMove.{booked-steps, booked-fresh}
 use Rattle.rules.proofs.BookReplays.{on-installed}
 
 -- a replay tells the book, and nothing of the sites
-told-facts : {sites : ℕ} {p : Protocol} (b : List Fact) (c : Call) (a : Answer) (ws : List ℕ) → Booked sites (b ++ toldBy c a ws) p → Booked sites (b ++ factsOf c a ws) p
+told-facts : {sites : ℕ} {p : Protocol} (b : List Fact) (c : Call) (a : Answer) (ws : List ℕ) → Booked sites (b ++ toldBy c a ws) p
+    → Booked sites (b ++ factsOf c a ws) p
 told-facts b (world.begin s) a ws x = x
 told-facts b (world.enlist s out t n) a ws x = x
 told-facts b (world.read s t k) a ws x = x
@@ -65,11 +66,13 @@ module _ (More : World → Stream → Type 0) {sites : ℕ} (few : sites ≤ 8) 
         more = keeps w (x .stream) u c h (x .is) (x .standing) ss e i (x .more);
       }
 
-  run-stands : (calls : List Call) (w : World) (b : List Fact) → Lawful w calls → Stands More sites w b → Stands More sites (run w calls) (b ++ bookFrom w calls)
+  run-stands : (calls : List Call) (w : World) (b : List Fact) → Lawful w calls → Stands More sites w b
+      → Stands More sites (run w calls) (b ++ bookFrom w calls)
   unfolding run bookFrom
   run-stands [] w b h x = rw append-nil x
   run-stands (c ∷ calls) w b (h, hs) x =
-      regroup (Stands More sites (run (step w c .world) calls)) b (factsOf c (step w c .answer) (step w c .words)) (bookFrom (step w c .world) calls)
+      regroup (Stands More sites (run (step w c .world) calls)) b (factsOf c (step w c .answer) (step w c .words))
+      (bookFrom (step w c .world) calls)
       (run-stands calls (step w c .world) (b ++ factsOf c (step w c .answer) (step w c .words)) hs (call-stands c h x))
 
   pub list-stands : 1 ≤ sites → More (freshWorld sites) freshStream → (calls : List Call) → Lawful (freshWorld sites) calls
@@ -77,4 +80,10 @@ module _ (More : World → Stream → Type 0) {sites : ℕ} (few : sites ≤ 8) 
   unfolding freshStream
   list-stands some m calls lawful =
       run-stands calls (freshWorld sites) [] lawful
-      (record { stream = freshStream; standing = standing-fresh sites; is = stream-fresh sites some few; booked = booked-fresh sites; more = m })
+      (record {
+        stream = freshStream;
+        standing = standing-fresh sites;
+        is = stream-fresh sites some few;
+        booked = booked-fresh sites;
+        more = m;
+      })

@@ -19,10 +19,12 @@ use Rattle.rules.proofs.Frames.{said}
 use Rattle.rules.proofs.Entries.{within-trans}
 use Rattle.rules.proofs.Later.{Begins}
 use Rattle.rules.proofs.News.{OwnStage, Replies, AskedNow, MadeNow, CertedNow, YesNow, NumNow, DeadNow}
-use Rattle.rules.proofs.Changes.{Change, change, InstalledNow, stands, stood, still-installed, part-new, snap-has, held-kept, free-kept}
+use Rattle.rules.proofs.Changes.{Change, change, InstalledNow, stands, stood, still-installed, part-new, snap-has, held-kept}
+use Rattle.rules.proofs.Changes.{free-kept}
 
 -- a full round: each participant is the coordinator or was heard
-pub full-round : {sites : ℕ} {p : Protocol} (i : Invariant sites p) (t r : ℕ) → Held p (coordinatorOf t) t → Replies p t → In (courseAt p (coordinatorOf t) t .mask) r
+pub full-round : {sites : ℕ} {p : Protocol} (i : Invariant sites p) (t r : ℕ) → Held p (coordinatorOf t) t → Replies p t
+    → In (courseAt p (coordinatorOf t) t .mask) r
     → (r ≡ coordinatorOf t) ⊎ In (courseAt p (coordinatorOf t) t .heard) r
 full-round {p} i t r h all m =
     let k = i .rounds .small t h in
@@ -81,11 +83,13 @@ module _ {sites : ℕ} {p : Protocol} (i : Invariant sites p) {q : Protocol} (c 
   made s t m = go (c .news .made s t m)
     where
       go : (p .made s t ≡ true) ⊎ MadeNow p q s t (q .list s t) → (q .asked t ≡ true) × (inMask (q .mask t) s ≡ true) × Whole (q .list s t)
-      go (inl e) = let k = i .account .made s t e in let a = c .later .asked t (k .0) in (a .0, rw (a .1) (k .1), rw (c .later .made s t e .1) (k .2))
+      go (inl e) = let k = i .account .made s t e in let a = c .later .asked t (k .0) in
+          (a .0, rw (a .1) (k .1), rw (c .later .made s t e .1) (k .2))
       go (inr (x, y, a, b)) = (a, b, y .whole)
 
   -- a coordinator's part past the request: the mask is final
-  mask-now : (t r : ℕ) → Held p (coordinatorOf t) t → (OwnStage p t stage.active → ⊥) → In (q .mask t) r → In (courseAt p (coordinatorOf t) t .mask) r
+  mask-now : (t r : ℕ) → Held p (coordinatorOf t) t → (OwnStage p t stage.active → ⊥) → In (q .mask t) r
+      → In (courseAt p (coordinatorOf t) t .mask) r
   mask-now t r h n m = let a = i .rounds .asked t h n in rw (c .later .asked t (a .0) .1 ∙ a .1) at m
 
   certed : (t r : ℕ) → q .certed t ≡ true → In (q .mask t) r → (q .made r t ≡ true) × Within (q .list r t) (q .cert t)
@@ -114,7 +118,8 @@ module _ {sites : ℕ} {p : Protocol} (i : Invariant sites p) {q : Protocol} (c 
   yes s t y = go (c .news .yes s t y)
     where
       go : (p .yes s t ≡ true) ⊎ YesNow p q s t (q .mark s t) → (q .certed t ≡ true) × (inMask (q .mask t) s ≡ true)
-      go (inl e) = let k = i .account .yes s t e in (c .later .certed t (k .0) .0, rw (c .later .asked t (i .account .certed-asked t (k .0)) .1) (k .1))
+      go (inl e) = let k = i .account .yes s t e in
+          (c .later .certed t (k .0) .0, rw (c .later .asked t (i .account .certed-asked t (k .0)) .1) (k .1))
       go (inr (x, v, e, a, b)) = (a, b)
 
   voted : (t r : ℕ) → 0 < q .num t → In (q .mask t) r → (q .yes r t ≡ true) × (q .mark r t < q .num t)
@@ -137,7 +142,8 @@ module _ {sites : ℕ} {p : Protocol} (i : Invariant sites p) {q : Protocol} (c 
     where
       go : (0 < p .num t) ⊎ NumNow p q t (q .num t) → q .certed t ≡ true
       go (inl e) = c .later .certed t (i .account .num-certed t e) .0
-      go (inr (x, y, e, z, o)) = c .later .certed t (i .account .yes (coordinatorOf t) t (i .courses .queued (coordinatorOf t) t x .0) .0) .0
+      go (inr (x, y, e, z, o)) =
+          c .later .certed t (i .account .yes (coordinatorOf t) t (i .courses .queued (coordinatorOf t) t x .0) .0) .0
 
   -- Parts.
   kept : (s t : ℕ) → q .has s t ≡ true → q .dead t ≡ false → Held q s t ⊎ Installed q s t
@@ -159,7 +165,8 @@ module _ {sites : ℕ} {p : Protocol} (i : Invariant sites p) {q : Protocol} (c 
     where
       -- no number: neither before nor now
       none : p .num t ≡ 0 → (OwnStage q t stage.decided → ⊥) → q .num t ≡ 0
-      none z f = by-test (eqb (q .num t) 0) (λ e. eqb-true (q .num t) 0 e) (λ e. let n = eqb-false (q .num t) 0 e in absurd (some (c .news .num t (omega arith))))
+      none z f = by-test (eqb (q .num t) 0) (λ e. eqb-true (q .num t) 0 e)
+          (λ e. let n = eqb-false (q .num t) 0 e in absurd (some (c .news .num t (omega arith))))
         where
           some : (0 < p .num t) ⊎ NumNow p q t (q .num t) → ⊥
           some (inl e) = omega arith
@@ -170,22 +177,26 @@ module _ {sites : ℕ} {p : Protocol} (i : Invariant sites p) {q : Protocol} (c 
           let (n, f, h) = i .account .dead t e in
           let z = free-kept i c (coordinatorOf t) t h f in
           (none n (λ g. omega arith), z, c .later .has (coordinatorOf t) t h)
-      go (inr (h, n, f)) = (none (i .rounds .undecided t h n) (λ g. omega arith), f, c .later .has (coordinatorOf t) t (i .parts .has (coordinatorOf t) t h))
+      go (inr (h, n, f)) =
+          (none (i .rounds .undecided t h n) (λ g. omega arith), f, c .later .has (coordinatorOf t) t (i .parts .has (coordinatorOf t) t h))
 
   entry : (s j : ℕ) → j < length (inst q s)
-      → (at q s j .number ≡ q .num (at q s j .tx)) × (0 < q .num (at q s j .tx)) × (at q s j .mask ≡ q .mask (at q s j .tx)) × (q .yes s (at q s j .tx) ≡ true)
+      → (at q s j .number ≡ q .num (at q s j .tx)) × (0 < q .num (at q s j .tx)) × (at q s j .mask ≡ q .mask (at q s j .tx))
+      × (q .yes s (at q s j .tx) ≡ true)
   unfolding entryOf
   entry s j l = go (stood i c s j l)
     where
       -- a committed transaction
-      still : (u n m : ℕ) → (n ≡ p .num u) × (0 < p .num u) × (m ≡ p .mask u) × (p .yes s u ≡ true) → (n ≡ q .num u) × (0 < q .num u) × (m ≡ q .mask u) × (q .yes s u ≡ true)
+      still : (u n m : ℕ) → (n ≡ p .num u) × (0 < p .num u) × (m ≡ p .mask u) × (p .yes s u ≡ true)
+          → (n ≡ q .num u) × (0 < q .num u) × (m ≡ q .mask u) × (q .yes s u ≡ true)
       still u n m (e, z, f, y) =
           let a = c .later .num u z in
           let b = c .later .asked u (i .account .certed-asked u (i .account .num-certed u z)) in
           (e ∙ sym a, rw a z, f ∙ sym (b .1), c .later .yes s u y .0)
 
       go : (j < length (inst p s)) ⊎ InstalledNow p s j (at q s j)
-          → (at q s j .number ≡ q .num (at q s j .tx)) × (0 < q .num (at q s j .tx)) × (at q s j .mask ≡ q .mask (at q s j .tx)) × (q .yes s (at q s j .tx) ≡ true)
+          → (at q s j .number ≡ q .num (at q s j .tx)) × (0 < q .num (at q s j .tx)) × (at q s j .mask ≡ q .mask (at q s j .tx))
+          × (q .yes s (at q s j .tx) ≡ true)
       go (inl k) = rw (stands i c s j k .1) (still _ _ _ (i .account .entry s j k))
       go (inr (u, d, f, k, e)) =
           let o = i .courses .decided s u d in

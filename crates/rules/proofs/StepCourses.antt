@@ -13,7 +13,10 @@ use Rattle.rules.specs.Message.{entryCount}
 use Rattle.rules.specs.Course.{newSub, withParticipant, withReply, withDecision, withMark, withRequest, withStage}
 use Rattle.rules.specs.World.{upd}
 use Rattle.rules.proofs.Tables.{upd₂, upd-same, upd-cases, upd₂-cases, upd-both, upd₂-both, upd₂-three}
-use Rattle.rules.proofs.Protocol.{Protocol, set-asked, set-mask, set-made, set-yes, set-mark, set-num, withLive, withCourseAt, AtStage, courseAt, Move, begin, enlist, access, request, abort, cast, decide, install, report, joins, full, joined, prepared, lost, unknown, gathers, certified, rejects, votes, commits, aborts, passes, freshProtocol}
+use Rattle.rules.proofs.Protocol.{Protocol, set-asked, set-mask, set-made, set-yes, set-mark, set-num, withLive, withCourseAt}
+use Rattle.rules.proofs.Protocol.{AtStage, courseAt, Move, begin, enlist, access, request, abort, cast, decide, install, report}
+use Rattle.rules.proofs.Protocol.{joins, full, joined, prepared, lost, unknown, gathers, certified, rejects, votes, commits, aborts}
+use Rattle.rules.proofs.Protocol.{passes, freshProtocol}
 use Rattle.rules.proofs.Invariants.{Courses, Invariant}
 use Rattle.rules.proofs.Frames.{said, ends, new-tx, new-join, blank}
 
@@ -158,9 +161,11 @@ module _ (sites : ℕ) (p : Protocol) (i : Invariant sites p) where
   all = of-courses p (i .courses)
 
   -- one part changes, and nothing of the account
-  one : (s t : ℕ) (b : Sub) → CourseOk (p .made s t) (p .yes s t) (p .asked t) (p .mask t) (p .mark s t) (p .num t) (b .course) → CoursesAt (withLive p s t b)
+  one : (s t : ℕ) (b : Sub) → CourseOk (p .made s t) (p .yes s t) (p .asked t) (p .mask t) (p .mark s t) (p .num t) (b .course)
+      → CoursesAt (withLive p s t b)
   one s t b h =
-      upd₂-cases (λ j u b. CourseOk (p .made j u) (p .yes j u) (p .asked u) (p .mask u) (p .mark j u) (p .num u) (b .course)) (p .live) s t b h
+      upd₂-cases (λ j u b. CourseOk (p .made j u) (p .yes j u) (p .asked u) (p .mask u) (p .mark j u) (p .num u) (b .course))
+      (p .live) s t b h
       (λ j u n. all j u)
 
   gone : (s t : ℕ) → CoursesAt (withLive p s t noSub)
@@ -172,14 +177,24 @@ module _ (sites : ℕ) (p : Protocol) (i : Invariant sites p) where
   unfolding withReply
   reply s t a r n =
       let k = all s t in
-      one s t _ (record { active = k .active; rejected = k .rejected; mask = k .mask; prepared = k .prepared; queued = k .queued; decided = k .decided; stages = k .stages })
+      one s t _ (record {
+        active = k .active;
+        rejected = k .rejected;
+        mask = k .mask;
+        prepared = k .prepared;
+        queued = k .queued;
+        decided = k .decided;
+        stages = k .stages;
+      })
 
   -- a yes, with the clock for its mark
   voted : (s t : ℕ) → AtStage p s t stage.prepared
-      → CoursesAt (set-yes (upd₂ (p .yes) s t true) (set-mark (upd₂ (p .mark) s t (p .clock s)) (withCourseAt p s t (withMark (courseAt p s t) (p .clock s)))))
+      → CoursesAt (set-yes (upd₂ (p .yes) s t true)
+      (set-mark (upd₂ (p .mark) s t (p .clock s)) (withCourseAt p s t (withMark (courseAt p s t) (p .clock s)))))
   unfolding withMark
   voted s t a =
-      upd₂-three (λ j u y k b. CourseOk (p .made j u) y (p .asked u) (p .mask u) k (p .num u) (b .course)) (p .yes) (p .mark) (p .live) s t true (p .clock s) _
+      upd₂-three (λ j u y k b. CourseOk (p .made j u) y (p .asked u) (p .mask u) k (p .num u) (b .course)) (p .yes) (p .mark) (p .live) s t
+      true (p .clock s) _
       (at-queued _ _ _ _ _ _ _ refl (refl, refl) (all s t .mask (λ f. omega arith) (λ f. omega arith))) (λ j u n. all j u)
 
   -- the list of a participant
@@ -187,17 +202,21 @@ module _ (sites : ℕ) (p : Protocol) (i : Invariant sites p) where
       → CoursesAt (set-made (upd₂ (p .made) s t true) (withCourseAt p s t (withStage (courseAt p s t) w stage.prepared)))
   unfolding withStage
   listed s t w a h =
-      upd₂-both (λ j u m b. CourseOk m (p .yes j u) (p .asked u) (p .mask u) (p .mark j u) (p .num u) (b .course)) (p .made) (p .live) s t true _
+      upd₂-both (λ j u m b. CourseOk m (p .yes j u) (p .asked u) (p .mask u) (p .mark j u) (p .num u) (b .course)) (p .made)
+      (p .live) s t true _
       (at-prepared _ _ _ _ _ _ _ refl (refl, all s t .active a .1) h) (λ j u n. all j u)
 
   -- the commit request
   requested : (s t n w : ℕ) → coordinatorOf t ≡ s → AtStage p s t stage.active → w ≡ courseAt p s t .mask
-      → CoursesAt (set-asked (upd (p .asked) t true) (set-mask (upd (p .mask) t w) (set-made (upd₂ (p .made) s t true) (withCourseAt p s t (withRequest (courseAt p s t) n)))))
+      → CoursesAt (set-asked (upd (p .asked) t true)
+      (set-mask (upd (p .mask) t w) (set-made (upd₂ (p .made) s t true) (withCourseAt p s t (withRequest (courseAt p s t) n)))))
   unfolding withRequest
   requested s t n w c a e =
-      upd₂-both (λ j u m b. CourseOk m (p .yes j u) (upd (p .asked) t true u) (upd (p .mask) t w u) (p .mark j u) (p .num u) (b .course)) (p .made) (p .live) s t true _
+      upd₂-both (λ j u m b. CourseOk m (p .yes j u) (upd (p .asked) t true u) (upd (p .mask) t w u) (p .mark j u) (p .num u) (b .course))
+      (p .made) (p .live) s t true _
       (at-prepared _ _ _ _ _ _ _ refl (refl, all s t .active a .1) (upd-same (p .asked) t true, sym e ∙ sym (upd-same (p .mask) t w)))
-      (λ j u x. upd-both (λ u b m. CourseOk (p .made j u) (p .yes j u) b m (p .mark j u) (p .num u) (courseAt p j u)) (p .asked) (p .mask) t true w
+      (λ j u x. upd-both (λ u b m. CourseOk (p .made j u) (p .yes j u) b m (p .mark j u) (p .num u) (courseAt p j u)) (p .asked)
+      (p .mask) t true w
       (asked-now _ _ _ _ _ _ _ (all j t) (i .rounds .unasked t (rw c a)) w) (λ u y. all j u) u)
 
   -- the decision
@@ -207,14 +226,18 @@ module _ (sites : ℕ) (p : Protocol) (i : Invariant sites p) where
   numbered s t n c a l =
       let z : AtStage p (coordinatorOf t) t stage.queued = rw c a in
       let e : p .num t ≡ 0 = i .rounds .undecided t (λ f. omega arith) (λ f. omega arith) in
-      upd₂-cases (λ j u b. CourseOk (p .made j u) (p .yes j u) (p .asked u) (p .mask u) (p .mark j u) (upd (p .num) t n u) (b .course)) (p .live) s t _
-      (at-decided _ _ _ _ _ _ _ refl (all s t .queued a .0, sym (upd-same (p .num) t n), rw (upd-same (p .num) t n) l) (all s t .mask (λ f. omega arith) (λ f. omega arith)))
-      (λ j u x. upd-cases (λ u m. CourseOk (p .made j u) (p .yes j u) (p .asked u) (p .mask u) (p .mark j u) m (courseAt p j u)) (p .num) t n
+      upd₂-cases (λ j u b. CourseOk (p .made j u) (p .yes j u) (p .asked u) (p .mask u) (p .mark j u) (upd (p .num) t n u) (b .course))
+      (p .live) s t _
+      (at-decided _ _ _ _ _ _ _ refl (all s t .queued a .0, sym (upd-same (p .num) t n), rw (upd-same (p .num) t n) l)
+      (all s t .mask (λ f. omega arith) (λ f. omega arith)))
+      (λ j u x. upd-cases (λ u m. CourseOk (p .made j u) (p .yes j u) (p .asked u) (p .mask u) (p .mark j u) m (courseAt p j u))
+      (p .num) t n
       (decided-now _ _ _ _ _ _ _ (all j t) e n) (λ u y. all j u) u)
 
   step : (q : Protocol) → Move sites p q → CoursesAt q
   unfolding newSub withParticipant withDecision withMark withRequest withStage
-  step q (begin s t l m n e) = let h = blank p s t (i .account) l (new-tx sites p s t (i .parts) n e s) in one s t _ (at-active _ _ _ _ _ _ _ refl (h .made) (h .yes))
+  step q (begin s t l m n e) = let h = blank p s t (i .account) l (new-tx sites p s t (i .parts) n e s) in
+      one s t _ (at-active _ _ _ _ _ _ _ refl (h .made) (h .yes))
   step q (enlist s t r c a l m n o) = let h = all s t .active a in one s t _ (at-active _ _ _ _ _ _ _ a (h .0) (h .1))
   step q (access s t b fs a told w f) = one s t _ (all s t)
   step q (request s t es c a l r v) = requested s t (entryCount es) (courseAt p s t .mask) c a refl
@@ -235,11 +258,13 @@ module _ (sites : ℕ) (p : Protocol) (i : Invariant sites p) where
   step q (unknown a s t n m r x y z) = all
   step q (gathers a s t es x y o) = reply s t a 0 (entryCount es)
   step q (certified a s t es x y v) = voted s t y
-  step q (rejects a s t r es x y z) = one s t _ (at-rejected _ _ _ _ _ _ _ refl (all s t .prepared y .1) (all s t .mask (λ f. omega arith) (λ f. omega arith)))
+  step q (rejects a s t r es x y z) =
+      one s t _ (at-rejected _ _ _ _ _ _ _ refl (all s t .prepared y .1) (all s t .mask (λ f. omega arith) (λ f. omega arith)))
   step q (votes a s t n x y o) = reply s t a 0 0
   step q (commits a s t n x y) =
       let o = said i x in
-      one s t _ (at-decided _ _ _ _ _ _ _ refl (all s t .queued y .0, sym (o .1), rw (o .1) (o .2)) (all s t .mask (λ f. omega arith) (λ f. omega arith)))
+      one s t _ (at-decided _ _ _ _ _ _ _ refl (all s t .queued y .0, sym (o .1), rw (o .1) (o .2))
+      (all s t .mask (λ f. omega arith) (λ f. omega arith)))
   step q (aborts a s t x d) = gone s t
   step q (passes a s n m x) = all
 

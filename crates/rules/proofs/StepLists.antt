@@ -1,4 +1,5 @@
--- Lists after a move: when a list is made it has every transaction that its own may have seen elsewhere; after that nothing that it speaks of
+-- Lists after a move: when a list is made it has every transaction that its own may have seen elsewhere; after that nothing that it speaks
+-- of
 -- changes. A yes is given on the list that was certified.
 use Prim.Native.Nat.{ℕ, _≤_, _<_}
 use mathlib.Core.Path.{_≡_, refl, sym}
@@ -39,8 +40,10 @@ module _ {sites : ℕ} {p : Protocol} (i : Invariant sites p) (s t u : ℕ) (es 
 
   by-held : Held p s u → Covered p s t u es
   by-held x =
-      let y : AtStage p s u stage.active → ⊥ = λ f. set-not _ (committed-yes (i .parts) (i .account) u z s h .0) (i .courses .active s u f .1) in
-      inr (rw (i .courses .mask s u x y .1, i .parts .keys s t held-t, i .parts .keys s u x) at (v .prepared u n (past-active (p .live s u) x y)))
+      let y : AtStage p s u stage.active
+      → ⊥ = λ f. set-not _ (committed-yes (i .parts) (i .account) u z s h .0) (i .courses .active s u f .1) in
+      inr (rw (i .courses .mask s u x y .1, i .parts .keys s t held-t, i .parts .keys s u x) at
+      (v .prepared u n (past-active (p .live s u) x y)))
 
   by-installed : Installed p s u → Covered p s t u es
   by-installed (j, (l, e)) =
@@ -125,7 +128,8 @@ module _ {sites : ℕ} {p : Protocol} (i : Invariant sites p) {q : Protocol} (c 
       keys-t = keys-kept i c s t had (λ f. set-not _ y (c .courses .active s t f .1))
 
       keys-u : q .keys s u ≡ p .keys s u
-      keys-u = keys-kept i c s u (rw is at (i .parts .entry-has s x (seen .1))) (λ f. let g = rw e at (c .parts .entry-gone s x b) in omega arith)
+      keys-u = keys-kept i c s u (rw is at (i .parts .entry-has s x (seen .1)))
+          (λ f. let g = rw e at (c .parts .entry-gone s x b) in omega arith)
 
       go : (p .yes s t ≡ true) ⊎ YesNow p q s t (q .mark s t)
           → (entryMark (q .cert t) j ≡ 1 → ⊥) × (dependent (p .keys s t) (p .keys s u) ≡ false)

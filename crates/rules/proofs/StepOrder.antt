@@ -20,8 +20,10 @@ use Rattle.rules.specs.Queue.{queuedBefore}
 use Rattle.rules.specs.Install.{entryOf}
 use Rattle.rules.proofs.Tables.{All, a-nil, a-cons, all-append, all-one, all-map}
 use Rattle.rules.proofs.Protocol.{Protocol, Rec, rPart, rState, partsOf, AtStage, LeastQueued, Move, freshProtocol, courseAt, Bound}
-use Rattle.rules.proofs.Invariants.{at, Installed, RecLow, RecBelow, Ascending, Order, Invariant, Held, Courses, Account, StandsBefore}
-use Rattle.rules.proofs.Turns.{Logged, l-same, l-part, l-state, installed-last, Turn, t-stays, t-moves, t-reads, t-aborts, t-installs, t-begins}
+use Rattle.rules.proofs.Invariants.{at, Installed, RecLow, RecBelow, Ascending, Order, Invariant, Held, Courses, Account}
+use Rattle.rules.proofs.Invariants.{StandsBefore}
+use Rattle.rules.proofs.Turns.{Logged, l-same, l-part, l-state, installed-last, Turn, t-stays, t-moves, t-reads, t-aborts}
+use Rattle.rules.proofs.Turns.{t-installs, t-begins}
 use Rattle.rules.proofs.News.{OwnStage, NumNow, YesNow}
 use Rattle.rules.proofs.Changes.{Change, change, still-installed, decided-kept}
 use Rattle.rules.proofs.Committed.{low-coordinator, committed-yes}
@@ -29,10 +31,12 @@ use Rattle.rules.proofs.StepClocks.{log-low, low-more}
 use Rattle.rules.proofs.StepAccount.{account-step}
 
 -- what a clock bounds is below the next number, for any coordinator
-below-next : {n : ℕ} {l : List Rec} (c : ℕ) → All (RecLow n) l → ((j : ℕ) → j < length (partsOf l) → coordinatorOf (getD (partsOf l) j pastEntry .tx) ≤ 8)
+below-next : {n : ℕ} {l : List Rec} (c : ℕ) → All (RecLow n) l
+    → ((j : ℕ) → j < length (partsOf l) → coordinatorOf (getD (partsOf l) j pastEntry .tx) ≤ 8)
     → All (RecBelow (n + 1) c) l
 below-next c a-nil h = a-nil
-below-next c (a-cons {x = rPart e} p ps) h = a-cons {x = rPart e} (omega (arith, h 0 (omega arith))) (below-next c ps (λ j l. h (suc j) (omega arith)))
+below-next c (a-cons {x = rPart e} p ps) h =
+    a-cons {x = rPart e} (omega (arith, h 0 (omega arith))) (below-next c ps (λ j l. h (suc j) (omega arith)))
 below-next c (a-cons {x = rState k} p ps) h = a-cons {x = rState k} (omega arith) (below-next c ps h)
 
 -- two logs, one behind the other
@@ -69,7 +73,8 @@ unfolding isQueued
 decided-queued b e = rw e
 
 -- who voted yes and is held stands in the queue
-pub yes-queued : {p : Protocol} → Courses p → (s t : ℕ) → Held p s t → p .yes s t ≡ true → AtStage p s t stage.queued ⊎ AtStage p s t stage.decided
+pub yes-queued : {p : Protocol} → Courses p → (s t : ℕ) → Held p s t → p .yes s t ≡ true
+    → AtStage p s t stage.queued ⊎ AtStage p s t stage.decided
 yes-queued {p} c s t h y =
     by-same (courseAt p s t .stage) stage.queued (λ e. inl e)
     (λ n. by-same (courseAt p s t .stage) stage.decided (λ e. inr e)
@@ -79,8 +84,10 @@ yes-queued {p} c s t h y =
     (λ e. absurd (set-not _ y (c .prepared s t e .1)))
     (λ l. absurd (set-not _ y (c .rejected s t (omega (arith, c .stages s t, h))))))))
 
-yes-open : {p : Protocol} → Courses p → (s t : ℕ) → Held p s t → (AtStage p s t stage.decided → ⊥) → p .yes s t ≡ true → AtStage p s t stage.queued
-yes-open {p} c s t h n y = ⊎-elim (λ (e : AtStage p s t stage.queued). e) (λ (e : AtStage p s t stage.decided). absurd (n e)) (yes-queued c s t h y)
+yes-open : {p : Protocol} → Courses p → (s t : ℕ) → Held p s t → (AtStage p s t stage.decided → ⊥) → p .yes s t ≡ true
+    → AtStage p s t stage.queued
+yes-open {p} c s t h n y =
+    ⊎-elim (λ (e : AtStage p s t stage.queued). e) (λ (e : AtStage p s t stage.decided). absurd (n e)) (yes-queued c s t h y)
 
 -- not before in the queue, by number alone
 not-lower : (n m x t : ℕ) → precedes m t n x ≡ false → n ≤ m
@@ -100,7 +107,8 @@ module _ {sites : ℕ} (few : sites ≤ 8) {p : Protocol} (i : Invariant sites p
       go : Logged p s (q .log s) → All (RecLow (courseAt p s t .number)) (q .log s)
       go (l-same e) = rw e (i .order .queued s t x)
       go (l-part u d l e) =
-          rw e (all-append (i .order .queued s t x) (all-one (not-lower _ _ (p .live s u .tx) (p .live s t .tx) (l t (open-queued (p .live s t) x)))))
+          rw e (all-append (i .order .queued s t x)
+          (all-one (not-lower _ _ (p .live s u .tx) (p .live s t .tx) (l t (open-queued (p .live s t) x)))))
       go (l-state n st e) = rw e (all-append (i .order .queued s t x) (all-one (st .marks t x)))
 
   -- the mark of a yes: the clock of this move, or that of a part which was open
@@ -130,15 +138,18 @@ module _ {sites : ℕ} (few : sites ≤ 8) {p : Protocol} (i : Invariant sites p
       let e : p .live s u .tx ≡ u = i .parts .tx s u (λ f. omega arith) in
       let f : p .live s t .tx ≡ t = i .parts .tx s t (λ f. omega arith) in
       let (y, m, g) = i .courses .decided s u d in
-      let b : precedes (p .num t) t (p .num u) u ≡ false = rw (i .courses .decided s t x .1, m, e, f) at (l t (decided-queued (p .live s t) x)) in
-      rw (e, m) (not-behind (p .num u) (p .num t) u t b (low-coordinator few (i .parts) s u (i .parts .has s u (λ f. omega arith))) (λ z o. n (i .clocks .once u t g z o)))
+      let b : precedes (p .num t) t (p .num u) u ≡ false =
+      rw (i .courses .decided s t x .1, m, e, f) at (l t (decided-queued (p .live s t) x)) in
+      rw (e, m) (not-behind (p .num u) (p .num t) u t b (low-coordinator few (i .parts) s u (i .parts .has s u (λ f. omega arith)))
+      (λ z o. n (i .clocks .once u t g z o)))
 
   -- an installed part is free
   gone : (s t : ℕ) → Installed q s t → AtStage q s t stage.decided → ⊥
   gone s t (j, (l, e)) d = let f = rw e at (c .parts .entry-gone s j l) in omega arith
 
   -- a decided pair stays above what is written
-  still-above : (s t : ℕ) → AtStage p s t stage.decided → AtStage q s t stage.decided → All (RecBelow (p .num t) (coordinatorOf t)) (q .log s)
+  still-above : (s t : ℕ) → AtStage p s t stage.decided → AtStage q s t stage.decided
+      → All (RecBelow (p .num t) (coordinatorOf t)) (q .log s)
   unfolding entryOf
   still-above s t x y = go (c .logs s)
     where
@@ -153,7 +164,8 @@ module _ {sites : ℕ} (few : sites ≤ 8) {p : Protocol} (i : Invariant sites p
           rw e (all-append (i .order .decided s t x) (all-one (omega (arith, st .numbers t x, z .1, z .2))))
 
   -- a number is above the mark, and the mark at or above the log
-  decided-now : (s t : ℕ) → AtStage q s t stage.decided → (p .yes s t ≡ true → AtStage p s t stage.queued) → All (RecBelow (q .num t) (coordinatorOf t)) (q .log s)
+  decided-now : (s t : ℕ) → AtStage q s t stage.decided → (p .yes s t ≡ true → AtStage p s t stage.queued)
+      → All (RecBelow (q .num t) (coordinatorOf t)) (q .log s)
   decided-now s t x w =
       let (y, e, n) = c .courses .decided s t x in
       let l = committed-yes (c .parts) k t n s (c .parts .has s t (λ f. omega arith)) .1 in
@@ -213,4 +225,10 @@ order-step sites p q few m i =
 
 pub order-fresh : Order freshProtocol
 unfolding freshProtocol noSub
-order-fresh = record { queued = λ s t h. absurd (omega arith); decided = λ s t h. absurd (omega arith); ascends = λ s. tt; held = λ t h. absurd (omega arith) }
+order-fresh =
+    record {
+      queued = λ s t h. absurd (omega arith);
+      decided = λ s t h. absurd (omega arith);
+      ascends = λ s. tt;
+      held = λ t h. absurd (omega arith);
+    }

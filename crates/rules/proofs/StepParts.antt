@@ -19,7 +19,10 @@ use Rattle.rules.specs.Course.{newSub}
 use Rattle.rules.specs.Install.{entryOf}
 use Rattle.rules.specs.World.{upd}
 use Rattle.rules.proofs.Tables.{upd₂, upd-same, upd-cases, upd₂-cases, upd₂-same, upd₂-both, last-cases}
-use Rattle.rules.proofs.Protocol.{Protocol, Rec, rPart, rState, partsOf, inst, AtStage, beganAt, withLive, set-serial, set-keys, set-log, took, Move, begin, enlist, access, request, abort, cast, decide, install, report, joins, full, joined, prepared, lost, unknown, gathers, certified, rejects, votes, commits, aborts, passes, freshProtocol, mJoin, Next}
+use Rattle.rules.proofs.Protocol.{Protocol, Rec, rPart, rState, partsOf, inst, AtStage, beganAt, withLive, set-serial, set-keys}
+use Rattle.rules.proofs.Protocol.{set-log, took, Move, begin, enlist, access, request, abort, cast, decide, install, report, joins}
+use Rattle.rules.proofs.Protocol.{full, joined, prepared, lost, unknown, gathers, certified, rejects, votes, commits, aborts, passes}
+use Rattle.rules.proofs.Protocol.{freshProtocol, mJoin, Next}
 use Rattle.rules.proofs.Invariants.{Held, at, Parts, Invariant}
 use Rattle.rules.proofs.Frames.{kept₂, said, ends, tx-coordinator, tx-serial, new-tx, new-join}
 
@@ -78,36 +81,43 @@ unfolding newSub
 parts-began sites p s t mask none here coord ser i =
     record {
       tx = upd₂-cases (λ j u b. (b .course .stage ≡ stage.free → ⊥) → b .tx ≡ u) (p .live) s t _ (λ x. refl) (λ j u n. i .tx j u);
-      has = upd₂-both (λ j u b h. (b .course .stage ≡ stage.free → ⊥) → h ≡ true) (p .live) (p .has) s t _ true (λ x. refl) (λ j u n. i .has j u);
+      has = upd₂-both (λ j u b h. (b .course .stage ≡ stage.free → ⊥) → h ≡ true) (p .live) (p .has) s t _ true (λ x. refl)
+          (λ j u n. i .has j u);
       snap =
           upd₂-both (λ j u b k. (b .course .stage ≡ stage.free → ⊥) → b .snapshot .installs ≡ k) (p .live) (p .snap) s t _ _ (λ x. refl)
           (λ j u n. i .snap j u);
-      keys = upd₂-both (λ j u b k. (b .course .stage ≡ stage.free → ⊥) → b .keys ≡ k) (p .live) (p .keys) s t _ _ (λ x. refl) (λ j u n. i .keys j u);
+      keys = upd₂-both (λ j u b k. (b .course .stage ≡ stage.free → ⊥) → b .keys ≡ k) (p .live) (p .keys) s t _ _ (λ x. refl)
+          (λ j u n. i .keys j u);
       low =
-          upd₂-both (λ j u h k. h ≡ true → k ≤ length (inst p j)) (p .has) (p .snap) s t true (length (inst p s)) (λ x. omega arith) (λ j u n. i .low j u);
+          upd₂-both (λ j u h k. h ≡ true → k ≤ length (inst p j)) (p .has) (p .snap) s t true (length (inst p s)) (λ x. omega arith)
+          (λ j u n. i .low j u);
       entry-has = λ j k x. kept₂ (p .has) s t j (at p j k .tx) (i .entry-has j k x);
       entry-keys = λ j k x. old (λ u b. at p j k .keys ≡ b) (p .keys) j k x noKeys (i .entry-keys j k x);
-      entry-gone = λ j k x. old (λ u b. b .course .stage ≡ stage.free) (p .live) j k x (newSub t mask (length (inst p s))) (i .entry-gone j k x);
+      entry-gone =
+          λ j k x. old (λ u b. b .course .stage ≡ stage.free) (p .live) j k x (newSub t mask (length (inst p s))) (i .entry-gone j k x);
       entry-once = i .entry-once;
       site = upd₂-cases (λ j u h. h ≡ true → (1 ≤ j) × (j ≤ sites)) (p .has) s t true (λ x. here) (λ j u n. i .site j u);
       coordinator =
           upd₂-cases (λ j u h. h ≡ true → upd₂ (p .has) s t true (coordinatorOf u) u ≡ true) (p .has) s t true (λ x. own coord)
           (λ j u n x. kept₂ (p .has) s t (coordinatorOf u) u (i .coordinator j u x));
-      serial = upd₂-cases (λ j u h. h ≡ true → (1 ≤ serialOf u) × (serialOf u ≤ p .serial (coordinatorOf u))) (p .has) s t true (λ x. ser) (λ j u n. i .serial j u);
+      serial = upd₂-cases (λ j u h. h ≡ true → (1 ≤ serialOf u) × (serialOf u ≤ p .serial (coordinatorOf u))) (p .has) s t true (λ x. ser)
+          (λ j u n. i .serial j u);
     }
   where
     -- an installed one is another
     old : {A : Type 0} (P : ℕ → A → Type 0) (f : ℕ → ℕ → A) (j k : ℕ) → k < length (inst p j) → (a : A)
         → P (at p j k .tx) (f j (at p j k .tx)) → P (at p j k .tx) (upd₂ f s t a j (at p j k .tx))
     old P f j k x a h =
-        upd₂-cases (λ m u b. p .has m u ≡ true → P u (f m u) → P u b) f s t a (λ e z. absurd (none e)) (λ m u n e z. z) j (at p j k .tx) (i .entry-has j k x) h
+        upd₂-cases (λ m u b. p .has m u ≡ true → P u (f m u) → P u b) f s t a (λ e z. absurd (none e)) (λ m u n e z. z) j (at p j k .tx)
+        (i .entry-has j k x) h
 
     own : (coordinatorOf t ≡ s) ⊎ (p .has (coordinatorOf t) t ≡ true) → upd₂ (p .has) s t true (coordinatorOf t) t ≡ true
     own (inl e) = rw e (upd₂-same (p .has) s t true)
     own (inr h) = kept₂ (p .has) s t (coordinatorOf t) t h
 
 -- serials only grow
-parts-serial : (sites : ℕ) (p : Protocol) (serial : ℕ → ℕ) → ((s : ℕ) → p .serial s ≤ serial s) → Parts sites p → Parts sites (set-serial serial p)
+parts-serial : (sites : ℕ) (p : Protocol) (serial : ℕ → ℕ) → ((s : ℕ) → p .serial s ≤ serial s) → Parts sites p
+    → Parts sites (set-serial serial p)
 parts-serial sites p serial g i =
     record {
       tx = i .tx;
@@ -130,11 +140,14 @@ parts-access : (sites : ℕ) (p : Protocol) (s t : ℕ) (b : Keys) → Held p s 
 parts-access sites p s t b held i =
     record {
       tx = upd₂-cases (λ j u b. (b .course .stage ≡ stage.free → ⊥) → b .tx ≡ u) (p .live) s t _ (λ x. i .tx s t held) (λ j u n. i .tx j u);
-      has = upd₂-cases (λ j u b. (b .course .stage ≡ stage.free → ⊥) → p .has j u ≡ true) (p .live) s t _ (λ x. i .has s t held) (λ j u n. i .has j u);
+      has = upd₂-cases (λ j u b. (b .course .stage ≡ stage.free → ⊥) → p .has j u ≡ true) (p .live) s t _ (λ x. i .has s t held)
+          (λ j u n. i .has j u);
       snap =
-          upd₂-cases (λ j u b. (b .course .stage ≡ stage.free → ⊥) → b .snapshot .installs ≡ p .snap j u) (p .live) s t _ (λ x. i .snap s t held)
+          upd₂-cases (λ j u b. (b .course .stage ≡ stage.free → ⊥) → b .snapshot .installs ≡ p .snap j u) (p .live) s t _
+          (λ x. i .snap s t held)
           (λ j u n. i .snap j u);
-      keys = upd₂-both (λ j u b k. (b .course .stage ≡ stage.free → ⊥) → b .keys ≡ k) (p .live) (p .keys) s t _ b (λ x. refl) (λ j u n. i .keys j u);
+      keys = upd₂-both (λ j u b k. (b .course .stage ≡ stage.free → ⊥) → b .keys ≡ k) (p .live) (p .keys) s t _ b (λ x. refl)
+          (λ j u n. i .keys j u);
       low = i .low;
       entry-has = i .entry-has;
       entry-keys = λ j k x.
@@ -165,7 +178,8 @@ inst-report p s n = upd-cases (λ j l. partsOf l ≡ inst p j) (p .log) s _ (par
 
 pub inst-cases : (p : Protocol) (P : ℕ → List Entry → Type 0) (s : ℕ) (e : Entry) → P s (inst p s ++ (e ∷ [])) → ((j : ℕ) → P j (inst p j))
     → (j : ℕ) → P j (partsOf (upd (p .log) s (p .log s ++ (rPart e ∷ [])) j))
-inst-cases p P s e new old = upd-cases (λ j l. P j (partsOf l)) (p .log) s _ (rw (parts-append (p .log s) (rPart e ∷ [])) new) (λ j n. old j)
+inst-cases p P s e new old =
+    upd-cases (λ j l. P j (partsOf l)) (p .log) s _ (rw (parts-append (p .log s) (rPart e ∷ [])) new) (λ j n. old j)
 
 abbrev Once : List Entry → Type 0
 Once l = (j k : ℕ) → j < length l → k < length l → getD l j pastEntry .tx ≡ getD l k pastEntry .tx → j ≡ k
@@ -187,20 +201,23 @@ parts-install sites p s t held i =
       has = λ j u x. i .has j u (λ f. x (k j u .free f));
       snap = λ j u x. k j u .snap x ∙ i .snap j u (λ f. x (k j u .free f));
       keys = λ j u x. k j u .keys x ∙ i .keys j u (λ f. x (k j u .free f));
-      low = λ j u x. inst-cases p (λ j l. p .has j u ≡ true → p .snap j u ≤ length l) s e (λ h. omega (arith, i .low s u h, length-append (inst p s) (e ∷ []))) (λ j. i .low j u) j x;
+      low = λ j u x. inst-cases p (λ j l. p .has j u ≡ true → p .snap j u ≤ length l) s e
+          (λ h. omega (arith, i .low s u h, length-append (inst p s) (e ∷ []))) (λ j. i .low j u) j x;
       entry-has =
           inst-cases p (λ j l. (k : ℕ) → k < length l → p .has j (getD l k pastEntry .tx) ≡ true) s e
           (last-cases (λ k a. p .has s (a .tx) ≡ true) (inst p s) e pastEntry (i .entry-has s) (rw is (i .has s t held))) (i .entry-has);
       entry-keys =
           inst-cases p (λ j l. (k : ℕ) → k < length l → getD l k pastEntry .keys ≡ p .keys j (getD l k pastEntry .tx)) s e
-          (last-cases (λ k a. a .keys ≡ p .keys s (a .tx)) (inst p s) e pastEntry (i .entry-keys s) (rw is (i .keys s t held))) (i .entry-keys);
+          (last-cases (λ k a. a .keys ≡ p .keys s (a .tx)) (inst p s) e pastEntry (i .entry-keys s) (rw is (i .keys s t held)))
+          (i .entry-keys);
       entry-gone =
           inst-cases p (λ j l. (k : ℕ) → k < length l → upd₂ (p .live) s t noSub j (getD l k pastEntry .tx) .course .stage ≡ stage.free) s e
           (last-cases (λ k a. upd₂ (p .live) s t noSub s (a .tx) .course .stage ≡ stage.free) (inst p s) e pastEntry
           (λ m x. k s _ .free (i .entry-gone s m x)) (rw (is, upd₂-same (p .live) s t noSub)))
           (λ j m x. k j _ .free (i .entry-gone j m x));
       entry-once =
-          inst-cases p (λ j l. Once l) s e (once-more (inst p s) e (i .entry-once s) (λ m x q. held (rw (q ∙ is) at (i .entry-gone s m x)))) (i .entry-once);
+          inst-cases p (λ j l. Once l) s e (once-more (inst p s) e (i .entry-once s) (λ m x q. held (rw (q ∙ is) at (i .entry-gone s m x))))
+          (i .entry-once);
       site = i .site;
       coordinator = i .coordinator;
       serial = i .serial;
@@ -216,12 +233,14 @@ parts-install sites p s t held i =
     k = one-kept p s t noSub (kept-gone (p .live s t))
 
 -- tables that stay, where they compute
-abbrev pub same : {A B C D : Type 0} {a : A} {b : B} {c : C} {d : D} {f : ℕ → List Entry} → (a ≡ a) × (b ≡ b) × (c ≡ c) × (d ≡ d) × ((s : ℕ) → f s ≡ f s)
+abbrev pub same : {A B C D : Type 0} {a : A} {b : B} {c : C} {d : D} {f : ℕ → List Entry}
+    → (a ≡ a) × (b ≡ b) × (c ≡ c) × (d ≡ d) × ((s : ℕ) → f s ≡ f s)
 same = (refl, refl, refl, refl, λ s. refl)
 
 module _ (sites : ℕ) (p : Protocol) (i : Invariant sites p) where
   -- a held part's course changes
-  course : (q : Protocol) (s t : ℕ) (c : Course) → Held p s t → Same p q → q .live ≡ upd₂ (p .live) s t (withCourse (p .live s t) c) → Parts sites q
+  course : (q : Protocol) (s t : ℕ) (c : Course) → Held p s t → Same p q → q .live ≡ upd₂ (p .live) s t (withCourse (p .live s t) c)
+      → Parts sites q
   course q s t c h e l = parts-kept sites p q e (rw l (one-kept p s t _ (kept-course (p .live s t) c h))) (i .parts)
 
   -- a part is freed

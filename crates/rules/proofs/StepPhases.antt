@@ -17,7 +17,10 @@ use Rattle.rules.specs.Live.{allHeard}
 use Rattle.rules.specs.Course.{newSub, withParticipant, withReply, withDecision, withMark, withRequest, withStage}
 use Rattle.rules.specs.World.{upd}
 use Rattle.rules.proofs.Tables.{upd₂, upd-same, upd-other, upd₂-same, upd₂-cases, upd₂-other}
-use Rattle.rules.proofs.Protocol.{Protocol, Msg, mJoin, mJoined, mPrepare, mConc, mCert, mVote, mCommit, mAbort, inst, AtStage, courseAt, Move, begin, enlist, access, request, abort, cast, decide, install, report, joins, full, joined, prepared, lost, unknown, gathers, certified, rejects, votes, commits, aborts, passes, freshProtocol}
+use Rattle.rules.proofs.Protocol.{Protocol, Msg, mJoin, mJoined, mPrepare, mConc, mCert, mVote, mCommit, mAbort, inst, AtStage}
+use Rattle.rules.proofs.Protocol.{courseAt, Move, begin, enlist, access, request, abort, cast, decide, install, report, joins, full}
+use Rattle.rules.proofs.Protocol.{joined, prepared, lost, unknown, gathers, certified, rejects, votes, commits, aborts, passes}
+use Rattle.rules.proofs.Protocol.{freshProtocol}
 use Rattle.rules.proofs.Invariants.{Held, In, MsgOk, Invariant}
 use Rattle.rules.proofs.Masks.{none-in, in-or-left, in-or-right, own-mask, all-heard}
 use Rattle.rules.proofs.Frames.{said, ends, tx-coordinator, new-tx, new-join}
@@ -27,16 +30,22 @@ use Rattle.rules.proofs.Stream.{Stream, moves, merges, replays, Steps, 
 use Rattle.rules.proofs.StreamReached.{Standing, standing-steps}
 use Rattle.rules.proofs.Pending.{about, pending}
 use Rattle.rules.proofs.Phases.{RepliedAt, Phase, idle, Phases}
-use Rattle.rules.proofs.PhaseTurns.{no-round, joins-on, full-on, prepared-on, lost-on, prepare-held, certified-on, rejects-on, commits-on, aborts-on, passes-ahead, passes-back, installs-on, heard-on, wider-on, rests-on, skips-on, enlists-on, asks-on, decides-on, ends-on, ends-apart}
-use Rattle.rules.proofs.PhaseParts.{Part, late, takes, hears, own-channel, answers, writes-all, writes-one, writes-none, leaves, still}
+use Rattle.rules.proofs.PhaseTurns.{no-round, joins-on, full-on, prepared-on, lost-on, prepare-held, certified-on, rejects-on}
+use Rattle.rules.proofs.PhaseTurns.{commits-on, aborts-on, passes-ahead, passes-back, installs-on, heard-on, wider-on, rests-on}
+use Rattle.rules.proofs.PhaseTurns.{skips-on, enlists-on, asks-on, decides-on, ends-on, ends-apart}
+use Rattle.rules.proofs.PhaseParts.{Part, late, takes, hears, own-channel, answers, writes-all, writes-one, writes-none, leaves}
+use Rattle.rules.proofs.PhaseParts.{still}
 
 -- a part changes to b, and nothing else that a phase reads
-part-now : (p q : Protocol) (s t : ℕ) (b : Sub) → q .live ≡ upd₂ (p .live) s t b → q .has ≡ p .has → ((u : ℕ) → (u ≡ t → ⊥) → q .num u ≡ p .num u)
+part-now : (p q : Protocol) (s t : ℕ) (b : Sub) → q .live ≡ upd₂ (p .live) s t b → q .has ≡ p .has
+    → ((u : ℕ) → (u ≡ t → ⊥) → q .num u ≡ p .num u)
     → ((u : ℕ) → (u ≡ t → ⊥) → q .dead u ≡ p .dead u) → Part s t p q
-part-now p q s t b live has num dead = record { live = λ j u n. rw live (upd₂-other (p .live) s t b j u n); has = λ j u n. rw has; num = num; dead = dead }
+part-now p q s t b live has num dead =
+    record { live = λ j u n. rw live (upd₂-other (p .live) s t b j u n); has = λ j u n. rw has; num = num; dead = dead }
 
 -- a part begins
-part-begun : (p q : Protocol) (s t : ℕ) (b : Sub) → q .live ≡ upd₂ (p .live) s t b → q .has ≡ upd₂ (p .has) s t true → q .num ≡ p .num → q .dead ≡ p .dead → Part s t p q
+part-begun : (p q : Protocol) (s t : ℕ) (b : Sub) → q .live ≡ upd₂ (p .live) s t b → q .has ≡ upd₂ (p .has) s t true → q .num ≡ p .num
+    → q .dead ≡ p .dead → Part s t p q
 part-begun p q s t b live has num dead =
     record {
       live = λ j u n. rw live (upd₂-other (p .live) s t b j u n);
@@ -49,7 +58,8 @@ part-same : (p q : Protocol) (s t : ℕ) → q .live ≡ p .live → q .has ≡ 
 part-same p q s t live has num dead = record { live = λ j u n. rw live; has = λ j u n. rw has; num = λ u n. rw num; dead = λ u n. rw dead }
 
 -- each message is its transaction's coordinator's, or goes to it
-origin : (sites : ℕ) (p : Protocol) (a b : ℕ) (m : Msg) → MsgOk sites p a b m → (coordinatorOf (txIn m) ≡ a) ⊎ ((coordinatorOf (txIn m) ≡ b) × (b ≡ a → ⊥))
+origin : (sites : ℕ) (p : Protocol) (a b : ℕ) (m : Msg) → MsgOk sites p a b m
+    → (coordinatorOf (txIn m) ≡ a) ⊎ ((coordinatorOf (txIn m) ≡ b) × (b ≡ a → ⊥))
 origin sites p a b (mJoin t) o = inl (o .0)
 origin sites p a b (mJoined t v) o = inr (o .0, λ z. o .1 (sym z))
 origin sites p a b (mPrepare t n m) o = inl (o .0)
@@ -76,7 +86,8 @@ module _ {sites : ℕ} {p : Protocol} (i : Invariant sites p) (f : Phases p) whe
     heard-in : (r : ℕ) → In (courseAt p s t .heard) r → In (courseAt p s t .mask) r
     heard-in r h = (h .0, rw c at (i .rounds .heard t r (rw c held) (rw c h) .0))
 
-    all-in : allHeard s (courseAt p s t .heard) (courseAt p s t .mask) ≡ true → (r : ℕ) → In (courseAt p s t .mask) r → (r ≡ s → ⊥) → In (courseAt p s t .heard) r
+    all-in : allHeard s (courseAt p s t .heard) (courseAt p s t .mask) ≡ true → (r : ℕ) → In (courseAt p s t .mask) r → (r ≡ s → ⊥)
+        → In (courseAt p s t .heard) r
     all-in e r h n =
         let k = i .rounds .small t (rw c held) in
         let low = i .parts .site s t (i .parts .has s t held) .0 in (
@@ -86,20 +97,24 @@ module _ {sites : ℕ} {p : Protocol} (i : Invariant sites p) (f : Phases p) whe
         )
 
   -- its own part becomes b, and that of another site
-  own-now : {t r n : ℕ} {d h : Bool} {g : ℕ} {fw bk : List Msg} (s u : ℕ) (b : Sub) → Phase t r (b .course) n d h g fw bk → Phase t r (upd₂ (p .live) s u b s u .course) n d h g fw bk
+  own-now : {t r n : ℕ} {d h : Bool} {g : ℕ} {fw bk : List Msg} (s u : ℕ) (b : Sub) → Phase t r (b .course) n d h g fw bk
+      → Phase t r (upd₂ (p .live) s u b s u .course) n d h g fw bk
   own-now s u b x = rw (upd₂-same (p .live) s u b) x
 
   there-now : {t r n : ℕ} {c : Course} {d h : Bool} {fw bk : List Msg} (s u : ℕ) (b : Sub) → Phase t r c n d h (b .course .stage) fw bk
       → Phase t r c n d h (upd₂ (p .live) s u b s u .course .stage) fw bk
   there-now s u b x = rw (upd₂-same (p .live) s u b) x
 
-  has-now : {t r n g : ℕ} {c : Course} {d : Bool} {fw bk : List Msg} (s u : ℕ) → Phase t r c n d true g fw bk → Phase t r c n d (upd₂ (p .has) s u true s u) g fw bk
+  has-now : {t r n g : ℕ} {c : Course} {d : Bool} {fw bk : List Msg} (s u : ℕ) → Phase t r c n d true g fw bk
+      → Phase t r c n d (upd₂ (p .has) s u true s u) g fw bk
   has-now s u x = rw (upd₂-same (p .has) s u true) x
 
-  dead-now : {t r n g : ℕ} {c : Course} {h : Bool} {fw bk : List Msg} (u : ℕ) → Phase t r c n true h g fw bk → Phase t r c n (upd (p .dead) u true u) h g fw bk
+  dead-now : {t r n g : ℕ} {c : Course} {h : Bool} {fw bk : List Msg} (u : ℕ) → Phase t r c n true h g fw bk
+      → Phase t r c n (upd (p .dead) u true u) h g fw bk
   dead-now u x = rw (upd-same (p .dead) u true) x
 
-  num-now : {t r n g : ℕ} {c : Course} {d h : Bool} {fw bk : List Msg} (u : ℕ) → Phase t r c n d h g fw bk → Phase t r c (upd (p .num) u n u) d h g fw bk
+  num-now : {t r n g : ℕ} {c : Course} {d h : Bool} {fw bk : List Msg} (u : ℕ) → Phase t r c n d h g fw bk
+      → Phase t r c (upd (p .num) u n u) d h g fw bk
   num-now {n = n} u x = rw (upd-same (p .num) u n) x
 
   -- heard after another's reply
@@ -136,7 +151,8 @@ module _ {sites : ℕ} {p : Protocol} (i : Invariant sites p) (f : Phases p) whe
       (λ y. y .0 a (i .rounds .joined t j (rw c a) (rw c r) (rw c (all-in s t c held l j k n)))) x))
       (λ j k n fw bk x. own-now s t b (skips-on (number s t c held (λ z. omega arith)) (alive s t c held) _ _ n (λ z. none-in j (z .1)) x))
   step q (abort s t c a d) =
-      writes-all i f q s t c (part-now p q s t noSub refl refl (λ u n. refl) (λ u n. upd-other (p .dead) t true u n)) refl (courseAt p s t .mask) (mAbort t) refl refl
+      writes-all i f q s t c (part-now p q s t noSub refl refl (λ u n. refl) (λ u n. upd-other (p .dead) t true u n)) refl
+      (courseAt p s t .mask) (mAbort t) refl refl
       (λ j k n fw bk x. own-now s t noSub (dead-now t (ends-on (number s t c a d) (alive s t c a) _ x)))
       (λ j k n fw bk x. own-now s t noSub (dead-now t (ends-apart (number s t c a d) (alive s t c a) _ n x)))
   step q (cast s t es c a l w v) =
@@ -144,15 +160,19 @@ module _ {sites : ℕ} {p : Protocol} (i : Invariant sites p) (f : Phases p) whe
       let b = withCourse (p .live s t) (withMark (courseAt p s t) (p .clock s)) in
       writes-all i f q s t c (part-now p q s t b refl refl (λ u n. refl) (λ u n. refl)) refl (courseAt p s t .mask) (mCert t es) refl refl
       (λ j k n fw bk x. own-now s t b
-      (asks-on (number s t c held (λ z. omega arith)) (alive s t c held) _ _ (all-in s t c held l j k n) (k, λ z. none-in j (z .1)) refl (λ y. y .1 a) x))
+      (asks-on (number s t c held (λ z. omega arith)) (alive s t c held) _ _ (all-in s t c held l j k n) (k, λ z. none-in j (z .1)) refl
+      (λ y. y .1 a) x))
       (λ j k n fw bk x. own-now s t b (skips-on (number s t c held (λ z. omega arith)) (alive s t c held) _ _ n (λ z. none-in j (z .1)) x))
   step q (decide s t c a l) =
       let held : Held p s t = λ z. omega arith in
       let b = withCourse (p .live s t) (withDecision (courseAt p s t) (p .clock s + 1)) in
-      writes-all i f q s t c (part-now p q s t b refl refl (λ u n. upd-other (p .num) t _ u n) (λ u n. refl)) refl (courseAt p s t .mask) (mCommit t (p .clock s + 1)) refl refl
+      writes-all i f q s t c (part-now p q s t b refl refl (λ u n. upd-other (p .num) t _ u n) (λ u n. refl)) refl (courseAt p s t .mask)
+      (mCommit t (p .clock s + 1)) refl refl
       (λ j k n fw bk x. own-now s t b (num-now t
-      (decides-on (number s t c held (λ z. omega arith)) (alive s t c held) (p .clock s + 1) _ (all-in s t c held l j k n) a (omega arith) x)))
-      (λ j k n fw bk x. own-now s t b (skips-on (number s t c held (λ z. omega arith)) (alive s t c held) _ _ n (λ z. n (heard-in s t c held j z)) x))
+      (decides-on (number s t c held (λ z. omega arith)) (alive s t c held) (p .clock s + 1) _ (all-in s t c held l j k n) a
+      (omega arith) x)))
+      (λ j k n fw bk x. own-now s t b
+      (skips-on (number s t c held (λ z. omega arith)) (alive s t c held) _ _ n (λ z. n (heard-in s t c held j z)) x))
   step q (install s t a l) =
       by-same s (coordinatorOf t)
       (λ c. writes-none i f q s t (sym c) (part-now p q s t noSub refl refl (λ u n. refl) (λ u n. refl)) refl refl
@@ -171,44 +191,55 @@ module _ {sites : ℕ} {p : Protocol} (i : Invariant sites p) (f : Phases p) whe
   step q (joined a s t r n x o) =
       let k = said i n in
       let b = withCourse (p .live s t) (withReply (courseAt p s t) a r 0) in
-      hears i f q a s t (mJoined t r) n refl (part-now p q s t b refl refl (λ u n. refl) (λ u n. refl)) refl refl refl refl (k .0) (λ z. k .1 (sym z))
-      (λ fw bk y. own-now s t b (heard-on (mJoined t r) _ (λ z. ((λ u v. z .1 v), (λ u. absurd (omega arith)), λ u. absurd (omega arith))) y))
+      hears i f q a s t (mJoined t r) n refl (part-now p q s t b refl refl (λ u n. refl) (λ u n. refl)) refl refl refl refl (k .0)
+      (λ z. k .1 (sym z))
+      (λ fw bk y. own-now s t b
+      (heard-on (mJoined t r) _ (λ z. ((λ u v. z .1 v), (λ u. absurd (omega arith)), λ u. absurd (omega arith))) y))
       (λ j l u v fw bk y. own-now s t b (wider-on _ refl (λ z. z) (reply-other s t a r 0 j (ends i n .0 .0) u) y))
   step q (prepared a s t n m es x y v) =
       let o = said i x in
       let b = withCourse (p .live s t) (withStage (courseAt p s t) m stage.prepared) in
-      answers i f q a s t (mPrepare t n m) x refl (part-now p q s t b refl refl (λ u n. refl) (λ u n. refl)) refl refl refl (mConc t es) refl refl (o .0) (o .4)
+      answers i f q a s t (mPrepare t n m) x refl (part-now p q s t b refl refl (λ u n. refl) (λ u n. refl)) refl refl refl (mConc t es)
+      refl refl (o .0) (o .4)
       (λ fw bk z. there-now s t b (prepared-on n m es z))
   step q (lost a s t n m r x y z) =
       let o = said i x in
       let b = withCourse (p .live s t) (withStage (courseAt p s t) m stage.rejected) in
-      answers i f q a s t (mPrepare t n m) x refl (part-now p q s t b refl refl (λ u n. refl) (λ u n. refl)) refl refl refl (mVote t _ r) refl refl (o .0) (o .4)
+      answers i f q a s t (mPrepare t n m) x refl (part-now p q s t b refl refl (λ u n. refl) (λ u n. refl)) refl refl refl (mVote t _ r)
+      refl refl (o .0) (o .4)
       (λ fw bk w. there-now s t b (lost-on n m _ r z w))
   step q (unknown a s t n m r x y z) =
       let o = said i x in
-      answers i f q a s t (mPrepare t n m) x refl (part-same p q s t refl refl refl refl) refl refl refl (mVote t _ r) refl refl (o .0) (o .4)
+      answers i f q a s t (mPrepare t n m) x refl (part-same p q s t refl refl refl refl) refl refl refl (mVote t _ r) refl refl
+      (o .0) (o .4)
       (λ fw bk w. absurd (omega (arith, prepare-held n m w)))
   step q (gathers a s t es x y o) =
       let k = said i x in
       let b = withCourse (p .live s t) (withReply (courseAt p s t) a 0 (entryCount es)) in
-      hears i f q a s t (mConc t es) x refl (part-now p q s t b refl refl (λ u n. refl) (λ u n. refl)) refl refl refl refl (k .0) (λ z. k .1 (sym z))
+      hears i f q a s t (mConc t es) x refl (part-now p q s t b refl refl (λ u n. refl) (λ u n. refl)) refl refl refl refl (k .0)
+      (λ z. k .1 (sym z))
       (λ fw bk y. own-now s t b (heard-on (mConc t es) _ (λ z. ((λ u v. absurd (omega arith)), (λ u. z .1), λ u. absurd (omega arith))) y))
       (λ j l u v fw bk y. own-now s t b (wider-on _ refl (λ z. z) (reply-other s t a 0 (entryCount es) j (ends i x .0 .0) u) y))
   step q (certified a s t es x y v) =
       let o = said i x in
       let b = withCourse (p .live s t) (withMark (courseAt p s t) (p .clock s)) in
-      answers i f q a s t (mCert t es) x refl (part-now p q s t b refl refl (λ u n. refl) (λ u n. refl)) refl refl refl (mVote t (p .clock s) 0) refl refl (o .0) (o .4)
+      answers i f q a s t (mCert t es) x refl (part-now p q s t b refl refl (λ u n. refl) (λ u n. refl)) refl refl refl
+      (mVote t (p .clock s) 0) refl refl (o .0) (o .4)
       (λ fw bk z. there-now s t b (certified-on (p .clock s) es z))
   step q (rejects a s t r es x y z) =
       let o = said i x in
       let b = withCourse (p .live s t) (withStage (courseAt p s t) (courseAt p s t .mask) stage.rejected) in
-      answers i f q a s t (mCert t es) x refl (part-now p q s t b refl refl (λ u n. refl) (λ u n. refl)) refl refl refl (mVote t (p .clock s) r) refl refl (o .0) (o .4)
+      answers i f q a s t (mCert t es) x refl (part-now p q s t b refl refl (λ u n. refl) (λ u n. refl)) refl refl refl
+      (mVote t (p .clock s) r) refl refl (o .0) (o .4)
       (λ fw bk w. there-now s t b (rejects-on (p .clock s) r es z w))
   step q (votes a s t n x y o) =
       let k = said i x in
       let b = withCourse (p .live s t) (withReply (courseAt p s t) a 0 0) in
-      hears i f q a s t (mVote t n 0) x refl (part-now p q s t b refl refl (λ u n. refl) (λ u n. refl)) refl refl refl refl (k .0) (λ z. k .1 (sym z))
-      (λ fw bk w. own-now s t b (heard-on (mVote t n 0) _ (λ z. ((λ u v. absurd (omega arith)), (λ u. absurd (omega arith)), λ u. yes-queued t n _ _ (p .has a t) z)) w))
+      hears i f q a s t (mVote t n 0) x refl (part-now p q s t b refl refl (λ u n. refl) (λ u n. refl)) refl refl refl refl (k .0)
+      (λ z. k .1 (sym z))
+      (λ fw bk w. own-now s t b
+      (heard-on (mVote t n 0) _
+      (λ z. ((λ u v. absurd (omega arith)), (λ u. absurd (omega arith)), λ u. yes-queued t n _ _ (p .has a t) z)) w))
       (λ j l u v fw bk w. own-now s t b (wider-on _ refl (λ z. z) (reply-other s t a 0 0 j (ends i x .0 .0) u) w))
   step q (commits a s t n x y) =
       let o = said i x in
@@ -221,7 +252,9 @@ module _ {sites : ℕ} {p : Protocol} (i : Invariant sites p) (f : Phases p) whe
       let part = part-now p q s t noSub refl refl (λ u n. refl) (λ u n. refl) in
       by-same s a
       (λ e. own-channel i f q a s t (mAbort t) x refl part refl refl refl refl (o .0 ∙ sym e) (sym e)
-      (λ r fw bk y. own-now s t noSub (rests-on _ (λ z. omega (arith, rw (o .0 ∙ sym e) at (i .account .dead t (o .1) .1))) (λ z. no-round _ _ _ (λ y. omega arith)) y)))
+      (λ r fw bk y. own-now s t noSub
+      (rests-on _ (λ z. omega (arith, rw (o .0 ∙ sym e) at (i .account .dead t (o .1) .1)))
+      (λ z. no-round _ _ _ (λ y. omega arith)) y)))
       (λ e. takes i f q a s t (mAbort t) x refl part refl refl refl refl (o .0) e (λ fw bk y. there-now s t noSub (aborts-on _ y)))
   step q (passes a s n m x) = passed (origin sites p a s m (said i x))
     where
@@ -233,7 +266,8 @@ module _ {sites : ℕ} {p : Protocol} (i : Invariant sites p) (f : Phases p) whe
           by-same s a
           (λ e. own-channel i f q a s (txIn m) m x refl part refl refl refl refl (c ∙ sym e) (sym e) (λ r fw bk y. y))
           (λ e. takes i f q a s (txIn m) m x refl part refl refl refl refl c e (λ fw bk y. passes-ahead m (rw c at (late i f (txIn m))) y))
-      passed (inr (c, o)) = hears i f q a s (txIn m) m x refl part refl refl refl refl c o (λ fw bk y. passes-back m y) (λ j l u v fw bk y. y)
+      passed (inr (c, o)) =
+          hears i f q a s (txIn m) m x refl part refl refl refl refl c o (λ fw bk y. passes-back m y) (λ j l u v fw bk y. y)
 
 pub phases-step : {sites : ℕ} {p q : Protocol} → Invariant sites p → Phases p → Move sites p q → Phases q
 phases-step {q = q} i f m = step i f q m

@@ -10,7 +10,8 @@ use Rattle.laws.specs.Choice.{set-not}
 use Rattle.kinds.specs.State.{noSub}
 use Rattle.rules.specs.House.{coordinatorOf, inMask}
 use Rattle.rules.proofs.Tables.{All, a-nil, all-map, all-append, all-one, all-at, last-cases}
-use Rattle.rules.proofs.Protocol.{Protocol, Msg, mJoin, mJoined, mPrepare, mConc, mCert, mVote, mCommit, mAbort, courseAt, Move, freshProtocol}
+use Rattle.rules.proofs.Protocol.{Protocol, Msg, mJoin, mJoined, mPrepare, mConc, mCert, mVote, mCommit, mAbort, courseAt, Move}
+use Rattle.rules.proofs.Protocol.{freshProtocol}
 use Rattle.rules.proofs.Invariants.{Held, In, MsgOk, Posts, Invariant}
 use Rattle.rules.proofs.Frames.{in-range}
 use Rattle.rules.proofs.Later.{Later, Begins, Asks, later}
@@ -30,7 +31,8 @@ grown-at l k d (inr (m, e, f)) j h = rw e (List·getD-append l (m ∷ []) d j h)
 abbrev JoinOnce : List Msg → Type 0
 JoinOnce l = (t i j : ℕ) → i < length l → j < length l → getD l i (mAbort 0) ≡ mJoin t → getD l j (mAbort 0) ≡ mJoin t → i ≡ j
 
-once-more : (l : List Msg) (m : Msg) → JoinOnce l → ((t k : ℕ) → m ≡ mJoin t → k < length l → getD l k (mAbort 0) ≡ mJoin t → ⊥) → JoinOnce (l ++ (m ∷ []))
+once-more : (l : List Msg) (m : Msg) → JoinOnce l → ((t k : ℕ) → m ≡ mJoin t → k < length l → getD l k (mAbort 0) ≡ mJoin t → ⊥)
+    → JoinOnce (l ++ (m ∷ []))
 once-more l m o n t i j x y =
     last-cases (λ i a. a ≡ mJoin t → getD (l ++ (m ∷ [])) j (mAbort 0) ≡ mJoin t → i ≡ j) l m (mAbort 0)
     (λ i h e. last-cases (λ j b. b ≡ mJoin t → i ≡ j) l m (mAbort 0) (λ j k f. o t i j h k e f) (λ f. absurd (n t i f h e)) j y)
@@ -52,7 +54,8 @@ module _ (sites : ℕ) (p q : Protocol) (inv : Invariant sites p) (l : Later p q
   msg-later a b (mJoined t r) (c, n, h) = (c, n, λ e. l .has a t (h e))
   msg-later a b (mPrepare t n m) (c, h, e, x, y) = let g = l .asked t h in (c, g .0, e ∙ sym (g .1), rw (g .1) x, y)
   msg-later a b (mConc t es) (c, n, h, e) = let g = l .made a t h in (c, n, g .0, g .1 ∙ e)
-  msg-later a b (mCert t es) (c, h, e, x, y) = let g = l .certed t h in (c, g .0, g .1 ∙ e, rw (l .asked t (inv .account .certed-asked t h) .1) x, y)
+  msg-later a b (mCert t es) (c, h, e, x, y) = let g = l .certed t h in
+      (c, g .0, g .1 ∙ e, rw (l .asked t (inv .account .certed-asked t h) .1) x, y)
   msg-later a b (mVote t n r) (c, x, h) = (c, x, λ e. let g = l .yes a t (h e .0) in (g .0, g .1 ∙ h e .1))
   msg-later a b (mCommit t n) (c, e, h) = (c, l .num t (rw e h) ∙ e, h)
   msg-later a b (mAbort t) (c, h) = (c, l .dead t h)
@@ -69,7 +72,8 @@ module _ (sites : ℕ) (p q : Protocol) (inv : Invariant sites p) (l : Later p q
   grown-sender a b k (inr (m, e, f)) h = f .1
 
   -- a JOIN that is written now was not written before
-  first : (a b : ℕ) (m : Msg) → FirstJoin p a b m → (t j : ℕ) → m ≡ mJoin t → j < length (p .post a b) → getD (p .post a b) j (mAbort 0) ≡ mJoin t → ⊥
+  first : (a b : ℕ) (m : Msg) → FirstJoin p a b m → (t j : ℕ) → m ≡ mJoin t → j < length (p .post a b)
+      → getD (p .post a b) j (mAbort 0) ≡ mJoin t → ⊥
   first a b m f t j e h x =
       let g : FirstJoin p a b (mJoin t) = rw e at f in
       let o : MsgOk sites p a b (mJoin t) = rw x at (all-at (inv .posts .ok a b) (mAbort 0) j h) in
@@ -94,7 +98,8 @@ module _ (sites : ℕ) (p q : Protocol) (inv : Invariant sites p) (l : Later p q
       member t r (inl (h, e)) = inv .posts .members t r h e
       member t r (inr h) = h
 
-      kept : (s t j : ℕ) → j < length (p .post (coordinatorOf t) s) → j < q .taken (coordinatorOf t) s → getD (p .post (coordinatorOf t) s) j (mAbort 0) ≡ mJoin t
+      kept : (s t j : ℕ) → j < length (p .post (coordinatorOf t) s) → j < q .taken (coordinatorOf t) s
+          → getD (p .post (coordinatorOf t) s) j (mAbort 0) ≡ mJoin t
           → (j : ℕ) × (j < q .taken (coordinatorOf t) s) × (getD (q .post (coordinatorOf t) s) j (mAbort 0) ≡ mJoin t)
       kept s t j x y e = (j, y, grown-at _ _ (mAbort 0) (g (coordinatorOf t) s) j x ∙ e)
 

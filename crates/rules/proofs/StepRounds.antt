@@ -15,13 +15,17 @@ use Rattle.kinds.specs.State.{noSub}
 use Rattle.rules.specs.House.{coordinatorOf, inMask, maskOf}
 use Rattle.rules.specs.Course.{newSub, withParticipant, withReply, withDecision, withMark, withRequest, isOutstanding}
 use Rattle.rules.proofs.Tables.{upd₂, upd-same, upd-other, upd₂-same, upd₂-cases, Other₂}
-use Rattle.rules.proofs.Protocol.{Protocol, AtStage, courseAt, Whole, Move, begin, enlist, access, request, abort, cast, decide, install, report, joins, full, joined, prepared, lost, unknown, gathers, certified, rejects, votes, commits, aborts, passes, freshProtocol}
+use Rattle.rules.proofs.Protocol.{Protocol, AtStage, courseAt, Whole, Move, begin, enlist, access, request, abort, cast, decide}
+use Rattle.rules.proofs.Protocol.{install, report, joins, full, joined, prepared, lost, unknown, gathers, certified, rejects, votes}
+use Rattle.rules.proofs.Protocol.{commits, aborts, passes, freshProtocol}
 use Rattle.rules.proofs.Invariants.{Held, In, Rounds, Invariant}
 use Rattle.rules.proofs.Masks.{none-in, own-mask, mask-small, outstanding-in}
 use Rattle.rules.proofs.Frames.{was₂, said, ends, new-tx}
 use Rattle.rules.proofs.Entries.{within-refl, within-left, within-right, whole-append}
 use Rattle.rules.proofs.Later.{Later, Begins, later}
-use Rattle.rules.proofs.RoundOk.{Replied, ListOf, VoteOf, AskedOf, RoundOk, RoundsAt, of-rounds, to-rounds, Base, base-same, base-reset, base-enlist, heard-more, base-reply, base-of, at-free, at-active, at-prepared, at-queued, at-decided}
+use Rattle.rules.proofs.RoundOk.{Replied, ListOf, VoteOf, AskedOf, RoundOk, RoundsAt, of-rounds, to-rounds, Base, base-same}
+use Rattle.rules.proofs.RoundOk.{base-reset, base-enlist, heard-more, base-reply, base-of, at-free, at-active, at-prepared}
+use Rattle.rules.proofs.RoundOk.{at-queued, at-decided}
 
 -- what the account has of t alone
 abbrev Frame : Protocol → Protocol → ℕ → Type 0
@@ -45,7 +49,8 @@ module _ {sites : ℕ} {p : Protocol} (i : Invariant sites p) {q : Protocol} (l 
       part r (inr (inl e)) = rw (sym e) (old t .own h)
       part r (inr (inr (n, x))) = said i n .4 h
 
-  asked-now : (t : ℕ) → Held p (coordinatorOf t) t → (AtStage p (coordinatorOf t) t stage.active → ⊥) → AskedOf q t (courseAt p (coordinatorOf t) t)
+  asked-now : (t : ℕ) → Held p (coordinatorOf t) t → (AtStage p (coordinatorOf t) t stage.active → ⊥)
+      → AskedOf q t (courseAt p (coordinatorOf t) t)
   asked-now t h n = let a = old t .asked h n in let b = l .asked t (a .0) in (b .0, b .1 ∙ a .1)
 
   vote-now : (t r : ℕ) → VoteOf p t r → VoteOf q t r
@@ -86,7 +91,8 @@ module _ {sites : ℕ} {p : Protocol} (i : Invariant sites p) {q : Protocol} (l 
   gone s t f = one s t noSub (λ u n. f u) (λ c. at-free q t _ refl)
 
   -- a participant's part
-  elsewhere : (s t a : ℕ) (b : Sub) → ((u : ℕ) → Frame p q u) → coordinatorOf t ≡ a → (s ≡ a → ⊥) → (u : ℕ) → RoundOk q u (upd₂ (p .live) s t b (coordinatorOf u) u .course)
+  elsewhere : (s t a : ℕ) (b : Sub) → ((u : ℕ) → Frame p q u) → coordinatorOf t ≡ a → (s ≡ a → ⊥) → (u : ℕ)
+      → RoundOk q u (upd₂ (p .live) s t b (coordinatorOf u) u .course)
   elsewhere s t a b f c n = one s t b (λ u x. f u) (λ e. absurd (n (sym e ∙ c)))
 
   module _ (s t : ℕ) (c : coordinatorOf t ≡ s) where
@@ -111,7 +117,8 @@ module _ {sites : ℕ} {p : Protocol} (i : Invariant sites p) {q : Protocol} (l 
         at-active q t _ a (base-enlist q t r _ m (base-here h)) (λ j. k .joined j a) (k .unasked a) (k .undecided h (λ z. omega arith))
 
     -- the request: a new round, which has the coordinator's own list
-    requested : (es : List ℕ) (n : ℕ) → AtStage p s t stage.active → Whole es → AskedOf q t (courseAt p s t) → q .gathered t ≡ es → (q .made s t ≡ true) × (q .list s t ≡ es)
+    requested : (es : List ℕ) (n : ℕ) → AtStage p s t stage.active → Whole es → AskedOf q t (courseAt p s t) → q .gathered t ≡ es
+        → (q .made s t ≡ true) × (q .list s t ≡ es)
         → q .certed t ≡ p .certed t → q .num t ≡ p .num t → RoundOk q t (withRequest (courseAt p s t) n)
     unfolding withRequest
     requested es n a w x g m d e =
@@ -125,11 +132,13 @@ module _ {sites : ℕ} {p : Protocol} (i : Invariant sites p) {q : Protocol} (l 
         lists r (inr z) = absurd (none-in r (z .1))
 
     -- the coordinator's yes: a new round, which has that vote
-    voted : (n : ℕ) → AtStage p s t stage.prepared → (q .yes s t ≡ true) × (q .mark s t ≤ q .clock s) → q .num t ≡ p .num t → RoundOk q t (withMark (courseAt p s t) n)
+    voted : (n : ℕ) → AtStage p s t stage.prepared → (q .yes s t ≡ true) × (q .mark s t ≤ q .clock s) → q .num t ≡ p .num t
+        → RoundOk q t (withMark (courseAt p s t) n)
     unfolding withMark
     voted n a v e =
         let h : Held p s t = λ z. omega arith in
-        at-queued q t _ refl (base-reset q t _ (courseAt p s t) refl refl (base-here h)) (asked-here h (λ z. omega arith)) votes (e ∙ here .undecided h (λ z. omega arith))
+        at-queued q t _ refl (base-reset q t _ (courseAt p s t) refl refl (base-here h)) (asked-here h (λ z. omega arith)) votes
+        (e ∙ here .undecided h (λ z. omega arith))
       where
         votes : (r : ℕ) → (r ≡ coordinatorOf t) ⊎ In 0 r → VoteOf q t r
         votes r (inl z) = rw (z, c) v
@@ -146,24 +155,28 @@ module _ {sites : ℕ} {p : Protocol} (i : Invariant sites p) {q : Protocol} (l 
       replied : (k n : ℕ) → Held p s t → Base q t (withReply (courseAt p s t) a k n)
       replied k n h = base-reply q t a k n (courseAt p s t) from (outstanding-in (courseAt p s t) a out) (λ e. other (e ∙ c)) (base-here h)
 
-      joined-now : (k : ℕ) → AtStage p s t stage.active → (k ≡ 0 → p .has a t ≡ true) → Frame p q t → RoundOk q t (withReply (courseAt p s t) a k 0)
+      joined-now : (k : ℕ) → AtStage p s t stage.active → (k ≡ 0 → p .has a t ≡ true) → Frame p q t
+          → RoundOk q t (withReply (courseAt p s t) a k 0)
       unfolding withReply
       joined-now k x o f =
           let h : Held p s t = λ z. omega arith in
-          at-active q t _ x (replied k 0 h) (λ r z y. has r (omega arith) (omega arith) (heard-more (courseAt p s t) a k 0 r from y)) (kept-here f .unasked x)
+          at-active q t _ x (replied k 0 h) (λ r z y. has r (omega arith) (omega arith) (heard-more (courseAt p s t) a k 0 r from y))
+          (kept-here f .unasked x)
           (kept-here f .undecided h (λ z. omega arith))
         where
           has : (r : ℕ) → courseAt p s t .reason ≡ 0 → k ≡ 0 → In (courseAt p s t .heard) r ⊎ (r ≡ a) → q .has r t ≡ true
           has r y z (inl e) = kept-here f .joined r x y e
           has r y z (inr e) = rw e (l .has a t (o z))
 
-      gathered : (es : List ℕ) (n : ℕ) → AtStage p s t stage.prepared → (p .made a t ≡ true) × (p .list a t ≡ es) → q .gathered t ≡ p .gathered t ++ es
+      gathered : (es : List ℕ) (n : ℕ) → AtStage p s t stage.prepared → (p .made a t ≡ true) × (p .list a t ≡ es)
+          → q .gathered t ≡ p .gathered t ++ es
           → q .certed t ≡ p .certed t → q .num t ≡ p .num t → RoundOk q t (withReply (courseAt p s t) a 0 n)
       unfolding withReply
       gathered es n x m g d e =
           let h : Held p s t = λ z. omega arith in
           at-prepared q t _ x (replied 0 n h) (asked-here h (λ z. omega arith)) (λ r z. list r (split r z))
-          (rw g (whole-append (p .gathered t) es w (rw (m .1) at (i .account .made a t (m .0) .2)))) (d ∙ here .uncerted x) (e ∙ here .undecided h (λ z. omega arith))
+          (rw g (whole-append (p .gathered t) es w (rw (m .1) at (i .account .made a t (m .0) .2)))) (d ∙ here .uncerted x)
+          (e ∙ here .undecided h (λ z. omega arith))
         where
           w : Whole (p .gathered t)
           w = here .whole x
@@ -177,7 +190,8 @@ module _ {sites : ℕ} {p : Protocol} (i : Invariant sites p) {q : Protocol} (l 
               over (inr y) = inr y
 
           list : (r : ℕ) → Replied t (courseAt p s t) r ⊎ (r ≡ a) → ListOf q t r
-          list r (inl z) = let y = here .lists r x z in let b = l .made r t (y .0) in (b .0, rw (b .1, g) (within-left _ (p .gathered t) es w (y .1)))
+          list r (inl z) = let y = here .lists r x z in let b = l .made r t (y .0) in
+              (b .0, rw (b .1, g) (within-left _ (p .gathered t) es w (y .1)))
           list r (inr z) = let b = l .made a t (m .0) in rw z (b .0, rw (b .1 ∙ m .1, g) (within-right (p .gathered t) es w))
 
       voted-now : AtStage p s t stage.queued → VoteOf q t a → Frame p q t → RoundOk q t (withReply (courseAt p s t) a 0 0)
@@ -195,8 +209,10 @@ module _ {sites : ℕ} {p : Protocol} (i : Invariant sites p) {q : Protocol} (l 
               over (inr y) = rw y v
 
 -- A transaction that begins: nothing was asked, nothing heard.
-begun : (sites : ℕ) (p : Protocol) (i : Invariant sites p) (q : Protocol) → sites ≤ sizes.sites → (s t : ℕ) → 1 ≤ s → s ≤ sites → coordinatorOf t ≡ s
-    → ((j : ℕ) → p .has j t ≡ true → ⊥) → q .has ≡ upd₂ (p .has) s t true → q .asked ≡ p .asked → q .num ≡ p .num → (n : ℕ) → RoundOk q t (newSub t (maskOf s) n .course)
+begun : (sites : ℕ) (p : Protocol) (i : Invariant sites p) (q : Protocol) → sites ≤ sizes.sites → (s t : ℕ) → 1 ≤ s → s ≤ sites
+    → coordinatorOf t ≡ s
+    → ((j : ℕ) → p .has j t ≡ true → ⊥) → q .has ≡ upd₂ (p .has) s t true → q .asked ≡ p .asked → q .num ≡ p .num → (n : ℕ)
+    → RoundOk q t (newSub t (maskOf s) n .course)
 unfolding newSub
 begun sites p i q h s t l m c none e f g n =
     at-active q t _ refl

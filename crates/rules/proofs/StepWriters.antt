@@ -57,10 +57,12 @@ module _ {sites : ℕ} {p : Protocol} (i : Invariant sites p) {q : Protocol} (c 
       go (inl h) = h
       go (inr h) = absurd (h (c .parts .entry-gone s j m))
 
-  entry-wrote : (s j k : ℕ) → j < length (inst q s) → wroteKey (q .keys s (at q s j .tx)) k ≡ true → wroteKey (p .keys s (at q s j .tx)) k ≡ true
+  entry-wrote : (s j k : ℕ) → j < length (inst q s) → wroteKey (q .keys s (at q s j .tx)) k ≡ true
+      → wroteKey (p .keys s (at q s j .tx)) k ≡ true
   entry-wrote s j k m w = let f = c .parts .entry-gone s j m in rw (keys-kept i c s _ (entry-had s j m) (λ z. omega arith)) at w
 
-  after : (s t j k : ℕ) → Held q s t → q .snap s t ≤ j → j < length (inst q s) → wroteKey (q .keys s t) k ≡ true → wroteKey (q .keys s (at q s j .tx)) k ≡ true → ⊥
+  after : (s t j k : ℕ) → Held q s t → q .snap s t ≤ j → j < length (inst q s) → wroteKey (q .keys s t) k ≡ true
+      → wroteKey (q .keys s (at q s j .tx)) k ≡ true → ⊥
   unfolding entryOf
   after s t j k h l m v w = go (wrote s t k h v) (entry-wrote s j k m w) (stood i c s j m)
     where
@@ -68,20 +70,23 @@ module _ {sites : ℕ} {p : Protocol} (i : Invariant sites p) {q : Protocol} (c 
       old a b d e (inl x) = set-not _ e (i .writers .after s t j k a b d x)
       old a b d e (inr (x, f)) = set-not _ e (rw (i .parts .entry-keys s j d) at (x .1 j (rw (i .parts .snap s t a) b) d))
 
-      go : Held p s t × Wrote p q s t k → wroteKey (p .keys s (at q s j .tx)) k ≡ true → (j < length (inst p s)) ⊎ InstalledNow p s j (at q s j) → ⊥
+      go : Held p s t × Wrote p q s t k → wroteKey (p .keys s (at q s j .tx)) k ≡ true
+          → (j < length (inst p s)) ⊎ InstalledNow p s j (at q s j) → ⊥
       go (a, x) y (inl d) = old a (rw (snap-kept i c s t (i .parts .has s t a)) at l) d (rw (stands i c s j d .1) at y) x
       go (a, x) y (inr (u, d, f, z, e)) =
           let b : Held p s u = λ z. omega arith in
           let o : at q s j .tx ≡ u = rw e (i .parts .tx s u b) in
           other s t u k (λ (n : t ≡ u). h (rw (o ∙ sym n) at (c .parts .entry-gone s j m))) a x b (rw o at y)
 
-  seen : (s j m k : ℕ) → j < m → m < length (inst q s) → wroteKey (q .keys s (at q s j .tx)) k ≡ true → wroteKey (q .keys s (at q s m .tx)) k ≡ true
+  seen : (s j m k : ℕ) → j < m → m < length (inst q s) → wroteKey (q .keys s (at q s j .tx)) k ≡ true
+      → wroteKey (q .keys s (at q s m .tx)) k ≡ true
       → j < q .snap s (at q s m .tx)
   unfolding entryOf
   seen s j m k l n v w =
       rw (snap-kept i c s _ (entry-had s m n)) (go (entry-wrote s j k (omega arith) v) (entry-wrote s m k n w) (stood i c s m n))
     where
-      go : wroteKey (p .keys s (at q s j .tx)) k ≡ true → wroteKey (p .keys s (at q s m .tx)) k ≡ true → (m < length (inst p s)) ⊎ InstalledNow p s m (at q s m)
+      go : wroteKey (p .keys s (at q s j .tx)) k ≡ true → wroteKey (p .keys s (at q s m .tx)) k ≡ true
+          → (m < length (inst p s)) ⊎ InstalledNow p s m (at q s m)
           → j < p .snap s (at q s m .tx)
       go x y (inl d) =
           let a = stands i c s j (omega arith) .1 in
@@ -93,7 +98,8 @@ module _ {sites : ℕ} {p : Protocol} (i : Invariant sites p) {q : Protocol} (c 
           let h : j < length (inst p s) = omega arith in
           rw o (by-test (ltb j (p .snap s u))
           (λ t. ltb-true j (p .snap s u) t)
-          (λ t. absurd (set-not _ (rw (stands i c s j h .1) at x) (i .writers .after s u j k b (ltb-false j (p .snap s u) t) h (rw o at y)))))
+          (λ t. absurd
+          (set-not _ (rw (stands i c s j h .1) at x) (i .writers .after s u j k b (ltb-false j (p .snap s u) t) h (rw o at y)))))
 
 pub writers-step : (sites : ℕ) (p q : Protocol) → sites ≤ 8 → Move sites p q → Invariant sites p → Writers q
 writers-step sites p q h m i =

@@ -76,7 +76,8 @@ behindHead (e ∷ l) = l
 
 -- g's item: at each of its sites the keys of the head there
 abbrev pub itemOf : Entry → (ℕ → List Entry) → Item
-itemOf g queue = record { tx = g .tx; number = g .number; mask = g .mask; keys = λ s. pick (inMask (g .mask) s) (headKeys (queue s)) noKeys }
+itemOf g queue =
+    record { tx = g .tx; number = g .number; mask = g .mask; keys = λ s. pick (inMask (g .mask) s) (headKeys (queue s)) noKeys }
 
 -- The tables after each step.
 abbrev pub tookPart : Merger → ℕ → Entry → Merger
@@ -105,7 +106,8 @@ emitted m g =
 
 -- The merger's steps, over the logs as they are.
 pub data Merging (sites : ℕ) (p : Protocol) (m : Merger) : Merger → Type 0 where
-  takePart : (s : ℕ) (e : Entry) → NextRecord p m s (rPart e) → m .last s < rankOf e → m .state s < e .number → Merging sites p m (tookPart m s e)
+  takePart : (s : ℕ) (e : Entry) → NextRecord p m s (rPart e) → m .last s < rankOf e → m .state s < e .number
+      → Merging sites p m (tookPart m s e)
   takeState : (s n : ℕ) → NextRecord p m s (rState n) → m .state s ≤ n → Merging sites p m (tookState m s n)
   emit : (g : Entry) → Emits sites m g → Merging sites p m (emitted m g)
 
@@ -120,7 +122,8 @@ pub record Stream : Type 0 where
 
 pub data Step (sites : ℕ) (w : Stream) : Stream → Type 0 where
   moves : (q : Protocol) → Move sites (w .protocol) q → Step sites w (record { protocol = q; merger = w .merger; replayed = w .replayed })
-  merges : (m : Merger) → Merging sites (w .protocol) (w .merger) m → Step sites w (record { protocol = w .protocol; merger = m; replayed = w .replayed })
+  merges : (m : Merger) → Merging sites (w .protocol) (w .merger) m
+      → Step sites w (record { protocol = w .protocol; merger = m; replayed = w .replayed })
   replays : (c : ℕ) → w .replayed c < length (w .merger .out)
       → Step sites w (record { protocol = w .protocol; merger = w .merger; replayed = upd (w .replayed) c (w .replayed c + 1) })
 

@@ -136,24 +136,32 @@ module _ (m : Merger) (o : House) (k : ℕ) where
       go e (inl (f, v)) = inl (none-more 0 n f e, v)
       go e (inr (j, l, w, v, f)) = inr (j, omega arith, w, v, none-more (j + 1) n f e)
 
-module _ {sites : ℕ} {p : Protocol} {m : Merger} (inv : Invariant sites p) (i : Streamed sites p m) (o : House) (k n : ℕ) (h : n ≤ length (m .out)) where
+module _ {sites : ℕ} {p : Protocol} {m : Merger} (inv : Invariant sites p) (i : Streamed sites p m) (o : House) (k n : ℕ)
+    (h : n ≤ length (m .out)) where
   q : Prefix p m n
   q = prefix inv i n h
 
-  wrote : (j : ℕ) → j < n → itemWrote o k (itemAt m j) ≡ true → WroteIn p o (itemAt m j .tx) k × (itemAt m j .keys (siteOf o k) ≡ p .keys (siteOf o k) (itemAt m j .tx))
+  wrote : (j : ℕ) → j < n → itemWrote o k (itemAt m j) ≡ true
+      → WroteIn p o (itemAt m j .tx) k × (itemAt m j .keys (siteOf o k) ≡ p .keys (siteOf o k) (itemAt m j .tx))
   wrote j l e =
       let t = itemAt m j .tx in
       let a : inMask (itemAt m j .mask) (siteOf o k) ≡ true = picked-left _ _ e in
       let b : In (itemAt m j .mask) (siteOf o k) = (positive-site o k, a) in
       let c : itemAt m j .keys (siteOf o k) ≡ p .keys (siteOf o k) t = q .parts j (siteOf o k) l b in
-      let d : wroteKey (itemAt m j .keys (siteOf o k)) k ≡ true = picked-right (inMask (itemAt m j .mask) (siteOf o k)) _ e in
-      ((inv .account .asked-has t (siteOf o k) (committed-asked (inv .parts) (inv .account) t (q .committed j l)) (rw (q .mask j l) at b), rw c at d), c)
+      let d : wroteKey (itemAt m j .keys (siteOf o k)) k ≡ true = picked-right (inMask (itemAt m j .mask) (siteOf o k)) _ e in (
+        (
+          inv .account .asked-has t (siteOf o k) (committed-asked (inv .parts) (inv .account) t (q .committed j l)) (rw (q .mask j l) at b),
+          rw c at d,
+        ),
+        c,
+      )
 
   -- an item whose transaction wrote k
   writes : (j : ℕ) → j < n → WroteIn p o (itemAt m j .tx) k → itemWrote o k (itemAt m j) ≡ true
   writes j l (a, w) =
       let t = itemAt m j .tx in
-      let b : In (itemAt m j .mask) (siteOf o k) = rw (q .mask j l) (committed-in (inv .parts) (inv .account) t (q .committed j l) (siteOf o k) a) in
+      let b : In (itemAt m j .mask) (siteOf o k) =
+      rw (q .mask j l) (committed-in (inv .parts) (inv .account) t (q .committed j l) (siteOf o k) a) in
       rw (b .1, q .parts j (siteOf o k) l b) w
 
   pub left-upto : LeftUpTo p o (lastRank m n) k (leftIn o k fresh (take n (m .out)))
@@ -166,7 +174,15 @@ module _ {sites : ℕ} {p : Protocol} {m : Merger} (inv : Invariant sites p) (i 
           none t (j, a, e) w = set-not _ (writes j a (rw e w)) (f j (omega arith) a)
       go (inr (j, l, w, v, f)) =
           let (a, b) = wrote j l w in
-          inr (itemAt m j .tx, q .committed j l, q .low j l, a, ap (λ (y : Keys). wroteValue y k) (sym b) ∙ v, λ u z y x. greatest u (q .all u z y) x)
+          inr (
+            itemAt m j .tx,
+            q .committed j l,
+            q .low j l,
+            a,
+            ap (λ (y : Keys). wroteValue y k) (sym b)
+                ∙ v,
+            λ u z y x. greatest u (q .all u z y) x,
+          )
         where
           greatest : (u : ℕ) → (i : ℕ) × (i < n) × (itemAt m i .tx ≡ u) → WroteIn p o u k → rankIn p u ≤ rankIn p (itemAt m j .tx)
           greatest u (c, d, e) x =

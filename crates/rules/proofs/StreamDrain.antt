@@ -40,7 +40,8 @@ module _ {sites : ℕ} {p : Protocol} {m : Merger} (inv : Invariant sites p) (i 
     site = coordinator-site inv t committed .0
 
     -- all taken: what was not emitted is queued
-    queued-there : (j : ℕ) → j < length (inst p c) → at p c j .tx ≡ t → length (gone inv i c) ≤ j → m .took c ≡ length (p .log c) → HeadUpTo p m t c
+    queued-there : (j : ℕ) → j < length (inst p c) → at p c j .tx ≡ t → length (gone inv i c) ≤ j → m .took c ≡ length (p .log c)
+        → HeadUpTo p m t c
     queued-there j l e h k = go (m .queue c) refl
       where
         all : drop (m .took c) (p .log c) ≡ []
@@ -72,5 +73,6 @@ module _ {sites : ℕ} {p : Protocol} {m : Merger} (inv : Invariant sites p) (i 
     drained-head n u (k, b) = go (inv .order .held t committed)
       where
         go : AtStage p c t stage.decided ⊎ Installed p c t → Out m t ⊎ HeadUpTo p m t c
-        go (inl x) = absurd (omega (arith, i .source c .ends, end-below 0 (all-take (m .took c) (p .log c) (inv .order .decided c t x)) committed))
+        go (inl x) =
+            absurd (omega (arith, i .source c .ends, end-below 0 (all-take (m .took c) (p .log c) (inv .order .decided c t x)) committed))
         go (inr (j, (l, e))) = ⊎-elim (λ x. inl (rw e at x)) (λ x. inr (queued-there j l e x k)) (not-gone inv i c j site l)

@@ -36,10 +36,12 @@ end-low k (a-cons {x = rPart e} p ps) h = end-low k ps h
 end-low k (a-cons {x = rState i} p ps) h = end-low i ps p
 
 -- What stands before a part is below it.
-pub part-above : (before l : List Rec) → Ascending before l → (i : ℕ) → i < length (partsOf l) → All (StandsBefore (rPart (getD (partsOf l) i pastEntry))) before
+pub part-above : (before l : List Rec) → Ascending before l → (i : ℕ) → i < length (partsOf l)
+    → All (StandsBefore (rPart (getD (partsOf l) i pastEntry))) before
 part-above before [] o i h = absurd (omega arith)
 part-above before (rPart x ∷ l) (a, o) zero h = a
-part-above before (rPart x ∷ l) (a, o) (suc i) h = all-left before (rPart x ∷ []) (part-above (before ++ (rPart x ∷ [])) l o i (omega arith))
+part-above before (rPart x ∷ l) (a, o) (suc i) h =
+    all-left before (rPart x ∷ []) (part-above (before ++ (rPart x ∷ [])) l o i (omega arith))
 part-above before (rState k ∷ l) (a, o) i h = all-left before (rState k ∷ []) (part-above (before ++ (rState k ∷ [])) l o i h)
 
 ascending-behind : (before l m : List Rec) → Ascending before (l ++ m) → Ascending (before ++ l) m
@@ -50,7 +52,8 @@ pub parts-ascend : (before l : List Rec) → Ascending before l → (j i : ℕ) 
     → rankOf (getD (partsOf l) j pastEntry) < rankOf (getD (partsOf l) i pastEntry)
 parts-ascend before [] o j i x h = absurd (omega arith)
 parts-ascend before (rPart y ∷ l) (a, o) j zero x h = absurd (omega arith)
-parts-ascend before (rPart y ∷ l) (a, o) zero (suc i) x h = all-head (all-right before (rPart y ∷ []) (part-above (before ++ (rPart y ∷ [])) l o i (omega arith)))
+parts-ascend before (rPart y ∷ l) (a, o) zero (suc i) x h =
+    all-head (all-right before (rPart y ∷ []) (part-above (before ++ (rPart y ∷ [])) l o i (omega arith)))
 parts-ascend before (rPart y ∷ l) (a, o) (suc j) (suc i) x h = parts-ascend (before ++ (rPart y ∷ [])) l o j i (omega arith) (omega arith)
 parts-ascend before (rState k ∷ l) (a, o) j i x h = parts-ascend (before ++ (rState k ∷ [])) l o j i x h
 
@@ -65,7 +68,10 @@ module _ {sites : ℕ} (few : sites ≤ 8) {p : Protocol} {m : Merger} (inv : In
       let o : In (p .mask (e .tx)) s = committed-in (inv .parts) (inv .account) (e .tx) (r .committed) s (r .has) in
       let (k, c, a, y) = item-at inv i s j b (rw (item-mask inv i j b, t) o) in
       let (n, z) = head-at inv i s e l h q in
-      omega (arith, inv .parts .entry-once s k (length (gone inv i s)) a n (ap (λ (f : Entry). f .tx) y ∙ t ∙ ap (λ (f : Entry). f .tx) (sym z)))
+      omega (
+        arith,
+        inv .parts .entry-once s k (length (gone inv i s)) a n (ap (λ (f : Entry). f .tx) y ∙ t ∙ ap (λ (f : Entry). f .tx) (sym z)),
+      )
 
   module _ (g : Entry) (s : ℕ) (site : 1 ≤ s) (due : DueAt g (m .state s) (m .queue s)) where
     pub due-low : (n : ℕ) → All (RecLow n) (p .log s) → g .number ≤ n
@@ -103,7 +109,8 @@ module _ {sites : ℕ} (few : sites ≤ 8) {p : Protocol} {m : Merger} (inv : In
               let w : inst p s ≡ gone inv i s ++ partsOf r = rw f at (inst-split inv i s site) in
               let v : k < length (partsOf r) = omega (arith, length-append (gone inv i s) (partsOf r), ap length w) in
               let x : length (gone inv i s) + k ≡ j = omega arith in
-              let z : getD (partsOf r) k pastEntry ≡ at p s j = rw w (sym (rw x at (getD-append-add (gone inv i s) (partsOf r) k pastEntry))) in
+              let z : getD (partsOf r) k pastEntry ≡ at p s j =
+              rw w (sym (rw x at (getD-append-add (gone inv i s) (partsOf r) k pastEntry))) in
               let o : Ascending t r = ascending-behind [] t r (rw (take-append-drop (m .took s) (p .log s)) (inv .order .ascends s)) in
               let y : All (RecBelow (at p s j .number) (coordinatorOf (at p s j .tx))) t = rw z at (part-above t r o k v) in
               let n : 0 < at p s j .number = let b = real-at inv s j l in omega (arith, b .number, b .committed) in

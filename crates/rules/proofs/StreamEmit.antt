@@ -20,11 +20,13 @@ use Rattle.rules.proofs.Tables.{last-cases}
 use Rattle.rules.proofs.Protocol.{Protocol, inst, AtStage}
 use Rattle.rules.proofs.Invariants.{at, In, Installed, Invariant}
 use Rattle.rules.proofs.Committed.{low-coordinator, committed-asked, coordinator-site}
-use Rattle.rules.proofs.Stream.{Item, Merger, rankOf, itemRank, DueAt, SameHead, WholeAt, Emits, headKeys, behindHead, itemOf, emitted}
+use Rattle.rules.proofs.Stream.{Item, Merger, rankOf, itemRank, DueAt, SameHead, WholeAt, Emits, headKeys, behindHead, itemOf}
+use Rattle.rules.proofs.Stream.{emitted}
 use Rattle.rules.proofs.StreamInv.{pastItem, itemAt, Out, partsAt, Streamed, Real, gone, parts-at-append, head-real, not-gone}
 use Rattle.rules.proofs.StreamDue.{due-low, due-below, due-behind, head-not-out}
 
-module _ {sites : ℕ} (low : sites ≤ 8) {p : Protocol} {m : Merger} (inv : Invariant sites p) (i : Streamed sites p m) {g : Entry} (d : Emits sites m g) where
+module _ {sites : ℕ} (low : sites ≤ 8) {p : Protocol} {m : Merger} (inv : Invariant sites p) (i : Streamed sites p m) {g : Entry}
+    (d : Emits sites m g) where
   real : Real p (d .site) g
   real = head-real inv i (d .site) g (d .behind) (d .site-low) (d .head)
 
@@ -44,15 +46,18 @@ module _ {sites : ℕ} (low : sites ≤ 8) {p : Protocol} {m : Merger} (inv : In
     due-there = d .due (coordinatorOf u) (site .0) (site .1)
 
     -- there, as the j-th part
-    behind : (j : ℕ) → j < length (inst p (coordinatorOf u)) → at p (coordinatorOf u) j .tx ≡ u → length (gone inv i (coordinatorOf u)) ≤ j → Ahead
+    behind : (j : ℕ) → j < length (inst p (coordinatorOf u)) → at p (coordinatorOf u) j .tx ≡ u
+        → length (gone inv i (coordinatorOf u)) ≤ j → Ahead
     behind j l e h =
         let c = coordinatorOf u in
-        let ranks : rankOf (at p c j) ≡ rank (p .num u) c = omega (arith, inv .account .entry c j l .0, ap (p .num) e, ap coordinatorOf e) in
+        let ranks : rankOf (at p c j) ≡ rank (p .num u) c =
+        omega (arith, inv .account .entry c j l .0, ap (p .num) e, ap coordinatorOf e) in
         ⊎-elim
         (λ (a : rankOf g < rankOf (at p c j)). inl (omega arith))
         (λ (a : (q : List Entry) × (m .queue c ≡ at p c j ∷ q) × (rankOf g ≤ rankOf (at p c j))).
         ⊎-elim
-        (λ (z : rankOf g ≡ rankOf (at p c j)). inr (inv .clocks .once (g .tx) u (real .committed) (sym (real .number) ∙ omega (arith, g-low)) (omega (arith, g-low))))
+        (λ (z : rankOf g ≡ rankOf (at p c j)). inr
+        (inv .clocks .once (g .tx) u (real .committed) (sym (real .number) ∙ omega (arith, g-low)) (omega (arith, g-low))))
         (λ (z : rankOf g < rankOf (at p c j)). inl (omega arith))
         (eq-or-lt-of-le (a .2)))
         (due-behind low inv i g c (site .0) due-there g-low j l h)
@@ -61,7 +66,9 @@ module _ {sites : ℕ} (low : sites ≤ 8) {p : Protocol} {m : Merger} (inv : In
     ahead = go (inv .order .held u n)
       where
         go : AtStage p (coordinatorOf u) u stage.decided ⊎ Installed p (coordinatorOf u) u → Out m u ⊎ Ahead
-        go (inl a) = inr (inl (due-below low inv i g (coordinatorOf u) (site .0) due-there g-low (p .num u) (coordinatorOf u) n (inv .order .decided (coordinatorOf u) u a)))
+        go (inl a) =
+            inr (inl (due-below low inv i g (coordinatorOf u) (site .0) due-there g-low (p .num u) (coordinatorOf u) n
+            (inv .order .decided (coordinatorOf u) u a)))
         go (inr (j, (l, e))) = ⊎-elim (λ x. inl (rw e at x)) (λ x. inr (behind j l e x)) (not-gone inv i (coordinatorOf u) j (site .0) l)
 
   -- g itself was not
@@ -73,7 +80,8 @@ module _ {sites : ℕ} (low : sites ≤ 8) {p : Protocol} {m : Merger} (inv : In
   above j l =
       by-test (ltb (itemRank (itemAt m j)) (rankOf g))
       (λ t. ltb-true (itemRank (itemAt m j)) (rankOf g) t)
-      (λ t. absurd (not-out (i .whole (g .tx) j (real .committed) l (rw (real .number) at (ltb-false (itemRank (itemAt m j)) (rankOf g) t)))))
+      (λ t. absurd
+      (not-out (i .whole (g .tx) j (real .committed) l (rw (real .number) at (ltb-false (itemRank (itemAt m j)) (rankOf g) t)))))
 
   -- The tables after the emit.
   abbrev n : Merger
@@ -87,7 +95,11 @@ module _ {sites : ℕ} (low : sites ≤ 8) {p : Protocol} {m : Merger} (inv : In
       (j, omega (arith, length-append (m .out) (x ∷ [])), ap (λ (y : Item). y .tx) (List·getD-append (m .out) (x ∷ []) pastItem j l) ∙ e)
 
   out-new : Out n (g .tx)
-  out-new = (length (m .out), omega (arith, length-append (m .out) (x ∷ [])), ap (λ (y : Item). y .tx) (getD-append-seam (m .out) x [] pastItem))
+  out-new = (
+    length (m .out),
+    omega (arith, length-append (m .out) (x ∷ [])),
+    ap (λ (y : Item). y .tx) (getD-append-seam (m .out) x [] pastItem),
+  )
 
   named : inMask (g .mask) (d .site) ≡ true
   named = go (rw (d .head) at (d .whole (d .site) (d .site-low) (d .site-high)))
@@ -109,11 +121,13 @@ module _ {sites : ℕ} (low : sites ≤ 8) {p : Protocol} {m : Merger} (inv : In
   popped s h =
       by-test (inMask (g .mask) s)
       (λ e. let o : In (p .mask (g .tx)) s = (h, rw (real .mask) at e) in
-      let k = inv .parts .site s (g .tx) (inv .account .asked-has (g .tx) s (committed-asked (inv .parts) (inv .account) (g .tx) (real .committed)) o) in
+      let k = inv .parts .site s (g .tx)
+      (inv .account .asked-has (g .tx) s (committed-asked (inv .parts) (inv .account) (g .tx) (real .committed)) o) in
       rw (parts-at-append s (m .out) (x ∷ []), e) (go e (m .queue s) refl (d .whole s h (k .1))))
       (λ e. rw (parts-at-append s (m .out) (x ∷ []), e, append-nil))
     where
-      go : inMask (g .mask) s ≡ true → (q : List Entry) → m .queue s ≡ q → WholeAt g s q → partsAt s (m .out) ++ q ≡ (partsAt s (m .out) ++ (part s ∷ [])) ++ behindHead q
+      go : inMask (g .mask) s ≡ true → (q : List Entry) → m .queue s ≡ q → WholeAt g s q
+          → partsAt s (m .out) ++ q ≡ (partsAt s (m .out) ++ (part s ∷ [])) ++ behindHead q
       go e [] f w = absurd (set-not _ e w)
       go e (y ∷ q) f (inl (z, r)) = rw (append-assoc (partsAt s (m .out)) (part s ∷ []) q, ← head-is s y q f r)
       go e (y ∷ q) f (inr (z, r)) = absurd (set-not _ e z)
@@ -121,7 +135,14 @@ module _ {sites : ℕ} (low : sites ≤ 8) {p : Protocol} {m : Merger} (inv : In
   pub streamed-emitted : Streamed sites p n
   streamed-emitted =
       record {
-        source = λ s. record { count = i .source s .count; parts = λ h. i .source s .parts h ∙ popped s h; ends = i .source s .ends; below = i .source s .below };
+        source = λ s.
+            record {
+              count = i .source s .count;
+              parts = λ h. i .source s .parts h
+                  ∙ popped s h;
+              ends = i .source s .ends;
+              below = i .source s .below;
+            };
         clock = λ s j l h. last-cases (λ j y. y .number ≤ p .clock s) (m .out) x pastItem (λ j k. i .clock s j l h k) (clocks s l h) j;
         home = last-cases (λ j y. (s : ℕ) × In (y .mask) s) (m .out) x pastItem (i .home) (d .site, (d .site-low, named));
         ascends = λ a b l h. last-cases (λ b y. (a : ℕ) → a < b → itemRank (itemAt n a) < itemRank y) (m .out) x pastItem

@@ -65,7 +65,8 @@ pub record Source (out : List Item) (s : ℕ) (log : List Rec) (took : ℕ) (que
 abbrev pub SourceAt : Protocol → Merger → ℕ → Type 0
 SourceAt p m s = Source (m .out) s (p .log s) (m .took s) (m .queue s) (m .state s) (m .last s)
 
--- `clock`: no clock is below what was emitted. What was emitted ascends, and is every committed transaction up to its last. `home`: each item has a site.
+-- `clock`: no clock is below what was emitted. What was emitted ascends, and is every committed transaction up to its last. `home`: each
+-- item has a site.
 pub record Streamed (sites : ℕ) (p : Protocol) (m : Merger) : Type 0 where
   pub source : (s : ℕ) → SourceAt p m s
   pub clock : (s i : ℕ) → 1 ≤ s → s ≤ sites → i < length (m .out) → itemAt m i .number ≤ p .clock s
@@ -107,8 +108,11 @@ pub part-of : (s : ℕ) (l : List Item) (i : ℕ) → i < length l → inMask (g
 part-of s [] i h e = absurd (omega arith)
 part-of s (x ∷ l) zero h e = rw e (0, omega arith, refl)
 part-of s (x ∷ l) (suc i) h e =
-    let (j, n, q) = part-of s l i (omega arith) e in
-    (length (onePart s x) + j, omega (arith, length-append (onePart s x) (partsAt s l)), getD-append-add (onePart s x) (partsAt s l) j pastEntry ∙ q)
+    let (j, n, q) = part-of s l i (omega arith) e in (
+      length (onePart s x) + j,
+      omega (arith, length-append (onePart s x) (partsAt s l)),
+      getD-append-add (onePart s x) (partsAt s l) j pastEntry ∙ q,
+    )
 
 abbrev ItemOf : ℕ → List Item → ℕ → Type 0
 ItemOf s l j = (i : ℕ) × (i < length l) × (getD l i pastItem .tx ≡ getD (partsAt s l) j pastEntry .tx)
@@ -142,18 +146,24 @@ module _ {sites : ℕ} {p : Protocol} {m : Merger} (inv : Invariant sites p) (i 
 
   gone-at : (s j : ℕ) → 1 ≤ s → j < length (gone s) → (j < length (inst p s)) × (at p s j ≡ getD (gone s) j pastEntry)
   gone-at s j h l =
-      rw (inst-split s h)
-      (omega (arith, length-append (gone s) (m .queue s ++ partsOf (rest s))), List·getD-append (gone s) (m .queue s ++ partsOf (rest s)) pastEntry j l)
+      rw (inst-split s h) (
+        omega (arith, length-append (gone s) (m .queue s ++ partsOf (rest s))),
+        List·getD-append (gone s) (m .queue s ++ partsOf (rest s)) pastEntry j l,
+      )
 
   -- the head of a queue
-  pub head-at : (s : ℕ) (e : Entry) (l : List Entry) → 1 ≤ s → m .queue s ≡ e ∷ l → (length (gone s) < length (inst p s)) × (at p s (length (gone s)) ≡ e)
-  head-at s e l h q = rw (inst-split s h, q) (omega (arith, length-append (gone s) (e ∷ (l ++ partsOf (rest s)))), getD-append-seam (gone s) e (l ++ partsOf (rest s)) pastEntry)
+  pub head-at : (s : ℕ) (e : Entry) (l : List Entry) → 1 ≤ s → m .queue s ≡ e ∷ l
+      → (length (gone s) < length (inst p s)) × (at p s (length (gone s)) ≡ e)
+  head-at s e l h q =
+      rw (inst-split s h, q)
+      (omega (arith, length-append (gone s) (e ∷ (l ++ partsOf (rest s)))), getD-append-seam (gone s) e (l ++ partsOf (rest s)) pastEntry)
 
   pub head-real : (s : ℕ) (e : Entry) (l : List Entry) → 1 ≤ s → m .queue s ≡ e ∷ l → Real p s e
   head-real s e l h q = let (n, a) = head-at s e l h q in rw a at (real-at inv s (length (gone s)) n)
 
   -- an item at a site of its mask: the part installed there
-  pub item-at : (s j : ℕ) → j < length (m .out) → In (itemAt m j .mask) s → (k : ℕ) × (k < length (gone s)) × (k < length (inst p s)) × (at p s k ≡ partAt s (itemAt m j))
+  pub item-at : (s j : ℕ) → j < length (m .out) → In (itemAt m j .mask) s
+      → (k : ℕ) × (k < length (gone s)) × (k < length (inst p s)) × (at p s k ≡ partAt s (itemAt m j))
   item-at s j l (h, e) =
       let (k, n, q) = part-of s (m .out) j l e in
       let (a, b) = gone-at s k h n in

@@ -9,12 +9,14 @@ use Rattle.rules.proofs.Protocol.{Protocol, freshProtocol}
 use Rattle.rules.proofs.Invariants.{Invariant}
 use Rattle.rules.proofs.Changes.{change}
 use Rattle.rules.proofs.Reached.{invariant-step, invariant-fresh}
-use Rattle.rules.proofs.Stream.{Item, Merger, itemOf, Merging, takePart, takeState, emit, Stream, Step, moves, merges, replays, Steps, stop, more, freshMerger, freshStream}
+use Rattle.rules.proofs.Stream.{Item, Merger, itemOf, Merging, takePart, takeState, emit, Stream, Step, moves, merges, replays}
+use Rattle.rules.proofs.Stream.{Steps, stop, more, freshMerger, freshStream}
 use Rattle.rules.proofs.StreamInv.{Streamed, streamed-fresh}
 use Rattle.rules.proofs.StreamTake.{took-part, took-state, streamed-moved}
 use Rattle.rules.proofs.StreamEmit.{streamed-emitted}
 
-pub streamed-merged : {sites : ℕ} {p : Protocol} {m n : Merger} → sites ≤ 8 → Invariant sites p → Merging sites p m n → Streamed sites p m → Streamed sites p n
+pub streamed-merged : {sites : ℕ} {p : Protocol} {m n : Merger} → sites ≤ 8 → Invariant sites p → Merging sites p m n → Streamed sites p m
+    → Streamed sites p n
 streamed-merged h v (takePart s e r l k) i = took-part i s e r l
 streamed-merged h v (takeState s k r l) i = took-state i s k r l
 streamed-merged h v (emit g d) i = streamed-emitted h v i d
@@ -54,7 +56,8 @@ standing-step {sites} {v} h (replays c l) i =
 
 pub standing-fresh : (sites : ℕ) → Standing sites freshStream
 unfolding freshStream freshMerger
-standing-fresh sites = record { invariant = invariant-fresh sites; streamed = streamed-fresh sites freshProtocol; replayed = λ c. omega arith }
+standing-fresh sites =
+    record { invariant = invariant-fresh sites; streamed = streamed-fresh sites freshProtocol; replayed = λ c. omega arith }
 
 pub standing-steps : {sites : ℕ} {v w : Stream} → sites ≤ 8 → Steps sites v w → Standing sites v → Standing sites w
 standing-steps h stop i = i

@@ -34,18 +34,21 @@ not-above : (a b n k : ℕ) → a ≤ b → n ≤ k → (r : Rec) → NotAbove a
 not-above a b n k x y (rPart e) h = omega arith
 not-above a b n k x y (rState i) h = omega arith
 
-module _ {out : List Item} {s : ℕ} {log : List Rec} {took : ℕ} {queue : List Entry} {state last : ℕ} (i : Source out s log took queue state last) (l : took < length log) where
+module _ {out : List Item} {s : ℕ} {log : List Rec} {took : ℕ} {queue : List Entry} {state last : ℕ}
+    (i : Source out s log took queue state last) (l : took < length log) where
   pub taken-more : (r : Rec) → getD log took r ≡ r → take (took + 1) log ≡ take took log ++ (r ∷ [])
   taken-more r e = rw (add-one, take-suc log took r l, e)
 
-  more-part : (e : Entry) → getD log took (rPart e) ≡ rPart e → last < rankOf e → Source out s log (took + 1) (queue ++ (e ∷ [])) state (rankOf e)
+  more-part : (e : Entry) → getD log took (rPart e) ≡ rPart e → last < rankOf e
+      → Source out s log (took + 1) (queue ++ (e ∷ [])) state (rankOf e)
   more-part e x h =
       let k = taken-more (rPart e) x in
       record {
         count = omega arith;
         parts = λ z. rw (k, parts-append (take took log) (rPart e ∷ []), i .parts z) (append-assoc (partsAt s out) queue (e ∷ []));
         ends = rw (k, end-append 0 (take took log) (rPart e ∷ [])) (i .ends);
-        below = rw k (all-append (all-map (not-above last (rankOf e) state state (omega arith) (omega arith)) (i .below)) (all-one (omega arith)));
+        below = rw k
+            (all-append (all-map (not-above last (rankOf e) state state (omega arith) (omega arith)) (i .below)) (all-one (omega arith)));
       }
 
   more-state : (n : ℕ) → getD log took (rState n) ≡ rState n → state ≤ n → Source out s log (took + 1) queue n last
@@ -92,7 +95,8 @@ grown p s l (l-same e) = ([], e ∙ sym (append-nil (p .log s)))
 grown p s l (l-part t d f e) = (_, e)
 grown p s l (l-state n a e) = (_, e)
 
-longer : {out : List Item} {s : ℕ} {log : List Rec} {took : ℕ} {queue : List Entry} {state last : ℕ} (r : List Rec) → Source out s log took queue state last
+longer : {out : List Item} {s : ℕ} {log : List Rec} {took : ℕ} {queue : List Entry} {state last : ℕ} (r : List Rec)
+    → Source out s log took queue state last
     → Source out s (log ++ r) took queue state last
 longer {log = log} {took = took} r i =
     let e = take-append-le took log r (i .count) in
@@ -103,7 +107,8 @@ longer {log = log} {took = took} r i =
       below = rw e (i .below);
     }
 
-pub streamed-moved : {sites : ℕ} {p q : Protocol} {m : Merger} → sites ≤ 8 → Invariant sites p → Change sites p q → Streamed sites p m → Streamed sites q m
+pub streamed-moved : {sites : ℕ} {p q : Protocol} {m : Merger} → sites ≤ 8 → Invariant sites p → Change sites p q → Streamed sites p m
+    → Streamed sites q m
 streamed-moved {sites} {p} {q} {m} h inv c i =
     record {
       source = λ s. let (r, e) = grown p s (q .log s) (c .logs s) in rw e (longer r (i .source s));
@@ -113,7 +118,8 @@ streamed-moved {sites} {p} {q} {m} h inv c i =
       whole = λ t j z n l. go t j n l (c .news .num t z);
     }
   where
-    go : (t j : ℕ) → j < length (m .out) → rank (q .num t) (coordinatorOf t) ≤ itemRank (itemAt m j) → (0 < p .num t) ⊎ NumNow p q t (q .num t) → Out m t
+    go : (t j : ℕ) → j < length (m .out) → rank (q .num t) (coordinatorOf t) ≤ itemRank (itemAt m j)
+        → (0 < p .num t) ⊎ NumNow p q t (q .num t) → Out m t
     go t j n l (inl z) = i .whole t j z n (rw (c .later .num t z) at l)
     go t j n l (inr (a, b, e, d, o)) =
         let has = inv .parts .has (coordinatorOf t) t (λ f. omega arith) in

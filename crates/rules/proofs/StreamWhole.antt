@@ -21,7 +21,8 @@ use Rattle.rules.proofs.StreamDue.{head-low, head-not-out, due-low, due
 
 module _ {sites : ℕ} (few : sites ≤ 8) {p : Protocol} {m : Merger} (inv : Invariant sites p) (i : Streamed sites p m) where
   -- g, a part that some site installed, and a site s at which it is due
-  module _ {k : ℕ} (g : Entry) (real : Real p k g) (low : coordinatorOf (g .tx) ≤ 8) (s : ℕ) (site : 1 ≤ s) (due : DueAt g (m .state s) (m .queue s)) where
+  module _ {k : ℕ} (g : Entry) (real : Real p k g) (low : coordinatorOf (g .tx) ≤ 8) (s : ℕ) (site : 1 ≤ s)
+      (due : DueAt g (m .state s) (m .queue s)) where
     abbrev t : ℕ
     t = g .tx
 
@@ -31,17 +32,21 @@ module _ {sites : ℕ} (few : sites ≤ 8) {p : Protocol} {m : Merger} (inv : In
     installed y l (inl h) = absurd (go (yes-queued (inv .courses) s t h y))
       where
         go : AtStage p s t stage.queued ⊎ AtStage p s t stage.decided → ⊥
-        go (inl x) = let n = due-low few inv i g s site due _ (inv .order .queued s t x) in omega (arith, real .number, inv .courses .queued s t x .1)
-        go (inr x) = let n = due-below few inv i g s site due low _ _ (real .committed) (inv .order .decided s t x) in omega (arith, real .number)
+        go (inl x) = let n = due-low few inv i g s site due _ (inv .order .queued s t x) in
+            omega (arith, real .number, inv .courses .queued s t x .1)
+        go (inr x) = let n = due-below few inv i g s site due low _ _ (real .committed) (inv .order .decided s t x) in
+            omega (arith, real .number)
 
     -- as the j-th part, and not emitted: at the head
-    at-head : inMask (g .mask) s ≡ true → (j : ℕ) → j < length (inst p s) → at p s j .tx ≡ t → length (gone inv i s) ≤ j → WholeAt g s (m .queue s)
+    at-head : inMask (g .mask) s ≡ true → (j : ℕ) → j < length (inst p s) → at p s j .tx ≡ t → length (gone inv i s) ≤ j
+        → WholeAt g s (m .queue s)
     at-head o j l e h =
         let a = inv .account .entry s j l in
         let ranks : rankOf (at p s j) ≡ rankOf g = omega (arith, a .0, ap (p .num) e, real .number, ap coordinatorOf e) in
         ⊎-elim
         (λ (b : rankOf g < rankOf (at p s j)). absurd (omega arith))
-        (λ (b : (q : List Entry) × (m .queue s ≡ at p s j ∷ q) × (rankOf g ≤ rankOf (at p s j))). rw (b .1) (inl (o, (ranks, e, a .2 ∙ ap (p .mask) e ∙ sym (real .mask)))))
+        (λ (b : (q : List Entry) × (m .queue s ≡ at p s j ∷ q) × (rankOf g ≤ rankOf (at p s j))). rw (b .1)
+        (inl (o, (ranks, e, a .2 ∙ ap (p .mask) e ∙ sym (real .mask)))))
         (due-behind few inv i g s site due low j l h)
 
     -- at a participant
@@ -72,6 +77,7 @@ module _ {sites : ℕ} (few : sites ≤ 8) {p : Protocol} {m : Merger} (inv : In
     whole-there out = by-test (inMask (g .mask) s) (whole-in out) whole-apart
 
   -- the head of some queue, where it is due at a site
-  pub due-whole : (k : ℕ) (g : Entry) (r : List Entry) → 1 ≤ k → m .queue k ≡ g ∷ r → (s : ℕ) → 1 ≤ s → DueAt g (m .state s) (m .queue s) → WholeAt g s (m .queue s)
+  pub due-whole : (k : ℕ) (g : Entry) (r : List Entry) → 1 ≤ k → m .queue k ≡ g ∷ r → (s : ℕ) → 1 ≤ s → DueAt g (m .state s) (m .queue s)
+      → WholeAt g s (m .queue s)
   due-whole k g r l q s h d =
       whole-there g (head-real inv i k g r l q) (head-low few inv i k g r l q) s h d (head-not-out few inv i k g r l q)

@@ -25,7 +25,8 @@ unfolding upd
 upd-other f i a j n = rw (ne-eqb j i n)
 
 -- What holds of the new entry and of every old one holds of each: of one table, and of several changed at one place.
-pub upd-three : {A B C : Type 0} (P : ℕ → A → B → C → Type 0) (f : ℕ → A) (g : ℕ → B) (h : ℕ → C) (i : ℕ) (a : A) (b : B) (c : C) → P i a b c
+pub upd-three : {A B C : Type 0} (P : ℕ → A → B → C → Type 0) (f : ℕ → A) (g : ℕ → B) (h : ℕ → C) (i : ℕ) (a : A) (b : B) (c : C)
+    → P i a b c
     → ((j : ℕ) → (j ≡ i → ⊥) → P j (f j) (g j) (h j)) → (j : ℕ) → P j (upd f i a j) (upd g i b j) (upd h i c j)
 unfolding upd
 upd-three P f g h i a b c new old j =
@@ -37,7 +38,8 @@ pub upd-both : {A B : Type 0} (P : ℕ → A → B → Type 0) (f : ℕ → A) (
     → ((j : ℕ) → (j ≡ i → ⊥) → P j (f j) (g j)) → (j : ℕ) → P j (upd f i a j) (upd g i b j)
 upd-both P f g i a b new old = upd-three {C = ℕ} (λ j x y z. P j x y) f g (λ j. 0) i a b 0 new old
 
-pub upd-cases : {A : Type 0} (P : ℕ → A → Type 0) (f : ℕ → A) (i : ℕ) (a : A) → P i a → ((j : ℕ) → (j ≡ i → ⊥) → P j (f j)) → (j : ℕ) → P j (upd f i a j)
+pub upd-cases : {A : Type 0} (P : ℕ → A → Type 0) (f : ℕ → A) (i : ℕ) (a : A) → P i a → ((j : ℕ) → (j ≡ i → ⊥) → P j (f j)) → (j : ℕ)
+    → P j (upd f i a j)
 upd-cases P f i a new old = upd-both {B = ℕ} (λ j x y. P j x) f (λ j. 0) i a 0 new old
 
 -- an entry put where it was
@@ -55,7 +57,8 @@ here₂ P f s t a h = rw (upd₂-same f s t a) h
 abbrev pub Other₂ : ℕ → ℕ → ℕ → ℕ → Type 0
 Other₂ s t j u = (j ≡ s) × (u ≡ t) → ⊥
 
-pub upd₂-three : {A B C : Type 0} (P : ℕ → ℕ → A → B → C → Type 0) (f : ℕ → ℕ → A) (g : ℕ → ℕ → B) (h : ℕ → ℕ → C) (s t : ℕ) (a : A) (b : B) (c : C)
+pub upd₂-three : {A B C : Type 0} (P : ℕ → ℕ → A → B → C → Type 0) (f : ℕ → ℕ → A) (g : ℕ → ℕ → B) (h : ℕ → ℕ → C) (s t : ℕ) (a : A)
+    (b : B) (c : C)
     → P s t a b c → ((j u : ℕ) → Other₂ s t j u → P j u (f j u) (g j u) (h j u))
     → (j u : ℕ) → P j u (upd₂ f s t a j u) (upd₂ g s t b j u) (upd₂ h s t c j u)
 unfolding upd₂ upd
@@ -70,7 +73,8 @@ pub upd₂-both : {A B : Type 0} (P : ℕ → ℕ → A → B → Type 0) (f : �
     → P s t a b → ((j u : ℕ) → Other₂ s t j u → P j u (f j u) (g j u)) → (j u : ℕ) → P j u (upd₂ f s t a j u) (upd₂ g s t b j u)
 upd₂-both P f g s t a b new old = upd₂-three {C = ℕ} (λ j u x y z. P j u x y) f g (λ j u. 0) s t a b 0 new old
 
-pub upd₂-cases : {A : Type 0} (P : ℕ → ℕ → A → Type 0) (f : ℕ → ℕ → A) (s t : ℕ) (a : A) → P s t a → ((j u : ℕ) → Other₂ s t j u → P j u (f j u)) → (j u : ℕ) → P j u (upd₂ f s t a j u)
+pub upd₂-cases : {A : Type 0} (P : ℕ → ℕ → A → Type 0) (f : ℕ → ℕ → A) (s t : ℕ) (a : A) → P s t a
+    → ((j u : ℕ) → Other₂ s t j u → P j u (f j u)) → (j u : ℕ) → P j u (upd₂ f s t a j u)
 upd₂-cases P f s t a new old = upd₂-both {B = ℕ} (λ j u x y. P j u x) f (λ j u. 0) s t a 0 new old
 
 pub upd₂-other : {A : Type 0} (f : ℕ → ℕ → A) (s t : ℕ) (a : A) (j u : ℕ) → Other₂ s t j u → upd₂ f s t a j u ≡ f j u

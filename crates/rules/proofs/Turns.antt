@@ -14,7 +14,9 @@ use Rattle.rules.specs.Keys.{wroteKey}
 use Rattle.rules.specs.Course.{newSub, withParticipant, withReply, withDecision, withMark, withRequest, withStage}
 use Rattle.rules.specs.Install.{entryOf}
 use Rattle.rules.proofs.Tables.{upd₂, upd-same, upd-cases, upd₂-same, upd₂-cases, Other₂, here₂, upd₂-other}
-use Rattle.rules.proofs.Protocol.{Protocol, Rec, rPart, rState, partsOf, inst, AtStage, courseAt, LeastQueued, StateAt, Move, begin, enlist, access, request, abort, cast, decide, install, report, joins, full, joined, prepared, lost, unknown, gathers, certified, rejects, votes, commits, aborts, passes}
+use Rattle.rules.proofs.Protocol.{Protocol, Rec, rPart, rState, partsOf, inst, AtStage, courseAt, LeastQueued, StateAt, Move, begin}
+use Rattle.rules.proofs.Protocol.{enlist, access, request, abort, cast, decide, install, report, joins, full, joined, prepared, lost}
+use Rattle.rules.proofs.Protocol.{unknown, gathers, certified, rejects, votes, commits, aborts, passes}
 use Rattle.rules.proofs.Invariants.{Held, at, Installed, Invariant}
 use Rattle.rules.proofs.Frames.{said, new-tx, new-join}
 use Rattle.rules.proofs.StepParts.{parts-append}
@@ -35,7 +37,8 @@ pub data Turn (p q : Protocol) (s t : ℕ) (b : Sub) : Type 0 where
   t-stays : Same p q s t → b .course .stage ≡ courseAt p s t .stage → b .course .number ≡ courseAt p s t .number → Turn p q s t b
   -- another stage; a mark or a number that is new is at most the clock
   t-moves : Same p q s t → Held p s t → (AtStage p s t stage.decided → ⊥) → (b .course .stage ≡ stage.free → ⊥)
-      → (b .course .stage ≡ stage.queued → q .mark s t ≤ q .clock s) → (b .course .stage ≡ stage.decided → q .num t ≤ q .clock s) → Turn p q s t b
+      → (b .course .stage ≡ stage.queued → q .mark s t ≤ q .clock s) → (b .course .stage ≡ stage.decided → q .num t ≤ q .clock s)
+      → Turn p q s t b
   -- a read or a write: of this part alone
   t-reads : q .has s t ≡ p .has s t → q .snap s t ≡ p .snap s t → AtStage p s t stage.active → b .course .stage ≡ stage.active
       → ((u : ℕ) → (u ≡ t → ⊥) → q .keys s u ≡ p .keys s u)
@@ -57,8 +60,13 @@ pub installed-last : (p : Protocol) (s t : ℕ) (l : List Rec) → p .live s t .
     → (j : ℕ) × ((j < length (partsOf l)) × (getD (partsOf l) j pastEntry .tx ≡ t))
 unfolding entryOf
 installed-last p s t l x e =
-    rw (e, parts-append (p .log s) (rPart (entryOf (p .live s t)) ∷ []))
-    (length (inst p s), (omega (arith, length-append (inst p s) (entryOf (p .live s t) ∷ [])), rw (getD-append-seam (inst p s) (entryOf (p .live s t)) [] pastEntry) x))
+    rw (e, parts-append (p .log s) (rPart (entryOf (p .live s t)) ∷ [])) (
+      length (inst p s),
+      (
+        omega (arith, length-append (inst p s) (entryOf (p .live s t) ∷ [])),
+        rw (getD-append-seam (inst p s) (entryOf (p .live s t)) [] pastEntry) x,
+      ),
+    )
 
 module _ {sites : ℕ} {p : Protocol} (i : Invariant sites p) where
   -- One part changes, to b.
@@ -69,12 +77,14 @@ module _ {sites : ℕ} {p : Protocol} (i : Invariant sites p) where
     began : q .has ≡ upd₂ (p .has) s t true → q .snap ≡ upd₂ (p .snap) s t (length (inst p s)) → q .keys ≡ upd₂ (p .keys) s t noKeys
         → (p .has s t ≡ true → ⊥) → b .course .stage ≡ stage.active → (j u : ℕ) → Turn p q j u (upd₂ (p .live) s t b j u)
     began h n k x a =
-        one (λ j u o. (rw h (upd₂-other (p .has) s t _ j u o), rw n (upd₂-other (p .snap) s t _ j u o), rw k (upd₂-other (p .keys) s t _ j u o)))
+        one (λ j u o.
+        (rw h (upd₂-other (p .has) s t _ j u o), rw n (upd₂-other (p .snap) s t _ j u o), rw k (upd₂-other (p .keys) s t _ j u o)))
         (t-begins x (rw h (upd₂-same (p .has) s t true)) a (rw k (upd₂-same (p .keys) s t noKeys)))
 
     -- and nothing of the account of parts
     module _ (h : (j u : ℕ) → Same p q j u) where
-      stayed : b .course .stage ≡ courseAt p s t .stage → b .course .number ≡ courseAt p s t .number → (j u : ℕ) → Turn p q j u (upd₂ (p .live) s t b j u)
+      stayed : b .course .stage ≡ courseAt p s t .stage → b .course .number ≡ courseAt p s t .number → (j u : ℕ)
+          → Turn p q j u (upd₂ (p .live) s t b j u)
       stayed x y = one (λ j u n. h j u) (t-stays (h s t) x y)
 
       moved : (1 ≤ courseAt p s t .stage) × (courseAt p s t .stage ≤ stage.queued) × (1 ≤ b .course .stage)
@@ -82,7 +92,8 @@ module _ {sites : ℕ} {p : Protocol} (i : Invariant sites p) where
           → (j u : ℕ) → Turn p q j u (upd₂ (p .live) s t b j u)
       moved x y z = one (λ j u n. h j u) (t-moves (h s t) (λ f. omega arith) (λ f. omega arith) (λ f. omega arith) y z)
 
-      aborted : (AtStage p s t stage.decided → ⊥) → b .course .stage ≡ stage.free → q .dead t ≡ true → (j u : ℕ) → Turn p q j u (upd₂ (p .live) s t b j u)
+      aborted : (AtStage p s t stage.decided → ⊥) → b .course .stage ≡ stage.free → q .dead t ≡ true → (j u : ℕ)
+          → Turn p q j u (upd₂ (p .live) s t b j u)
       aborted x y z = one (λ j u n. h j u) (t-aborts (h s t) x y z)
 
   -- no part changes
@@ -102,11 +113,14 @@ module _ {sites : ℕ} {p : Protocol} (i : Invariant sites p) where
       (here₂ (λ (c : Keys). (k : ℕ) → wroteKey c k ≡ true → wroteKey (p .live s t .keys) k ≡ false → Unwritten p s t k) (p .keys) s t b f))
   turns q (request s t es c a l r v) = moved q s t _ none (omega arith) (omega arith) (omega arith)
   turns q (abort s t c a d) = aborted q s t _ none d refl (upd-same (p .dead) t true)
-  turns q (cast s t es c a l w v) = moved q s t _ none (omega arith) (λ f. rw (upd₂-same (p .mark) s t (p .clock s)) (omega arith)) (omega arith)
+  turns q (cast s t es c a l w v) =
+      moved q s t _ none (omega arith) (λ f. rw (upd₂-same (p .mark) s t (p .clock s)) (omega arith)) (omega arith)
   turns q (decide s t c a l) =
-      moved q s t _ none (omega arith) (omega arith) (λ f. rw (upd-same (p .num) t (p .clock s + 1), upd-same (p .clock) s (p .clock s + 1)) (omega arith))
+      moved q s t _ none (omega arith) (omega arith)
+      (λ f. rw (upd-same (p .num) t (p .clock s + 1), upd-same (p .clock) s (p .clock s + 1)) (omega arith))
   turns q (install s t a l) =
-      one q s t _ (λ j u x. none j u) (t-installs (none s t) a refl (installed-last p s t _ (i .parts .tx s t (λ f. omega arith)) (upd-same (p .log) s _)))
+      one q s t _ (λ j u x. none j u)
+      (t-installs (none s t) a refl (installed-last p s t _ (i .parts .tx s t (λ f. omega arith)) (upd-same (p .log) s _)))
   turns q (report s n a) = still q none
   turns q (joins a s t n f) = began q s t _ refl refl refl (new-join sites p a s t (i .posts) n) refl
   turns q (full a s t r n z) = still q none
@@ -115,7 +129,8 @@ module _ {sites : ℕ} {p : Protocol} (i : Invariant sites p) where
   turns q (lost a s t n m r x y z) = moved q s t _ none (omega arith) (omega arith) (omega arith)
   turns q (unknown a s t n m r x y z) = still q none
   turns q (gathers a s t es x y o) = stayed q s t _ none refl refl
-  turns q (certified a s t es x y v) = moved q s t _ none (omega arith) (λ f. rw (upd₂-same (p .mark) s t (p .clock s)) (omega arith)) (omega arith)
+  turns q (certified a s t es x y v) =
+      moved q s t _ none (omega arith) (λ f. rw (upd₂-same (p .mark) s t (p .clock s)) (omega arith)) (omega arith)
   turns q (rejects a s t r es x y z) = moved q s t _ none (omega arith) (omega arith) (omega arith)
   turns q (votes a s t n x y o) = stayed q s t _ none refl refl
   turns q (commits a s t n x y) =

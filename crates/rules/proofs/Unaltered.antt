@@ -22,17 +22,22 @@ use Rattle.rules.specs.Queue.{leastQueued, isDue}
 use Rattle.rules.specs.Certify.{concurrent}
 use Rattle.rules.specs.CertifyLaws.{concurrent-whole}
 use Rattle.rules.specs.Course.{sendTo, withReply}
-use Rattle.rules.specs.Deliver.{arrivalCode, nextCode, replyCode, spentTo, stepUnless, keeping, passed, spoken, joinAt, takeJoin, takeJoined, takePrepare, passPrepare, takeConc, gatherLists, takeCert, takeVote, takeCommit, takeAbort, takeHeld, takeOther, takeKind, messageAt, messageOf, gatherChange, concInTurn, spentToAll}
+use Rattle.rules.specs.Deliver.{arrivalCode, nextCode, replyCode, spentTo, stepUnless, keeping, passed, spoken, joinAt, takeJoin}
+use Rattle.rules.specs.Deliver.{takeJoined, takePrepare, passPrepare, takeConc, gatherLists, takeCert, takeVote, takeCommit}
+use Rattle.rules.specs.Deliver.{takeAbort, takeHeld, takeOther, takeKind, messageAt, messageOf, gatherChange, concInTurn, spentToAll}
 use Rattle.rules.specs.Install.{installCode, installedAt, installOf, reportCode, reportOf}
-use Rattle.rules.specs.Merger.{Merging, unlessMerger, sourceAt, mergePartCode, mergePart, mergeStateCode, mergeState, mergeCode, mergeOf, headsOf, leastSite, dueCode, emitDue, emitCode, emitOf}
+use Rattle.rules.specs.Merger.{Merging, unlessMerger, sourceAt, mergePartCode, mergePart, mergeStateCode, mergeState, mergeCode}
+use Rattle.rules.specs.Merger.{mergeOf, headsOf, leastSite, dueCode, emitDue, emitCode, emitOf}
 use Rattle.rules.specs.Copy.{replayCode, replayOf}
 use Rattle.rules.specs.Answers.{isRefused}
-use Rattle.rules.specs.World.{World, upd, step, siteStep, logStep, mergerStep, mergeStep, copyStep, replayStep, stepTaken, messagesIn, splitWords, recordIn}
+use Rattle.rules.specs.World.{World, upd, step, siteStep, logStep, mergerStep, mergeStep, copyStep, replayStep, stepTaken, messagesIn}
+use Rattle.rules.specs.World.{splitWords, recordIn}
 use Rattle.rules.specs.World as world
 use Rattle.rules.specs.Refusals.{RefusedLeaves}
 use Rattle.rules.proofs.Tables.{upd-self}
 use Rattle.rules.proofs.Spoken.{Speaks, quietly-speaks, prepared-speaks, certified-speaks, vote-speaks, vote-known}
-use Rattle.rules.proofs.KnownWords.{Leaves, accepted-leaves, refusal-leaves, begin-writes, read-writes, write-writes, enlist-writes, commit-writes, abandon-writes}
+use Rattle.rules.proofs.KnownWords.{Leaves, accepted-leaves, refusal-leaves, begin-writes, read-writes, write-writes, enlist-writes}
+use Rattle.rules.proofs.KnownWords.{commit-writes, abandon-writes}
 use Rattle.rules.proofs.GoesOn.{gather-speaks}
 
 -- Messages.
@@ -41,14 +46,17 @@ keeps-leaves s lists e x n q = let (a, b, c) = x n q in (a, b, refl)
 
 module _ (s : Site) (lists : List ℕ) where
   -- a step at a place, or its refusal
-  step-leaves : (turn spent : Bool) (place : ℕ) (c : Change) → Speaks c → Leaves s lists (keeping lists (stepUnless (replyCode turn spent) s place c))
+  step-leaves : (turn spent : Bool) (place : ℕ) (c : Change) → Speaks c
+      → Leaves s lists (keeping lists (stepUnless (replyCode turn spent) s place c))
   step-leaves turn spent place c x =
-      keeps-leaves s lists _ (refusal-leaves (replyCode turn spent) s [] (changed s place c []) (accepted-leaves s [] (changed s place c []) (x .accepts)))
+      keeps-leaves s lists _
+      (refusal-leaves (replyCode turn spent) s [] (changed s place c []) (accepted-leaves s [] (changed s place c []) (x .accepts)))
 
   join-leaves : (h : MessageHead) (place : ℕ) → Leaves s lists (keeping lists (takeJoin s h place))
   unfolding takeJoin joinAt spoken sendTo
   join-leaves h place =
-      keeps-leaves s lists _ (refusal-leaves (replyCode (leb sizes.live place) (spentTo s (h .from))) s [] (joinAt s h (freePlace (s .live)))
+      keeps-leaves s lists _
+      (refusal-leaves (replyCode (leb sizes.live place) (spentTo s (h .from))) s [] (joinAt s h (freePlace (s .live)))
       (by-test (ltb (freePlace (s .live)) sizes.live) (λ e. rw e (accepted-leaves s [] _ refl)) (λ e. rw e (accepted-leaves s [] _ refl))))
 
   other-leaves : (k : ℕ) (h : MessageHead) → Leaves s lists (takeOther k s h lists)
@@ -65,7 +73,9 @@ module _ (s : Site) (lists : List ℕ) where
       let c = withReply b (h .from) 0 (h .count) in
       let made = gatherLists s place es lists in
       let e = changed s place (gatherChange s h place made) made in
-      refusal-leaves (replyCode (concInTurn b (h .from)) (every (allHeard (s .counters .own) (c .heard) (c .mask) ∷ spentToAll s (b .mask) ∷ []))) s lists e
+      refusal-leaves
+      (replyCode (concInTurn b (h .from)) (every (allHeard (s .counters .own) (c .heard) (c .mask) ∷ spentToAll s (b .mask) ∷ []))) s
+      lists e
       (accepted-leaves s lists e (gather-speaks s h place made .accepts))
 
   held-leaves : (k : ℕ) (h : MessageHead) (es : List ℕ) (place : ℕ) → Leaves s lists (takeHeld k s h es lists place)
@@ -74,7 +84,8 @@ module _ (s : Site) (lists : List ℕ) where
       by-test (eqb k kind.joined)
       (λ a. rw a (step-leaves _ _ place _ (quietly-speaks _)))
       (λ a. by-test (eqb k kind.prepare)
-      (λ b. rw (a, b) (step-leaves _ _ place _ (prepared-speaks _ (h .from) (h .argument) _ (concurrent s place) (concurrent-whole s place))))
+      (λ b. rw (a, b)
+      (step-leaves _ _ place _ (prepared-speaks _ (h .from) (h .argument) _ (concurrent s place) (concurrent-whole s place))))
       (λ b. by-test (eqb k kind.conc)
       (λ c. rw (a, b, c) (conc-leaves h es place))
       (λ c. by-test (eqb k kind.cert)
@@ -103,7 +114,8 @@ install-leaves : (s : Site) (room : ℕ) (base : List Value) → Leaves s base (
 unfolding installOf installedAt
 install-leaves s room base =
     let place = leastQueued (s .live) sizes.live in
-    refusal-leaves (installCode (siteOk s) room (length base) (isDue (s .live) place) (s .counters .installs)) s base _ (accepted-leaves s base _ refl)
+    refusal-leaves (installCode (siteOk s) room (length base) (isDue (s .live) place) (s .counters .installs)) s base _
+    (accepted-leaves s base _ refl)
 
 report-leaves : (s : Site) (room : ℕ) → Leaves s [] (reportOf s room)
 unfolding reportOf
@@ -116,7 +128,8 @@ MergerLeaves g queues e = (n : ℕ) → e .answer ≡ Refused n → (e .words �
 merger-accepted : (g : Merger) (queues : List ℕ) (e : Merging) → isRefused (e .answer) ≡ false → MergerLeaves g queues e
 merger-accepted g queues e f n q = absurd (set-not _ (ap isRefused q) f)
 
-merger-refusal : (code : ℕ) (g : Merger) (queues : List ℕ) (e : Merging) → MergerLeaves g queues e → MergerLeaves g queues (unlessMerger code g queues e)
+merger-refusal : (code : ℕ) (g : Merger) (queues : List ℕ) (e : Merging) → MergerLeaves g queues e
+    → MergerLeaves g queues (unlessMerger code g queues e)
 merger-refusal code g queues e x = by-test (eqb code 0) (λ t. rw t x) (λ t. rw t (λ n q. (refl, refl, refl)))
 
 merge-leaves : (g : Merger) (queues m : List ℕ) → MergerLeaves g queues (mergeOf g queues m)
@@ -138,7 +151,8 @@ emit-leaves g room queues =
 same-table : {A : Type 0} (f : ℕ → A) (s : ℕ) (a : A) → a ≡ f s → upd f s a ≡ f
 same-table f s a e = rw e (λ i j. upd-self f s j i)
 
-site-same : (w : World) (s : ℕ) (e : Effect) (base : List Value) (lists : List ℕ) → e .words ≡ [] → e .site ≡ w .site s → base ≡ w .base s → lists ≡ w .lists s
+site-same : (w : World) (s : ℕ) (e : Effect) (base : List Value) (lists : List ℕ) → e .words ≡ [] → e .site ≡ w .site s → base ≡ w .base s
+    → lists ≡ w .lists s
     → siteStep w s e base lists .world ≡ w
 unfolding siteStep messagesIn splitWords
 site-same w s e base lists a b c d =
@@ -157,7 +171,8 @@ site-same w s e base lists a b c d =
       replayed = w .replayed;
     }
 
-log-same : (w : World) (s : ℕ) (e : Effect) (base : List Value) → e .words ≡ [] → e .site ≡ w .site s → base ≡ w .base s → logStep w s e base .world ≡ w
+log-same : (w : World) (s : ℕ) (e : Effect) (base : List Value) → e .words ≡ [] → e .site ≡ w .site s → base ≡ w .base s
+    → logStep w s e base .world ≡ w
 unfolding logStep
 log-same w s e base a b c =
     let log : w .log s ++ recordIn (e .words) ≡ w .log s = rw (a, append-nil) in
@@ -175,7 +190,8 @@ log-same w s e base a b c =
       replayed = w .replayed;
     }
 
-merger-same : (w : World) (e : Merging) (merged : ℕ → ℕ) → e .words ≡ [] → e .merger ≡ w .merger → e .queues ≡ w .queues → merged ≡ w .merged
+merger-same : (w : World) (e : Merging) (merged : ℕ → ℕ) → e .words ≡ [] → e .merger ≡ w .merger → e .queues ≡ w .queues
+    → merged ≡ w .merged
     → mergerStep w e merged .world ≡ w
 unfolding mergerStep
 merger-same w e merged a b c d =
@@ -220,7 +236,8 @@ merge-stays w m e n x q =
     let d : stepTaken (e .answer) (w .log k) (w .merged k) m ≡ w .merged k = rw q in
     (a, merger-same w e _ a b c (same-table (w .merged) k _ d))
 
-replay-stays : (w : World) (c : ℕ) (m : List ℕ) (n : ℕ) → replayOf (w .copy c) m .answer ≡ Refused n → replayStep w c m (replayOf (w .copy c) m) .world ≡ w
+replay-stays : (w : World) (c : ℕ) (m : List ℕ) (n : ℕ) → replayOf (w .copy c) m .answer ≡ Refused n
+    → replayStep w c m (replayOf (w .copy c) m) .world ≡ w
 unfolding replayStep copyStep replayOf stepTaken
 replay-stays w c m n =
     by-test (eqb (replayCode (w .copy c) m) 0)

@@ -76,7 +76,8 @@ module _ (history es : List Entry) (base : List Value) (p : Snapshot) (k : ℕ) 
   abbrev size : ℕ
   size = length es
 
-  recalled : (i j : ℕ) → i < remembered size → forgotten size + i ≡ j → wroteKey (recall history size i .keys) k ≡ wroteKey (entry j .keys) k
+  recalled : (i j : ℕ) → i < remembered size → forgotten size + i ≡ j
+      → wroteKey (recall history size i .keys) k ≡ wroteKey (entry j .keys) k
   recalled i j h e = ap (λ (a : Entry). wroteKey (a .keys) k) (x .recalls i h ∙ ap entry e)
 
   -- the number within the snapshot, and where they begin
@@ -92,15 +93,18 @@ module _ (history es : List Entry) (base : List Value) (p : Snapshot) (k : ℕ) 
       → versionOf history size base p k ≡ leftBelow entry k (p .installs)
   version-left l e b = go (spans l e) (left-since entry k (forgotten size) (p .installs) (omega (arith, spans l e .inside)))
     where
-      go : Spans → LastSince entry k (forgotten size) (p .installs) (leftBelow entry k (p .installs)) → versionOf history size base p k ≡ leftBelow entry k (p .installs)
+      go : Spans → LastSince entry k (forgotten size) (p .installs) (leftBelow entry k (p .installs))
+          → versionOf history size base p k ≡ leftBelow entry k (p .installs)
       go n (inl (none, q)) =
           version-base history size base p k
-          (λ j h. recalled j (forgotten size + j) (omega (arith, n .few)) refl ∙ none (forgotten size + j) (omega arith) (omega (arith, n .inside)))
+          (λ j h. recalled j (forgotten size + j) (omega (arith, n .few)) refl
+          ∙ none (forgotten size + j) (omega arith) (omega (arith, n .inside)))
           ∙ b ∙ sym q
       go n (inr (i, a, h, t, q, none)) =
           let j = i - forgotten size in
           let o : forgotten size + j ≡ i = omega arith in
           let m : j < within size p = omega (arith, n .inside) in
           version-wrote history size base p k j m (recalled j i (omega (arith, n .few)) o ∙ t)
-          (λ u y z. recalled u (forgotten size + u) (omega (arith, n .few)) refl ∙ none (forgotten size + u) (omega arith) (omega (arith, n .inside)))
+          (λ u y z. recalled u (forgotten size + u) (omega (arith, n .few)) refl
+          ∙ none (forgotten size + u) (omega arith) (omega (arith, n .inside)))
           ∙ ap (λ (a : Entry). wroteValue (a .keys) k) (x .recalls j (omega (arith, n .few)) ∙ ap entry o) ∙ sym q

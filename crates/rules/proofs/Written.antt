@@ -42,16 +42,19 @@ record-written r ws = refl
 pub house-is : (o : House) (n : ℕ) → o .sites ≡ n → o ≡ record { sites = n }
 house-is o n e = λ i. record { sites = e i }
 
-module _ {sites : ℕ} {w : World} {p : Protocol} (r : Refines sites w p) (inv : Invariant sites p) (f : (s : ℕ) → All (RecordOk sites) (w .log s)) where
+module _ {sites : ℕ} {w : World} {p : Protocol} (r : Refines sites w p) (inv : Invariant sites p)
+    (f : (s : ℕ) → All (RecordOk sites) (w .log s)) where
   -- a call that writes nothing, or one record, into the log of s
   same-log : (s : ℕ) (e : Effect) (base : List Value) → e .words ≡ [] → (j : ℕ) → All (RecordOk sites) (logStep w s e base .world .log j)
   unfolding logStep
   same-log s e base n = upd-cases (λ j l. All (RecordOk sites) l) (w .log) s _ (rw (n, append-nil) (f s)) (λ j k. f j)
 
-  more-log : (s : ℕ) (e : Effect) (base : List Value) (h : RecordHead) (ws : List ℕ) → e .words ≡ recordWords h ws → RecordOk sites (recordWords h ws)
+  more-log : (s : ℕ) (e : Effect) (base : List Value) (h : RecordHead) (ws : List ℕ) → e .words ≡ recordWords h ws
+      → RecordOk sites (recordWords h ws)
       → (j : ℕ) → All (RecordOk sites) (logStep w s e base .world .log j)
   unfolding logStep
-  more-log s e base h ws n o = upd-cases (λ j l. All (RecordOk sites) l) (w .log) s _ (rw (n, record-written h ws) (all-append (f s) (all-one o))) (λ j k. f j)
+  more-log s e base h ws n o =
+      upd-cases (λ j l. All (RecordOk sites) l) (w .log) s _ (rw (n, record-written h ws) (all-append (f s) (all-one o))) (λ j k. f j)
 
   module _ (s : ℕ) (out : List ℕ) where
     abbrev site : Site
@@ -74,14 +77,16 @@ module _ {sites : ℕ} {w : World} {p : Protocol} (r : Refines sites w p) (inv :
     report-written : (j : ℕ) → All (RecordOk sites) (step w (world.report s out) .world .log j)
     unfolding step reportOf
     report-written =
-        by-code (λ e. (j : ℕ) → All (RecordOk sites) (logStep w s e (w .base s) .world .log j)) (reportCode (siteOk site) (length out)) site [] reported
+        by-code (λ e. (j : ℕ) → All (RecordOk sites) (logStep w s e (w .base s) .world .log j)) (reportCode (siteOk site) (length out)) site
+        [] reported
         reports (same-log s (refused (reportCode (siteOk site) (length out)) site []) (w .base s) refl)
 
     abbrev due : ℕ
     due = leastQueued (site .live) sizes.live
 
     -- what is installed is a part of the house's, at a participant
-    part-passes : siteOk site ≡ true → isDue (site .live) due ≡ true → partOk (record { sites = sites }) (partWords (site .counters .own) (subAt site due)) ≡ true
+    part-passes : siteOk site ≡ true → isDue (site .live) due ≡ true
+        → partOk (record { sites = sites }) (partWords (site .counters .own) (subAt site due)) ≡ true
     unfolding isTx isSite
     part-passes v d =
         let (l, h) = inside r s v in
@@ -93,15 +98,22 @@ module _ {sites : ℕ} {w : World} {p : Protocol} (r : Refines sites w p) (inv :
         let x : AtStage p s t stage.decided = sym (ap (λ (b : Sub). b .course .stage) (at .part)) ∙ decided in
         let has = inv .parts .has s t (λ f. omega arith) in
         let (c, k) = inv .parts .site (coordinatorOf t) t (inv .parts .coordinator s t has) in
-        let tx : isTx (site .house) t ≡ true = rw (le-leb 1 (coordinatorOf t) c, le-leb (coordinatorOf t) (site .house .sites) (omega (arith, y .house)), le-leb 1 (serialOf t) (inv .parts .serial s t has .0)) in
+        let tx : isTx (site .house) t ≡ true =
+        rw (
+          le-leb 1 (coordinatorOf t) c,
+          le-leb (coordinatorOf t) (site .house .sites) (omega (arith, y .house)),
+          le-leb 1 (serialOf t) (inv .parts .serial s t has .0),
+        ) in
         let m = ap (λ (b : Sub). b .course .mask) (at .part) ∙ inv .courses .mask s t (λ f. omega arith) (λ f. omega arith) .1 in
-        let among : inMask (subAt site due .course .mask) (site .counters .own) ≡ true = rw (m, y .counters .own-is) (inv .account .yes s t (inv .courses .decided s t x .0) .1) in
+        let among : inMask (subAt site due .course .mask) (site .counters .own) ≡ true =
+        rw (m, y .counters .own-is) (inv .account .yes s t (inv .courses .decided s t x .0) .1) in
         rw (house-is (site .house) sites (y .house)) at (part-good site due v low tx among)
 
     abbrev code : ℕ
     code = installCode (siteOk site) (length out) (length (w .base s)) (isDue (site .live) due) (site .counters .installs)
 
-    installs : code ≡ 0 → (j : ℕ) → All (RecordOk sites) (logStep w s (installedAt site (w .base s) due) (installedAt site (w .base s) due .lent) .world .log j)
+    installs : code ≡ 0 → (j : ℕ)
+        → All (RecordOk sites) (logStep w s (installedAt site (w .base s) due) (installedAt site (w .base s) due .lent) .world .log j)
     unfolding installedAt partWords partHead
     installs e =
         let c = install-clear (siteOk site) (length out) (length (w .base s)) (isDue (site .live) due) (site .counters .installs) e in
@@ -110,7 +122,8 @@ module _ {sites : ℕ} {w : World} {p : Protocol} (r : Refines sites w p) (inv :
     install-written : (j : ℕ) → All (RecordOk sites) (step w (world.install s out) .world .log j)
     unfolding step installOf
     install-written =
-        by-code (λ e. (j : ℕ) → All (RecordOk sites) (logStep w s e (e .lent) .world .log j)) code site (w .base s) (installedAt site (w .base s) due)
+        by-code (λ e. (j : ℕ) → All (RecordOk sites) (logStep w s e (e .lent) .world .log j)) code site (w .base s)
+        (installedAt site (w .base s) due)
         installs (same-log s (refused code site (w .base s)) (w .base s) refl)
 
   pub call-written : (c : Call) (s : ℕ) → All (RecordOk sites) (step w c .world .log s)

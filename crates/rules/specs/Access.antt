@@ -61,12 +61,14 @@ readAt s base place k =
     let b = subAt s place in
     pick (wroteKey (b .keys) k)
     (record { answer = Found (wroteValue (b .keys) k); words = []; site = s; lent = [] })
-    (unless (readCode (isForgotten (s .counters .installs) (b .snapshot)) (readKey (b .keys) k) (b .keys .read)) s [] (readVersion s base place k))
+    (unless (readCode (isForgotten (s .counters .installs) (b .snapshot)) (readKey (b .keys) k) (b .keys .read)) s []
+    (readVersion s base place k))
 
 unfoldable pub readOf : Site → List Value → ℕ → ℕ → Effect
 readOf s base tx k =
     let place = placeOf (s .live) tx in
-    unless (accessCode (siteOk s) (length base) (s .house) (s .counters .own) k place (stageAt (s .live) place)) s [] (readAt s base place k)
+    unless (accessCode (siteOk s) (length base) (s .house) (s .counters .own) k place (stageAt (s .live) place)) s []
+    (readAt s base place k)
 
 -- Write: kept privately; the key is held until install or abort.
 abbrev pub writeCauses : Bool → Bool → Bool → ℕ → List Cause

@@ -14,18 +14,21 @@ use Rattle.rules.specs.Valid.{siteOk}
 use Rattle.rules.specs.Access.{accessCode, readCode, readVersion, readAt, readOf, writeCodeAt, written, writeAt, writeOf}
 
 module _ (s : Site) (base : List Value) (tx k place : ℕ) (p : place ≡ placeOf (s .live) tx) where
-  pub read-past : accessCode (siteOk s) (length base) (s .house) (s .counters .own) k place (stageAt (s .live) place) ≡ 0 → readOf s base tx k ≡ readAt s base place k
+  pub read-past : accessCode (siteOk s) (length base) (s .house) (s .counters .own) k place (stageAt (s .live) place) ≡ 0
+      → readOf s base tx k ≡ readAt s base place k
   unfolding readOf
   read-past a = rw (← p, a)
 
   pub read-version : accessCode (siteOk s) (length base) (s .house) (s .counters .own) k place (stageAt (s .live) place) ≡ 0
       → wroteKey (subAt s place .keys) k ≡ false
-      → readCode (isForgotten (s .counters .installs) (subAt s place .snapshot)) (readKey (subAt s place .keys) k) (subAt s place .keys .read) ≡ 0
+      → readCode (isForgotten (s .counters .installs) (subAt s place .snapshot)) (readKey (subAt s place .keys) k)
+      (subAt s place .keys .read) ≡ 0
       → readOf s base tx k ≡ readVersion s base place k
   unfolding readAt
   read-version a w r = read-past a ∙ rw (w, r)
 
-  pub write-past : (v : Value) → accessCode (siteOk s) sizes.keys (s .house) (s .counters .own) k place (stageAt (s .live) place) ≡ 0 → writeOf s tx k v ≡ writeAt s place k v
+  pub write-past : (v : Value) → accessCode (siteOk s) sizes.keys (s .house) (s .counters .own) k place (stageAt (s .live) place) ≡ 0
+      → writeOf s tx k v ≡ writeAt s place k v
   unfolding writeOf
   write-past v a = rw (← p, a)
 

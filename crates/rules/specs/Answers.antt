@@ -2,7 +2,8 @@
 use Prim.Native.Nat.{ℕ}
 use mathlib.Core.Bool.{Bool, true, false}
 use Rattle.kinds.specs.declared.Answer.{Answer}
-use Rattle.kinds.specs.declared.Answer.the-variants.{Refused, Done, Begun, Found, Committed, Aborted, Installed, Reported, Emitted, Standing}
+use Rattle.kinds.specs.declared.Answer.the-variants.{Refused, Done, Begun, Found, Committed, Aborted, Installed, Reported, Emitted}
+use Rattle.kinds.specs.declared.Answer.the-variants.{Standing}
 
 -- by cases; a refusal, an abort, and what report, emit and value answer are `other`
 abbrev pub onAnswer : {A : Type 0} → A → A → (ℕ → A) → (ℕ → A) → (ℕ → A) → (ℕ → ℕ → A) → Answer → A

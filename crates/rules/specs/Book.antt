@@ -35,7 +35,8 @@ begins s = onBegun [] (λ tx. began s tx ∷ [])
 abbrev pub joins : ℕ → List ℕ → List ℕ → Answer → List Fact
 joins s m words =
     onDone []
-    (pick (every (eqb (messageHead m .kind) kind.join ∷ eqb (getD words word.argument reason.full) 0 ∷ [])) (began s (messageHead m .tx) ∷ []) [])
+    (pick (every (eqb (messageHead m .kind) kind.join ∷ eqb (getD words word.argument reason.full) 0 ∷ []))
+    (began s (messageHead m .tx) ∷ []) [])
 
 -- reads and writes use their key; a write sets its transaction's value for it
 abbrev pub uses : ℕ → ℕ → Answer → List Fact

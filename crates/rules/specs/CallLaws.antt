@@ -32,7 +32,8 @@ pub record AccessClear (ok : Bool) (room : ℕ) (o : House) (own : ℕ) (k : ℕ
   pub held : place < sizes.live
   pub active : st ≡ stage.active
 
-pub access-clear : (ok : Bool) (room : ℕ) (o : House) (own : ℕ) (k : ℕ) (place : ℕ) (st : ℕ) → accessCode ok room o own k place st ≡ 0 → AccessClear ok room o own k place st
+pub access-clear : (ok : Bool) (room : ℕ) (o : House) (own : ℕ) (k : ℕ) (place : ℕ) (st : ℕ) → accessCode ok room o own k place st ≡ 0
+    → AccessClear ok room o own k place st
 unfolding accessCode
 access-clear ok room o own k place st e =
     let l = accessCauses ok room o own k place st in
@@ -64,7 +65,8 @@ pub record WriteClear (lost : Bool) (held : Bool) (newer : Bool) (wrote : ℕ) :
   pub latest : newer ≡ false
   pub room : wrote < sizes.writes
 
-pub write-clear : (lost : Bool) (held : Bool) (newer : Bool) (wrote : ℕ) → writeCode lost held newer wrote ≡ 0 → WriteClear lost held newer wrote
+pub write-clear : (lost : Bool) (held : Bool) (newer : Bool) (wrote : ℕ) → writeCode lost held newer wrote ≡ 0
+    → WriteClear lost held newer wrote
 unfolding writeCode
 write-clear lost held newer wrote e =
     let l = writeCauses lost held newer wrote in
@@ -82,7 +84,8 @@ pub record EnlistClear (ok : Bool) (room : ℕ) (known : Bool) (place : ℕ) (mi
   pub held : place < sizes.live
   pub coordinator : mine ≡ true
 
-pub enlist-clear : (ok : Bool) (room : ℕ) (known : Bool) (place : ℕ) (mine : Bool) → enlistCode ok room known place mine ≡ 0 → EnlistClear ok room known place mine
+pub enlist-clear : (ok : Bool) (room : ℕ) (known : Bool) (place : ℕ) (mine : Bool) → enlistCode ok room known place mine ≡ 0
+    → EnlistClear ok room known place mine
 unfolding enlistCode
 enlist-clear ok room known place mine e =
     let l = enlistCauses ok room known place mine in
@@ -204,7 +207,8 @@ pub record InstallClear (ok : Bool) (room : ℕ) (given : ℕ) (due : Bool) (ins
   pub unspent : installs < sizes.last
   pub least : due ≡ true
 
-pub install-clear : (ok : Bool) (room : ℕ) (given : ℕ) (due : Bool) (installs : ℕ) → installCode ok room given due installs ≡ 0 → InstallClear ok room given due installs
+pub install-clear : (ok : Bool) (room : ℕ) (given : ℕ) (due : Bool) (installs : ℕ) → installCode ok room given due installs ≡ 0
+    → InstallClear ok room given due installs
 unfolding installCode
 install-clear ok room given due installs e =
     let l = installCauses ok room given due installs in
@@ -212,7 +216,8 @@ install-clear ok room given due installs e =
       long = ltb-false room sizes.part (clear-at l 0 refl e);
       whole = eqb-true given sizes.keys (not-false (eqb given sizes.keys) (clear-at l 1 refl e));
       valid = not-false ok (clear-at l 2 refl e);
-      unspent = leb-false sizes.last installs (not-both due (leb sizes.last installs) (clear-at l 3 refl e) (not-false due (clear-at l 4 refl e)));
+      unspent = leb-false sizes.last installs
+          (not-both due (leb sizes.last installs) (clear-at l 3 refl e) (not-false due (clear-at l 4 refl e)));
       least = not-false due (clear-at l 4 refl e);
     }
 

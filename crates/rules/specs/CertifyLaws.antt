@@ -26,8 +26,10 @@ use Rattle.rules.specs.Live.{partAt, isPrepared, isPartOf, placeOf, isHe
 use Rattle.rules.specs.History.{recall, remembered, forgotten, within, recallPlace}
 use Rattle.rules.specs.HistoryLaws.{remembered-few}
 use Rattle.rules.specs.JoinLaws.{count-le, count-joined, join-whole}
-use Rattle.rules.specs.Certify.{markOf, concurrentWords, preparedWords, installedWords, preparedList, installedList, candidates, concurrent, conflictsAt, conflictsWith, isRecorded, uncertainOf, voteOf}
-use Rattle.rules.specs.EntryLaws.{gathered, Entries, gathered-at, gathered-marks, Holds, Listing, Marks, joined-lists, joined-ascends, append-left, append-right, append-marks}
+use Rattle.rules.specs.Certify.{markOf, concurrentWords, preparedWords, installedWords, preparedList, installedList, candidates}
+use Rattle.rules.specs.Certify.{concurrent, conflictsAt, conflictsWith, isRecorded, uncertainOf, voteOf}
+use Rattle.rules.specs.EntryLaws.{gathered, Entries, gathered-at, gathered-marks, Holds, Listing, Marks, joined-lists, joined-ascends}
+use Rattle.rules.specs.EntryLaws.{append-left, append-right, append-marks}
 
 -- The candidates.
 
@@ -37,7 +39,8 @@ mark-low false = omega arith
 
 words-marks : (own : Keys) (tx mask : ℕ) (other : Keys) → Marks (concurrentWords own tx mask other)
 words-marks own tx mask other zero = mark-low (dependent own other)
-words-marks own tx mask other (suc k) = let z = List·getD-eq-default (concurrentWords own tx mask other) 0 {n = sizes.entry * suc k + 2} (omega arith) in omega arith
+words-marks own tx mask other (suc k) = let z =
+    List·getD-eq-default (concurrentWords own tx mask other) 0 {n = sizes.entry * suc k + 2} (omega arith) in omega arith
 
 none-marks : Marks []
 none-marks k = omega arith
@@ -54,7 +57,8 @@ prepared-is place own i b f g =
     (λ u. f (eqb-false i place t) u (rw (t, u)))
     (λ u. g (rw (t, u))))
 
-pub prepared-each : (place : ℕ) (own : Keys) (i : ℕ) (b : Sub) → (length (preparedWords place own i b) ≡ 0) ⊎ (length (preparedWords place own i b) ≡ sizes.entry)
+pub prepared-each : (place : ℕ) (own : Keys) (i : ℕ) (b : Sub)
+    → (length (preparedWords place own i b) ≡ 0) ⊎ (length (preparedWords place own i b) ≡ sizes.entry)
 prepared-each place own i b = prepared-is place own i b (λ n p e. inr (ap length e)) (λ e. inl (ap length e))
 
 prepared-marks : (place : ℕ) (own : Keys) (i : ℕ) (b : Sub) → Marks (preparedWords place own i b)
@@ -78,19 +82,23 @@ unfolding installedList foldBelow
 installed-none history installs own seen = refl
 
 pub installed-more : (history : List Entry) (installs : ℕ) (own : Keys) (seen i : ℕ)
-    → installedList history installs own seen (i + 1) ≡ installedList history installs own seen i ++ installedWords own (recall history installs (seen + i))
+    → installedList history installs own seen (i + 1)
+    ≡ installedList history installs own seen i ++ installedWords own (recall history installs (seen + i))
 unfolding installedList
 installed-more history installs own seen i = fold-more (λ i ws. ws ++ installedWords own (recall history installs (seen + i))) i []
 
-pub length-installed : (history : List Entry) (installs : ℕ) (own : Keys) (seen n : ℕ) → length (installedList history installs own seen n) ≡ sizes.entry * n
+pub length-installed : (history : List Entry) (installs : ℕ) (own : Keys) (seen n : ℕ)
+    → length (installedList history installs own seen n) ≡ sizes.entry * n
 unfolding installedWords
 length-installed history installs own seen zero = ap length (installed-none history installs own seen)
 length-installed history installs own seen (suc n) =
     let e = rw add-one at (installed-more history installs own seen n) in
-    ap length e ∙ length-append (installedList history installs own seen n) (installedWords own (recall history installs (seen + n))) ∙ omega (arith, length-installed history installs own seen n)
+    ap length e ∙ length-append (installedList history installs own seen n) (installedWords own (recall history installs (seen + n)))
+    ∙ omega (arith, length-installed history installs own seen n)
 
 -- one entry for a place at most, and none for the own
-pub prepared-few : (live : List Sub) (place n : ℕ) → (k : ℕ) × (length (preparedList live place n) ≡ sizes.entry * k) × (k ≤ n) × (place < n → k + 1 ≤ n)
+pub prepared-few : (live : List Sub) (place n : ℕ)
+    → (k : ℕ) × (length (preparedList live place n) ≡ sizes.entry * k) × (k ≤ n) × (place < n → k + 1 ≤ n)
 prepared-few live place zero = (0, ap length (prepared-none live place), omega arith, λ h. absurd (omega arith))
 prepared-few live place (suc n) =
     let (k, e, l, f) = prepared-few live place n in
@@ -98,10 +106,16 @@ prepared-few live place (suc n) =
     let m = rw add-one at (prepared-more live place n) in
     let q = ap length m ∙ length-append (preparedList live place n) (preparedWords place own n (partAt live n)) in
     prepared-is place own n (partAt live n)
-    (λ a b z. let w = ap length z in (k + 1, omega arith, omega arith, λ h. split-last h (λ (x : place ≡ n). absurd (a (sym x))) (λ (x : place < n). omega (arith, f x))))
+    (λ a b z. let w = ap length z in (
+      k + 1,
+      omega arith,
+      omega arith,
+      λ h. split-last h (λ (x : place ≡ n). absurd (a (sym x))) (λ (x : place < n). omega (arith, f x)),
+    ))
     (λ z. let w = ap length z in (k, omega arith, omega arith, λ h. omega arith))
 
-gathered-holds : (f : ℕ → List ℕ) → Entries f → (n i : ℕ) (own : Keys) (t m : ℕ) (other : Keys) → i < n → f i ≡ concurrentWords own t m other
+gathered-holds : (f : ℕ → List ℕ) → Entries f → (n i : ℕ) (own : Keys) (t m : ℕ) (other : Keys) → i < n
+    → f i ≡ concurrentWords own t m other
     → Holds (gathered f n) t m (markOf (dependent own other))
 unfolding entryCount
 gathered-holds f each n i own t m other h e =
@@ -111,7 +125,8 @@ gathered-holds f each n i own t m other h e =
     (k, omega arith, at 0 (omega arith), at 1 (omega arith), at 2 (omega arith))
 
 prepared-holds : (live : List Sub) (place i : ℕ) → i < sizes.live → (i ≡ place → ⊥) → isPrepared (partAt live i) ≡ true
-    → Holds (preparedList live place sizes.live) (partAt live i .tx) (partAt live i .course .mask) (markOf (dependent (partAt live place .keys) (partAt live i .keys)))
+    → Holds (preparedList live place sizes.live) (partAt live i .tx) (partAt live i .course .mask)
+    (markOf (dependent (partAt live place .keys) (partAt live i .keys)))
 unfolding preparedList preparedWords
 prepared-holds live place i h n p =
     let own = partAt live place .keys in
@@ -119,7 +134,8 @@ prepared-holds live place i h n p =
     (partAt live i .tx) (partAt live i .course .mask) (partAt live i .keys) h (rw (ne-eqb i place n, p))
 
 installed-holds : (history : List Entry) (installs : ℕ) (own : Keys) (seen n i : ℕ) → i < n
-    → (let e = recall history installs (seen + i) in Holds (installedList history installs own seen n) (e .tx) (e .mask) (markOf (dependent own (e .keys))))
+    → (let e = recall history installs (seen + i) in
+    Holds (installedList history installs own seen n) (e .tx) (e .mask) (markOf (dependent own (e .keys))))
 unfolding installedList installedWords
 installed-holds history installs own seen n i h =
     let e = recall history installs (seen + i) in
@@ -133,9 +149,11 @@ module _ (s : Site) (place : ℕ) where
       let b = subAt s place in
       let (k, e, l, _) = prepared-few (s .live) place sizes.live in
       append-marks (preparedList (s .live) place sizes.live) _ k e
-      (gathered-marks (λ i. preparedWords place (b .keys) i (subAt s i)) (λ i. prepared-each place (b .keys) i (subAt s i)) (λ i. prepared-marks place (b .keys) i (subAt s i)) sizes.live)
+      (gathered-marks (λ i. preparedWords place (b .keys) i (subAt s i)) (λ i. prepared-each place (b .keys) i (subAt s i))
+      (λ i. prepared-marks place (b .keys) i (subAt s i)) sizes.live)
       (gathered-marks (λ i. installedWords (b .keys) (recall (s .history) n (within n (b .snapshot) + i))) (λ i. inr refl)
-      (λ i. words-marks (b .keys) (recall (s .history) n (within n (b .snapshot) + i) .tx) (recall (s .history) n (within n (b .snapshot) + i) .mask) (recall (s .history) n (within n (b .snapshot) + i) .keys)) _)
+      (λ i. words-marks (b .keys) (recall (s .history) n (within n (b .snapshot) + i) .tx)
+      (recall (s .history) n (within n (b .snapshot) + i) .mask) (recall (s .history) n (within n (b .snapshot) + i) .keys)) _)
 
   -- at most 15 prepared ones and 32 installs
   pub candidates-few : place < sizes.live → (k : ℕ) × (length (candidates s place) ≡ sizes.entry * k) × (k ≤ sizes.concEntries)
@@ -162,7 +180,8 @@ module _ (s : Site) (place : ℕ) where
       omega (arith, count-joined es (entryCount es), count-le es (entryCount es))
 
   -- ascends by transaction,
-  pub concurrent-ascends : (j : ℕ) → j < entryCount (concurrent s place) → entryBefore (concurrent s place) j < entryTx (concurrent s place) j
+  pub concurrent-ascends : (j : ℕ) → j < entryCount (concurrent s place)
+      → entryBefore (concurrent s place) j < entryTx (concurrent s place) j
   unfolding concurrent
   concurrent-ascends j h =
       let es = candidates s place in
@@ -175,12 +194,14 @@ module _ (s : Site) (place : ℕ) where
   lists-prepared i h n p t =
       let (k, e, l, _) = prepared-few (s .live) place sizes.live in
       let es = candidates s place in
-      joined-lists es (entryCount es) (subAt s i .tx) (subAt s i .course .mask) (dependent (subAt s place .keys) (subAt s i .keys)) refl candidates-marks t
+      joined-lists es (entryCount es) (subAt s i .tx) (subAt s i .course .mask) (dependent (subAt s place .keys) (subAt s i .keys)) refl
+      candidates-marks t
       (append-left (preparedList (s .live) place sizes.live) _ k e _ _ _ (prepared-holds (s .live) place i h n p))
 
   -- and every remembered install after the snapshot.
   pub lists-installed : (i : ℕ) → within (s .counters .installs) (subAt s place .snapshot) ≤ i → i < remembered (s .counters .installs)
-      → (let e = recall (s .history) (s .counters .installs) i in 0 < e .tx → Listing (concurrent s place) (e .tx) (e .mask) (dependent (subAt s place .keys) (e .keys)))
+      → (let e = recall (s .history) (s .counters .installs) i in 0 < e .tx
+      → Listing (concurrent s place) (e .tx) (e .mask) (dependent (subAt s place .keys) (e .keys)))
   unfolding concurrent candidates
   lists-installed i h l t =
       let (k, e, m, _) = prepared-few (s .live) place sizes.live in
@@ -221,7 +242,8 @@ conflict-any s place es n c =
     let e = recall (s .history) (s .counters .installs) (c .install) in
     let own = subAt s place .keys in
     let t : some (eqb (entryMark es (c .entry)) 1 ∷ dependent own (e .keys) ∷ []) ≡ true =
-    ⊎-elim (λ (m : entryMark es (c .entry) ≡ 1). rw (eq-eqb (entryMark es (c .entry)) 1 m)) (λ (d : dependent own (e .keys) ≡ true). rw d (second (eqb (entryMark es (c .entry)) 1))) (c .how) in
+    ⊎-elim (λ (m : entryMark es (c .entry) ≡ 1). rw (eq-eqb (entryMark es (c .entry)) 1 m))
+    (λ (d : dependent own (e .keys) ≡ true). rw d (second (eqb (entryMark es (c .entry)) 1))) (c .how) in
     sym (any-below (conflictsWith s place es) n (c .entry) (c .listed)
     (sym (any-below (λ k. conflictsAt own es (c .entry) (recall (s .history) (s .counters .installs) k)) _ (c .install) (c .seen)
     (rw (eq-eqb (entryTx es (c .entry)) (e .tx) (c .same), t)))))
@@ -244,19 +266,22 @@ any-conflict s place es n t =
           ⊎-elim
           (λ (q : eqb (entryMark es i) 1 ≡ true). inl (eqb-true (entryMark es i) 1 q))
           (λ (q : dependent own (e .keys) ≡ true). inr q)
-          (some-two (eqb (entryMark es i) 1) (dependent own (e .keys)) (picked-left y true (picked-right (eqb (entryTx es i) (e .tx)) (every (y ∷ [])) v)));
+          (some-two (eqb (entryMark es i) 1) (dependent own (e .keys))
+          (picked-left y true (picked-right (eqb (entryTx es i) (e .tx)) (every (y ∷ [])) v)));
     }
 
 doubt-any : (s : Site) (es : List ℕ) (n : ℕ) → Doubt s es n → anyBelow (uncertainOf s es) n ≡ true
 unfolding uncertainOf
 doubt-any s es n d =
-    sym (any-below (uncertainOf s es) n (d .entry) (d .listed) (rw (lt-ltb 0 (forgotten (s .counters .installs)) (d .lost), d .names, d .none)))
+    sym (any-below (uncertainOf s es) n (d .entry) (d .listed)
+    (rw (lt-ltb 0 (forgotten (s .counters .installs)) (d .lost), d .names, d .none)))
 
 any-doubt : (s : Site) (es : List ℕ) (n : ℕ) → anyBelow (uncertainOf s es) n ≡ true → Doubt s es n
 unfolding uncertainOf
 any-doubt s es n t =
     let (i, l, w) = any-below-at (uncertainOf s es) n t in
-    let tests = ltb 0 (forgotten (s .counters .installs)) ∷ inMask (entryMask es i) (s .counters .own) ∷ not (isRecorded s (entryTx es i)) ∷ [] in
+    let tests = ltb 0 (forgotten (s .counters .installs)) ∷ inMask (entryMask es i) (s .counters .own)
+    ∷ not (isRecorded s (entryTx es i)) ∷ [] in
     record {
       entry = i;
       listed = l;
@@ -270,7 +295,8 @@ pub conflict-voted : (s : Site) (place : ℕ) (es : List ℕ) (n : ℕ) → Conf
 unfolding voteOf
 conflict-voted s place es n c = rw (conflict-any s place es n c)
 
-pub doubt-voted : (s : Site) (place : ℕ) (es : List ℕ) (n : ℕ) → (Conflict s place es n → ⊥) → Doubt s es n → voteOf s place es n ≡ reason.uncertain
+pub doubt-voted : (s : Site) (place : ℕ) (es : List ℕ) (n : ℕ) → (Conflict s place es n → ⊥) → Doubt s es n
+    → voteOf s place es n ≡ reason.uncertain
 unfolding voteOf
 doubt-voted s place es n f d =
     by-test (anyBelow (conflictsWith s place es) n)
@@ -295,27 +321,33 @@ pub yes-clear : (s : Site) (place : ℕ) (es : List ℕ) (n : ℕ) → voteOf s 
     → (entryMark es j ≡ 1 → ⊥) × (dependent (subAt s place .keys) (recall (s .history) (s .counters .installs) k .keys) ≡ false)
 yes-clear s place es n v j k h l e =
     let no : ((entryMark es j ≡ 1) ⊎ (dependent (subAt s place .keys) (recall (s .history) (s .counters .installs) k .keys) ≡ true)) → ⊥ =
-    λ w. (let c = conflict-voted s place es n (record { entry = j; install = k; listed = h; seen = l; same = e; how = w }) in omega arith) in
-    (λ m. no (inl m), by-test (dependent (subAt s place .keys) (recall (s .history) (s .counters .installs) k .keys)) (λ t. absurd (no (inr t))) (λ t. t))
+    λ w. (let c = conflict-voted s place es n (record { entry = j; install = k; listed = h; seen = l; same = e; how = w }) in
+    omega arith) in (
+      λ m. no (inl m),
+      by-test (dependent (subAt s place .keys) (recall (s .history) (s .counters .installs) k .keys)) (λ t. absurd (no (inr t))) (λ t. t),
+    )
 
 -- and each that names this site is on record, where something has been forgotten.
 pub yes-recorded : (s : Site) (place : ℕ) (es : List ℕ) (n : ℕ) → voteOf s place es n ≡ 0 → (j : ℕ) → j < n
     → 0 < forgotten (s .counters .installs) → inMask (entryMask es j) (s .counters .own) ≡ true → isRecorded s (entryTx es j) ≡ true
 yes-recorded s place es n v j h l i =
     by-vote s place es n
-    (λ e c d. by-test (isRecorded s (entryTx es j)) (λ t. t) (λ t. absurd (d (record { entry = j; listed = h; lost = l; names = i; none = t }))))
+    (λ e c d. by-test (isRecorded s (entryTx es j)) (λ t. t)
+    (λ t. absurd (d (record { entry = j; listed = h; lost = l; names = i; none = t }))))
     (λ e c. absurd (omega arith))
     (λ e c d. absurd (omega arith))
 
 -- On record: live here, or remembered.
 pub recorded-is : (s : Site) (tx : ℕ) → isRecorded s tx ≡ true
-    → ((i : ℕ) × (i < sizes.live) × (isPartOf (subAt s i) tx ≡ true)) ⊎ ((k : ℕ) × (k < remembered (s .counters .installs)) × (recall (s .history) (s .counters .installs) k .tx ≡ tx))
+    → ((i : ℕ) × (i < sizes.live) × (isPartOf (subAt s i) tx ≡ true))
+    ⊎ ((k : ℕ) × (k < remembered (s .counters .installs)) × (recall (s .history) (s .counters .installs) k .tx ≡ tx))
 unfolding isRecorded isHeld placeOf recallPlace
 recorded-is s tx t =
     let held : ℕ → Bool = λ i. isPartOf (subAt s i) tx in
     let kept : ℕ → Bool = λ k. eqb (recall (s .history) (s .counters .installs) k .tx) tx in
     let m = remembered (s .counters .installs) in
     ⊎-elim
-    (λ (h : ltb (firstBelow held sizes.live) sizes.live ≡ true). inl (firstBelow held sizes.live, ltb-true _ _ h, at-first held sizes.live (ltb-true _ _ h)))
+    (λ (h : ltb (firstBelow held sizes.live) sizes.live ≡ true). inl
+    (firstBelow held sizes.live, ltb-true _ _ h, at-first held sizes.live (ltb-true _ _ h)))
     (λ (h : ltb (firstBelow kept m) m ≡ true). inr (firstBelow kept m, ltb-true _ _ h, eqb-true _ _ (at-first kept m (ltb-true _ _ h))))
     (some-two (ltb (firstBelow held sizes.live) sizes.live) (ltb (firstBelow kept m) m) t)

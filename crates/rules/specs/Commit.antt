@@ -66,14 +66,16 @@ commitChange s place =
     (pick (isLost s place) (abortStep (turnAt s place) reason.uncertain) (requestChange s place (concurrent s place)))
 
 unfoldable pub commitLists : Site → List ℕ → ℕ → List ℕ
-commitLists s lists place = pick (isFull s place) lists (pick (isLost s place) lists (putAt (sizes.gathered * place) lists (concurrent s place)))
+commitLists s lists place =
+    pick (isFull s place) lists (pick (isLost s place) lists (putAt (sizes.gathered * place) lists (concurrent s place)))
 
 unfoldable pub commitOf : Site → ℕ → List ℕ → ℕ → Effect
 commitOf s room lists tx =
     let place = placeOf (s .live) tx in
     let c = subAt s place .course in
     unless (requestCode (handedOk s lists) room place (isMine s tx)) s lists
-    (unless (commitCode (c .stage) (allHeard (s .counters .own) (c .heard) (c .mask)) (countsLow (s .channels .sent) (c .mask) (s .counters .own))) s lists
+    (unless (commitCode (c .stage) (allHeard (s .counters .own) (c .heard) (c .mask))
+    (countsLow (s .channels .sent) (c .mask) (s .counters .own))) s lists
     (changed s place (commitChange s place) (commitLists s lists place)))
 
 -- Abandon, before the decision.

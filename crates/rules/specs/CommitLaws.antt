@@ -19,7 +19,8 @@ use Rattle.rules.specs.Commit.{requestChange, isFull, isLost, commitChan
 module _ (s : Site) (place : ℕ) where
   pub request-lone : (own : List ℕ) (n : ℕ) → entryCount own ≡ n → allHeard (s .counters .own) 0 (subAt s place .course .mask) ≡ true
       → requestChange s place own
-      ≡ castStep (withCourseOf (turnAt s place) (withRequest (subAt s place .course) n)) (voteOf s place (joined own n) (entryCount (joined own n))) (joined own n)
+      ≡ castStep (withCourseOf (turnAt s place) (withRequest (subAt s place .course) n))
+      (voteOf s place (joined own n) (entryCount (joined own n))) (joined own n)
   unfolding requestChange
   request-lone own n k h = rw (k, h)
 
@@ -48,6 +49,7 @@ module _ (s : Site) (place : ℕ) where
   unfolding commitLists
   lists-lost lists f l = rw (f, l)
 
-  pub lists-made : (lists : List ℕ) → isFull s place ≡ false → isLost s place ≡ false → commitLists s lists place ≡ putAt (sizes.gathered * place) lists (concurrent s place)
+  pub lists-made : (lists : List ℕ) → isFull s place ≡ false → isLost s place ≡ false
+      → commitLists s lists place ≡ putAt (sizes.gathered * place) lists (concurrent s place)
   unfolding commitLists
   lists-made lists f l = rw (f, l)

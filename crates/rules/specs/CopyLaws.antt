@@ -12,7 +12,8 @@ use Rattle.laws.specs.Pair.{precedes}
 use Rattle.laws.specs.Scan.{all-below-at, fold-more}
 use Rattle.kinds.specs.Reason as reason
 use Rattle.kinds.specs.Sizes as sizes
-use Rattle.rules.specs.Record.{keyAscends, mergedOk, mergedTests, mergedWriteOk, recordHead, recordLength, recordWrites, writeKey, writeValue}
+use Rattle.rules.specs.Record.{keyAscends, mergedOk, mergedTests, mergedWriteOk, recordHead, recordLength, recordWrites, writeKey}
+use Rattle.rules.specs.Record.{writeValue}
 use Rattle.rules.specs.RecordLaws.{merged-clear, merged-passed-good, shape-clear}
 use Rattle.rules.specs.Copy.{copyCoordinator, copyNumber, putWrites, replayCode, valueCode}
 
@@ -67,6 +68,7 @@ value-ready copy k e =
     record { size = eqb-true _ _ (not-false _ (clear-at l 0 refl e)); low = leb-false _ _ (clear-at l 1 refl e) }
 
 -- One write more.
-pub put-more : (copy ws : List ℕ) (i : ℕ) → putWrites copy ws (i + 1) ≡ set (putWrites copy ws i) (sizes.copyHeader + writeKey ws i) (writeValue ws i)
+pub put-more : (copy ws : List ℕ) (i : ℕ)
+    → putWrites copy ws (i + 1) ≡ set (putWrites copy ws i) (sizes.copyHeader + writeKey ws i) (writeValue ws i)
 unfolding putWrites
 put-more copy ws i = fold-more _ i copy

@@ -66,7 +66,8 @@ unfoldable pub sendTo : Turn → ℕ → ℕ → ℕ → ℕ → List ℕ → Ch
 sendTo t k to clock argument es =
     record {
       answer = Done;
-      words = messageWords (headOf k (t .counters .own) to (getD (t .channels .sent) (to - 1) 0 + 1) (t .sub .tx) clock argument (entryCount es)) es;
+      words = messageWords
+          (headOf k (t .counters .own) to (getD (t .channels .sent) (to - 1) 0 + 1) (t .sub .tx) clock argument (entryCount es)) es;
       turn = record { counters = t .counters; channels = sentTo (t .channels) to; sub = t .sub };
     }
 
@@ -76,12 +77,16 @@ sendAll t a k clock argument es =
     record {
       answer = a;
       words =
-          messagesTo (headOf k (t .counters .own) 0 0 (t .sub .tx) clock argument (entryCount es)) (t .channels .sent) (t .sub .course .mask) es
+          messagesTo (headOf k (t .counters .own) 0 0 (t .sub .tx) clock argument (entryCount es)) (t .channels .sent)
+          (t .sub .course .mask) es
           sizes.sites;
       turn =
           record {
             counters = t .counters;
-            channels = record { sent = stepRecipients (t .channels .sent) (t .sub .course .mask) (t .counters .own) sizes.sites; taken = t .channels .taken };
+            channels = record {
+              sent = stepRecipients (t .channels .sent) (t .sub .course .mask) (t .counters .own) sizes.sites;
+              taken = t .channels .taken;
+            };
             sub = t .sub;
           };
     }
@@ -99,7 +104,14 @@ leaving b c = record { answer = c .answer; words = c .words; turn = withSubOf (c
 -- enlist: a participant more, and JOIN to it
 unfoldable pub withParticipant : Course → ℕ → Course
 withParticipant c site =
-    record { stage = c .stage; mask = bitOr (c .mask) (maskOf site); number = c .number; heard = c .heard; reason = c .reason; listed = c .listed }
+    record {
+      stage = c .stage;
+      mask = bitOr (c .mask) (maskOf site);
+      number = c .number;
+      heard = c .heard;
+      reason = c .reason;
+      listed = c .listed;
+    }
 
 unfoldable pub enlistStep : Turn → ℕ → Change
 enlistStep t site = sendTo (withCourseOf t (withParticipant (t .sub .course) site)) kind.join site 0 0 []
@@ -111,7 +123,14 @@ isOutstanding c site = every (inMask (c .mask) site ∷ not (inMask (c .heard) s
 -- a reply heard, with a reason or none, and so many entries more
 unfoldable pub withReply : Course → ℕ → ℕ → ℕ → Course
 withReply c site r entries =
-    record { stage = c .stage; mask = c .mask; number = c .number; heard = bitOr (c .heard) (maskOf site); reason = max (c .reason) r; listed = c .listed + entries }
+    record {
+      stage = c .stage;
+      mask = c .mask;
+      number = c .number;
+      heard = bitOr (c .heard) (maskOf site);
+      reason = max (c .reason) r;
+      listed = c .listed + entries;
+    }
 
 -- abort: ABORT goes to the others, and the part is gone
 unfoldable pub abortStep : Turn → ℕ → Change
@@ -139,7 +158,8 @@ withMark c clock = record { stage = stage.queued; mask = c .mask; number = clock
 unfoldable pub castStep : Turn → ℕ → List ℕ → Change
 castStep t v es =
     let q = withCourseOf t (withMark (t .sub .course) (t .counters .clock)) in
-    pick (eqb v 0) (pick (allHeard (t .counters .own) 0 (t .sub .course .mask)) (decideStep q) (sendAll q Done kind.cert 0 0 es)) (abortStep t v)
+    pick (eqb v 0) (pick (allHeard (t .counters .own) 0 (t .sub .course .mask)) (decideStep q) (sendAll q Done kind.cert 0 0 es))
+    (abortStep t v)
 
 -- the commit request, once its list of n entries is made
 unfoldable pub withRequest : Course → ℕ → Course
@@ -156,7 +176,8 @@ voteDecides own c from v = some (not (eqb v 0) ∷ allHeard own (withReply c fro
 unfoldable pub voteStep : Turn → ℕ → ℕ → Change
 voteStep t site v =
     let c = withReply (t .sub .course) site 0 0 in
-    pick (eqb v 0) (pick (allHeard (t .counters .own) (c .heard) (c .mask)) (decideStep (withCourseOf t c)) (quietly (withCourseOf t c))) (abortStep t v)
+    pick (eqb v 0) (pick (allHeard (t .counters .own) (c .heard) (c .mask)) (decideStep (withCourseOf t c)) (quietly (withCourseOf t c)))
+    (abortStep t v)
 
 -- A participant's steps.
 

@@ -18,7 +18,8 @@ no-entries = (refl, omega arith)
 pub to-course : (t u : Turn) (c : Course) (to room : ℕ) → u ≡ withCourseOf t c → CanSendTo t to room → CanSendTo u to room
 to-course t u c to room e p = rw e (record { long = p .long; first = p .first; last = p .last; low = p .low })
 
-pub all-course : (t u : Turn) (c : Course) (room : ℕ) → u ≡ withCourseOf t c → c .mask ≡ t .sub .course .mask → CanSendAll t room → CanSendAll u room
+pub all-course : (t u : Turn) (c : Course) (room : ℕ) → u ≡ withCourseOf t c → c .mask ≡ t .sub .course .mask → CanSendAll t room
+    → CanSendAll u room
 all-course t u c room e m p = rw e (record { long = p .long; first = p .first; last = p .last; low = rw m (p .low) })
 
 -- n whole entries are n entries

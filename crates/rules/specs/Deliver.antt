@@ -27,7 +27,8 @@ use Rattle.rules.specs.Join.{joined}
 use Rattle.rules.specs.Certify.{concurrent, voteOf}
 use Rattle.rules.specs.Valid.{handedOk}
 use Rattle.rules.specs.Effect.{Change, Effect, changed, unless}
-use Rattle.rules.specs.Course.{newSub, withSubOf, withCourseOf, raise, takenFrom, channelSpent, sendTo, quietly, isOutstanding, withReply, withDecision, castStep, voteDecides, voteStep, preparedStep, certifiedStep}
+use Rattle.rules.specs.Course.{newSub, withSubOf, withCourseOf, raise, takenFrom, channelSpent, sendTo, quietly, isOutstanding}
+use Rattle.rules.specs.Course.{withReply, withDecision, castStep, voteDecides, voteStep, preparedStep, certifiedStep}
 
 -- causes before the message's kind is looked at
 abbrev pub arrivalCauses : Bool → ℕ → Bool → List Cause
@@ -80,7 +81,8 @@ stepUnless code s place c = unless code s [] (changed s place c [])
 
 -- JOIN: the part begins, or is answered 12 where 16 are live.
 unfoldable pub joinTurn : Site → MessageHead → Turn
-joinTurn s h = record { counters = s .counters; channels = takenFrom (s .channels) (h .from); sub = newSub (h .tx) 0 (s .counters .installs) }
+joinTurn s h =
+    record { counters = s .counters; channels = takenFrom (s .channels) (h .from); sub = newSub (h .tx) 0 (s .counters .installs) }
 
 -- without a part
 unfoldable pub spoken : Site → Change → Effect
@@ -149,7 +151,8 @@ unfoldable pub takeConc : Site → MessageHead → List ℕ → List ℕ → ℕ
 takeConc s h es lists place =
     let b = subAt s place .course in
     let c = withReply b (h .from) 0 (h .count) in
-    unless (replyCode (concInTurn b (h .from)) (every (allHeard (s .counters .own) (c .heard) (c .mask) ∷ spentToAll s (b .mask) ∷ []))) s lists
+    unless (replyCode (concInTurn b (h .from)) (every (allHeard (s .counters .own) (c .heard) (c .mask) ∷ spentToAll s (b .mask) ∷ []))) s
+    lists
     (changed s place (gatherChange s h place (gatherLists s place es lists)) (gatherLists s place es lists))
 
 -- CERT
@@ -168,7 +171,8 @@ unfoldable pub takeVote : Site → MessageHead → ℕ → Effect
 takeVote s h place =
     let t = raise (arrived s place (h .from)) (h .clock) in
     let c = t .sub .course in
-    stepUnless (replyCode (voteInTurn c (h .from) (h .argument)) (every (voteDecides (s .counters .own) c (h .from) (h .argument) ∷ spentToAll s (c .mask) ∷ []))) s place
+    stepUnless (replyCode (voteInTurn c (h .from) (h .argument))
+    (every (voteDecides (s .counters .own) c (h .from) (h .argument) ∷ spentToAll s (c .mask) ∷ []))) s place
     (voteStep t (h .from) (h .argument))
 
 -- COMMIT, after a yes: its clock is the commit number

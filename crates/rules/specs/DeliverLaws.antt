@@ -44,7 +44,8 @@ module _ (s : Site) (h : MessageHead) (place : ℕ) (lists : List ℕ) where
   pub gather-last : allHeard (s .counters .own) (heardAfter .heard) (heardAfter .mask) ≡ true
       → gatherChange s h place lists
       ≡ castStep (withCourseOf (arrived s place (h .from)) heardAfter)
-      (voteOf s place (joined (drop (sizes.gathered * place) lists) (heardAfter .listed)) (entryCount (joined (drop (sizes.gathered * place) lists) (heardAfter .listed))))
+      (voteOf s place (joined (drop (sizes.gathered * place) lists) (heardAfter .listed))
+      (entryCount (joined (drop (sizes.gathered * place) lists) (heardAfter .listed))))
       (joined (drop (sizes.gathered * place) lists) (heardAfter .listed))
   unfolding gatherChange
   gather-last e = rw e
@@ -53,7 +54,8 @@ pub unless-refused : (code : ℕ) (s : Site) (lent : List ℕ) (e : Effect) → 
 unless-refused code s lent e n = rw (ne-eqb code 0 n)
 
 -- a list more has room: its sender and the own site are not among those heard, so at most six are
-lacking : (mask a b : ℕ) → mask < 256 → 1 ≤ a → a ≤ 8 → 1 ≤ b → b ≤ 8 → (a ≡ b → ⊥) → inMask mask a ≡ false → inMask mask b ≡ false → participants mask ≤ 6
+lacking : (mask a b : ℕ) → mask < 256 → 1 ≤ a → a ≤ 8 → 1 ≤ b → b ≤ 8 → (a ≡ b → ⊥) → inMask mask a ≡ false → inMask mask b ≡ false
+    → participants mask ≤ 6
 lacking mask a b m la ha lb hb n x y =
     by-test (ltb a b)
     (λ t. participants-lack-two mask a b m la (ltb-true a b t) hb x y)
@@ -61,10 +63,16 @@ lacking mask a b m la ha lb hb n x y =
     (λ u. participants-lack-two mask b a m lb (ltb-true b a u) ha y x)
     (λ u. absurd (n (omega (arith, ltb-false a b t, ltb-false b a u)))))
 
-pub conc-room : (o : House) (own from count : ℕ) (c : Course) → ValidHouse o own → ValidCourse o own c → 1 ≤ from → from ≤ 8 → (from ≡ own → ⊥)
+pub conc-room : (o : House) (own from count : ℕ) (c : Course) → ValidHouse o own → ValidCourse o own c → 1 ≤ from → from ≤ 8
+    → (from ≡ own → ⊥)
     → concInTurn c from ≡ true → count ≤ sizes.concEntries → c .listed + count ≤ sizes.certEntries
 unfolding concInTurn isOutstanding
 conc-room o own from count c h v lf hf n t few =
     let w = every-at (eqb (c .stage) stage.prepared ∷ every (inMask (c .mask) from ∷ not (inMask (c .heard) from) ∷ []) ∷ []) 1 t in
     let u = not-true (inMask (c .heard) from) (every-at (inMask (c .mask) from ∷ not (inMask (c .heard) from) ∷ []) 1 w) in
-    omega (arith, v .listed, few, lacking (c .heard) from own (v .heard-low) lf hf (h .own-low) (omega (arith, h .own-high, h .few-sites)) n u (v .others))
+    omega (
+      arith,
+      v .listed,
+      few,
+      lacking (c .heard) from own (v .heard-low) lf hf (h .own-low) (omega (arith, h .own-high, h .few-sites)) n u (v .others),
+    )

@@ -23,7 +23,9 @@ use Rattle.rules.specs.ValidLaws.{valid-site, handed-site}
 use Rattle.rules.specs.Effect.{Effect, refused}
 use Rattle.rules.specs.Course.{quietly, raise, withCourseOf, withSubOf, withReply, withDecision}
 use Rattle.rules.specs.CallLaws.{arrival-clear, next-clear}
-use Rattle.rules.specs.Deliver.{Arriving, arrivalCode, nextCode, messageAt, messageOf, arrived, passed, replyCode, joinedInTurn, stepUnless, takeJoin, takeJoined, takePrepare, passPrepare, takeConc, takeCert, takeVote, takeCommit, takeAbort, keeping, takeHeld, takeOther, takeKind}
+use Rattle.rules.specs.Deliver.{Arriving, arrivalCode, nextCode, messageAt, messageOf, arrived, passed, replyCode, joinedInTurn}
+use Rattle.rules.specs.Deliver.{stepUnless, takeJoin, takeJoined, takePrepare, passPrepare, takeConc, takeCert, takeVote, takeCommit}
+use Rattle.rules.specs.Deliver.{takeAbort, keeping, takeHeld, takeOther, takeKind}
 
 -- taken where the transaction is held, else only counted
 unfoldable pub orPassed : Site → MessageHead → ℕ → Effect → Effect
@@ -91,7 +93,8 @@ module _ (s : Site) (h : MessageHead) (place : ℕ) where
   unfolding takeJoined
   joined-quiet =
       let t = arrived s place (h .from) in
-      quiet-step (replyCode (joinedInTurn (t .sub .course) (h .from)) false) s place (withCourseOf t (withReply (t .sub .course) (h .from) (h .argument) 0))
+      quiet-step (replyCode (joinedInTurn (t .sub .course) (h .from)) false) s place
+      (withCourseOf t (withReply (t .sub .course) (h .from) (h .argument) 0))
 
   pub quiet-joined : orPassed s h place (takeJoined s h place) .words ≡ []
   quiet-joined = quiet-or s h place (takeJoined s h place) joined-quiet
@@ -100,7 +103,8 @@ module _ (s : Site) (h : MessageHead) (place : ℕ) where
   unfolding takeCommit
   commit-quiet =
       let t = raise (arrived s place (h .from)) (h .clock) in
-      quiet-step (replyCode (eqb (t .sub .course .stage) stage.queued) false) s place (withCourseOf t (withDecision (t .sub .course) (h .clock)))
+      quiet-step (replyCode (eqb (t .sub .course .stage) stage.queued) false) s place
+      (withCourseOf t (withDecision (t .sub .course) (h .clock)))
 
   pub quiet-commit : orPassed s h place (takeCommit s h place) .words ≡ []
   quiet-commit = quiet-or s h place (takeCommit s h place) commit-quiet
@@ -129,7 +133,8 @@ pub record Checked (s : Site) (room : ℕ) (lists m : List ℕ) : Type 0 where
   pub from-low : 1 ≤ messageHead m .from
   pub from-high : messageHead m .from ≤ sizes.sites
 
-pub checked : (s : Site) (room : ℕ) (lists m : List ℕ) (ok fine : Bool) → ok ≡ handedOk s lists → (ok ≡ true → fine ≡ messageOk (s .house) m)
+pub checked : (s : Site) (room : ℕ) (lists m : List ℕ) (ok fine : Bool) → ok ≡ handedOk s lists
+    → (ok ≡ true → fine ≡ messageOk (s .house) m)
     → arrivalCode ok room fine ≡ 0 → Checked s room lists m
 unfolding messageOk
 checked s room lists m ok fine v f e =
@@ -149,7 +154,8 @@ checked s room lists m ok fine v f e =
 
 -- its refusal by its channel, and its handler
 unfoldable pub nextIn : Site → List ℕ → ℕ
-nextIn s m = nextCode (messageHead m .to) (s .counters .own) (messageHead m .channel) (getD (s .channels .taken) (messageHead m .from - 1) 0)
+nextIn s m =
+    nextCode (messageHead m .to) (s .counters .own) (messageHead m .channel) (getD (s .channels .taken) (messageHead m .from - 1) 0)
 
 module _ {s : Site} {room : ℕ} {lists m : List ℕ} (c : Checked s room lists m) where
   past-arrival : arrivalCode (handedOk s lists) room (messageOk (s .house) m) ≡ 0
@@ -161,7 +167,8 @@ module _ {s : Site} {room : ℕ} {lists m : List ℕ} (c : Checked s room lists 
   message-refused n = rw (past-arrival, ne-eqb _ 0 n)
 
   pub message-taken : nextIn s m ≡ 0
-      → messageOf s room lists m ≡ takeKind (messageHead m .kind) s (messageHead m) (messageEntries m) lists (placeOf (s .live) (messageHead m .tx))
+      → messageOf s room lists m
+      ≡ takeKind (messageHead m .kind) s (messageHead m) (messageEntries m) lists (placeOf (s .live) (messageHead m .tx))
   unfolding messageOf messageAt nextIn
   message-taken e = rw (past-arrival, e)
 
@@ -172,7 +179,8 @@ past-all : (k : ℕ) → 9 ≤ k → k ≤ kind.abort → ⊥
 past-all k l h = omega arith
 
 -- a kind from 1 to 8 is one of them
-pub some-kind : (k : ℕ) → kind.join ≤ k → k ≤ kind.abort → (k ≡ 1 → ⊥) → (k ≡ 2 → ⊥) → (k ≡ 3 → ⊥) → (k ≡ 4 → ⊥) → (k ≡ 5 → ⊥) → (k ≡ 6 → ⊥) → (k ≡ 7 → ⊥)
+pub some-kind : (k : ℕ) → kind.join ≤ k → k ≤ kind.abort → (k ≡ 1 → ⊥) → (k ≡ 2 → ⊥) → (k ≡ 3 → ⊥) → (k ≡ 4 → ⊥) → (k ≡ 5 → ⊥) → (k ≡ 6 → ⊥)
+    → (k ≡ 7 → ⊥)
     → (k ≡ 8 → ⊥) → ⊥
 some-kind k l h a b c d e f g i =
     past-all k (above k 8 (above k 7 (above k 6 (above k 5 (above k 4 (above k 3 (above k 2 (above k 1 l a) b) c) d) e) f) g) i) h
@@ -187,7 +195,8 @@ pub record Incoming (s : Site) (h : MessageHead) (es : List ℕ) : Type 0 where
   pub low-kind : kind.join ≤ h .kind
   pub high-kind : h .kind ≤ kind.abort
 
-pub incoming : (s : Site) (m : List ℕ) → siteOk s ≡ true → messageOk (s .house) m ≡ true → messageHead m .channel ≤ sizes.last → nextIn s m ≡ 0
+pub incoming : (s : Site) (m : List ℕ) → siteOk s ≡ true → messageOk (s .house) m ≡ true → messageHead m .channel ≤ sizes.last
+    → nextIn s m ≡ 0
     → Incoming s (messageHead m) (messageEntries m)
 unfolding nextIn
 incoming s m v ok low e =
@@ -197,7 +206,11 @@ incoming s m v ok low e =
     let f = site-clear (s .house) (messageHead m .from) (c .ends .from) in
     record {
       valid = v;
-      arriving = record { first = f .low; last = omega (arith, f .high, valid-site s v .house .few-sites); low = omega (arith, n .in-order) };
+      arriving = record {
+        first = f .low;
+        last = omega (arith, f .high, valid-site s v .house .few-sites);
+        low = omega (arith, n .in-order);
+      };
       apart = λ z. c .ends .apart (z ∙ sym (n .here));
       few = c .few;
       size = g .size;

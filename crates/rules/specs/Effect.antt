@@ -37,7 +37,8 @@ unfoldable pub turnAt : Site → ℕ → Turn
 turnAt s place = record { counters = s .counters; channels = s .channels; sub = subAt s place }
 
 unfoldable pub settle : Site → ℕ → Turn → Site
-settle s place t = record { house = s .house; counters = t .counters; channels = t .channels; live = set (s .live) place (t .sub); history = s .history }
+settle s place t =
+    record { house = s .house; counters = t .counters; channels = t .channels; live = set (s .live) place (t .sub); history = s .history }
 
 -- what a step taken leaves of the site
 unfoldable pub settledOf : Site → ℕ → Taken → Out

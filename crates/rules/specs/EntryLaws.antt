@@ -48,7 +48,8 @@ module _ (f : ℕ → List ℕ) (each : Entries f) where
 
   -- the entry of step i stands at some place k
   pub gathered-at : (n i : ℕ) → i < n → length (f i) ≡ sizes.entry
-      → (k : ℕ) × (sizes.entry * k + sizes.entry ≤ length (gathered f n)) × ((r : ℕ) → r < sizes.entry → getD (gathered f n) (sizes.entry * k + r) 0 ≡ getD (f i) r 0)
+      → (k : ℕ) × (sizes.entry * k + sizes.entry ≤ length (gathered f n))
+      × ((r : ℕ) → r < sizes.entry → getD (gathered f n) (sizes.entry * k + r) 0 ≡ getD (f i) r 0)
   gathered-at zero i h e = absurd (omega arith)
   gathered-at (suc n) i h e =
       let ws = gathered f n in
@@ -62,7 +63,8 @@ module _ (f : ℕ → List ℕ) (each : Entries f) where
         omega arith,
         λ r s.
             let p : sizes.entry * k + r ≡ length ws + r = omega arith in
-            ap (λ (l : List ℕ). getD l (sizes.entry * k + r) 0) g ∙ ap (λ (x : ℕ). getD (ws ++ f n) x 0) p ∙ getD-append-add ws (f n) r 0 ∙ ap (λ (x : ℕ). getD (f x) r 0) (sym z),
+            ap (λ (l : List ℕ). getD l (sizes.entry * k + r) 0) g ∙ ap (λ (x : ℕ). getD (ws ++ f n) x 0) p ∙ getD-append-add ws (f n) r 0
+            ∙ ap (λ (x : ℕ). getD (f x) r 0) (sym z),
       ))
       (λ (z : i < n).
       let (k, l, w) = gathered-at n i z e in (
@@ -74,7 +76,8 @@ module _ (f : ℕ → List ℕ) (each : Entries f) where
 
   -- and each place k is that of some step
   pub gathered-from : (n k : ℕ) → sizes.entry * k + sizes.entry ≤ length (gathered f n)
-      → (i : ℕ) × (i < n) × (length (f i) ≡ sizes.entry) × ((r : ℕ) → r < sizes.entry → getD (gathered f n) (sizes.entry * k + r) 0 ≡ getD (f i) r 0)
+      → (i : ℕ) × (i < n) × (length (f i) ≡ sizes.entry)
+      × ((r : ℕ) → r < sizes.entry → getD (gathered f n) (sizes.entry * k + r) 0 ≡ getD (f i) r 0)
   gathered-from zero k h = absurd (omega (arith, ap length (gathered-none f)))
   gathered-from (suc n) k h =
       let ws = gathered f n in
@@ -88,10 +91,12 @@ module _ (f : ℕ → List ℕ) (each : Entries f) where
         omega arith,
         e,
         λ r p.
-            ap (λ (x : List ℕ). getD x (sizes.entry * k + r) 0) g ∙ List·getD-append ws (f n) 0 (sizes.entry * k + r) (omega arith) ∙ at r p,
+            ap (λ (x : List ℕ). getD x (sizes.entry * k + r) 0) g
+            ∙ List·getD-append ws (f n) 0 (sizes.entry * k + r) (omega arith) ∙ at r p,
       ))
       (λ z.
-      let full : length (f n) ≡ sizes.entry = ⊎-elim (λ (e : length (f n) ≡ 0). absurd (omega arith)) (λ (e : length (f n) ≡ sizes.entry). e) (each n) in (
+      let full : length (f n) ≡ sizes.entry =
+      ⊎-elim (λ (e : length (f n) ≡ 0). absurd (omega arith)) (λ (e : length (f n) ≡ sizes.entry). e) (each n) in (
         n,
         omega arith,
         full,
@@ -145,7 +150,8 @@ unfolding entryBefore joinTx foldBelow
 joined-ascends es n zero h = omega (arith, joined-tx es n 0 h, ascending es n 0 h)
 joined-ascends es n (suc j) h =
     let q : suc j - 1 ≡ j = omega arith in
-    rw (q, ne-eqb (suc j) 0 (λ z. omega arith)) (omega (arith, joined-tx es n j (omega arith), joined-tx es n (suc j) h, ascending es n (suc j) h))
+    rw (q, ne-eqb (suc j) 0 (λ z. omega arith))
+    (omega (arith, joined-tx es n j (omega arith), joined-tx es n (suc j) h, ascending es n (suc j) h))
 
 -- An entry for tx with these participants and this mark is among es.
 
@@ -184,7 +190,8 @@ module _ (es : List ℕ) (n : ℕ) where
         tx = joined-tx es n j p ∙ e;
         names = λ r i.
             let w = listed-in _ _ (of-site (r - 1)) es (joinTx es n (suc j)) n k (omega arith) (x ∙ sym e) in
-            digit-in (entryMask (joined es n) j) r (omega (arith, in-digit m r i, ap (λ (v : ℕ). digit v (r - 1)) (joined-mask es n j p), ap (λ (v : ℕ). digit v (r - 1)) y));
+            digit-in (entryMask (joined es n) j) r
+            (omega (arith, in-digit m r i, ap (λ (v : ℕ). digit v (r - 1)) (joined-mask es n j p), ap (λ (v : ℕ). digit v (r - 1)) y));
         mark = λ i.
             let w = listed-in _ _ of-mark es (joinTx es n (suc j)) n k (omega arith) (x ∙ sym e) in
             let o : markOf d ≡ 1 = rw i in
@@ -199,7 +206,9 @@ module _ (ws vs : List ℕ) (a : ℕ) (whole : length ws ≡ sizes.entry * a) wh
   unfolding entryCount
   append-left t m d (k, l, x, y, z) =
       let q = length-append ws vs in
-      let at : (r : ℕ) → r < sizes.entry → getD (ws ++ vs) (sizes.entry * k + r) 0 ≡ getD ws (sizes.entry * k + r) 0 = λ r s. List·getD-append ws vs 0 (sizes.entry * k + r) (omega arith) in
+      let at : (r : ℕ) → r < sizes.entry
+      → getD (ws ++ vs) (sizes.entry * k + r) 0 ≡ getD ws (sizes.entry * k + r) 0 =
+      λ r s. List·getD-append ws vs 0 (sizes.entry * k + r) (omega arith) in
       (k, omega arith, at 0 (omega arith) ∙ x, at 1 (omega arith) ∙ y, at 2 (omega arith) ∙ z)
 
   pub append-right : (t m d : ℕ) → Holds vs t m d → Holds (ws ++ vs) t m d
@@ -223,7 +232,11 @@ pub gathered-marks : (f : ℕ → List ℕ) → Entries f → ((i : ℕ) → Mar
 gathered-marks f each low zero k = omega (arith, ap (λ (l : List ℕ). entryMark l k) (gathered-none f))
 gathered-marks f each low (suc n) k =
     let (a, e, l) = gathered-whole f each n in
-    omega (arith, ap (λ (l : List ℕ). entryMark l k) (gathered-more f n), append-marks (gathered f n) (f n) a e (gathered-marks f each low n) (low n) k)
+    omega (
+      arith,
+      ap (λ (l : List ℕ). entryMark l k) (gathered-more f n),
+      append-marks (gathered f n) (f n) a e (gathered-marks f each low n) (low n) k,
+    )
 
 -- every entry is in the join, with its participants and its mark
 pub joined-within : (es : List ℕ) → Marks es → (j : ℕ) → j < entryCount es → 0 < entryTx es j

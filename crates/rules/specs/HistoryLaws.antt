@@ -71,7 +71,8 @@ module _ (history : List Entry) (installs : ℕ) (base : List Value) (p : Snapsh
       let n = first-below (λ i. wroteKey (backwards history installs v i .keys) k) v j h none t in
       rw (← e, ← n, lt-ltb j v h)
 
-  pub version-none : NoneBelow (λ i. wroteKey (backwards history installs v i .keys) k) v → versionOf history installs base p k ≡ getD base k fresh
+  pub version-none : NoneBelow (λ i. wroteKey (backwards history installs v i .keys) k) v
+      → versionOf history installs base p k ≡ getD base k fresh
   unfolding versionOf newer
   version-none none =
       let n = first-below-none (λ i. wroteKey (backwards history installs v i .keys) k) v none in
@@ -87,7 +88,8 @@ module _ (history : List Entry) (installs : ℕ) (base : List Value) (p : Snapsh
   version-wrote i h t none =
       let v = within installs p in
       let q : v - 1 - (v - 1 - i) ≡ i = omega arith in
-      version-found history installs base p k v refl (v - 1 - i) (omega arith) (λ j l. none (v - 1 - j) (omega arith) (omega arith)) (rw q t) ∙ rw q
+      version-found history installs base p k v refl (v - 1 - i) (omega arith) (λ j l. none (v - 1 - j) (omega arith) (omega arith))
+      (rw q t) ∙ rw q
 
   pub version-base : ((j : ℕ) → j < within installs p → wroteKey (recall history installs j .keys) k ≡ false)
       → versionOf history installs base p k ≡ getD base k fresh

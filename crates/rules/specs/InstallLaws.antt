@@ -32,7 +32,8 @@ use Rattle.rules.specs.Effect.{refused}
 -- What is due is a place of the table, and decided.
 pub due-low : (live : List Sub) (place : ℕ) → isDue live place ≡ true → place < sizes.live
 unfolding isDue
-due-low live place t = ltb-true place sizes.live (every-at (ltb place sizes.live ∷ eqb (partAt live place .course .stage) stage.decided ∷ []) 0 t)
+due-low live place t =
+    ltb-true place sizes.live (every-at (ltb place sizes.live ∷ eqb (partAt live place .course .stage) stage.decided ∷ []) 0 t)
 
 pub due-decided : (live : List Sub) (place : ℕ) → isDue live place ≡ true → partAt live place .course .stage ≡ stage.decided
 unfolding isDue
@@ -43,7 +44,8 @@ own-here : (s : Site) → siteOk s ≡ true → isSite (s .house) (s .counters .
 unfolding siteOk
 own-here s t =
     counters-own (s .house) (s .counters)
-    (every-at (houseOk (s .house) ∷ countersOk (s .house) (s .counters) ∷ liveOk (s .house) (s .counters .own) (s .live) ∷ historyOk (s .house) (s .counters .own) (s .counters .installs) (s .history) ∷ []) 1 t)
+    (every-at (houseOk (s .house) ∷ countersOk (s .house) (s .counters) ∷ liveOk (s .house) (s .counters .own) (s .live)
+    ∷ historyOk (s .house) (s .counters .own) (s .counters .installs) (s .history) ∷ []) 1 t)
 
 -- The part record passes its check.
 
@@ -52,11 +54,13 @@ unfolding sortedCount
 sorted-few b = first-le (λ j. leb sizes.keys (sortedKey b j)) (b .wrote)
 
 -- its keys ascend and are of the site
-part-write : (o : House) (own : ℕ) (b : Keys) → ((j : ℕ) → j < b .wrote → siteOf o (getD (b .writes) j 0) ≡ own) → (n i : ℕ) → n ≡ sortedCount b → i < n
+part-write : (o : House) (own : ℕ) (b : Keys) → ((j : ℕ) → j < b .wrote → siteOf o (getD (b .writes) j 0) ≡ own) → (n i : ℕ)
+    → n ≡ sortedCount b → i < n
     → partWriteOk o own (sortedWords b n) i ≡ true
 unfolding partWriteOk keyAscends
 part-write o own b here n i e h =
-    let k : (j : ℕ) → j < n → writeKey (sortedWords b n) j ≡ sortedKey b j = λ j l. ap (λ (x : ℕ). getD (sortedWords b n) x 0) (omega arith) ∙ word-key b n j l in
+    let k : (j : ℕ) → j < n → writeKey (sortedWords b n) j ≡ sortedKey b j = λ j l. ap (λ (x : ℕ). getD (sortedWords b n) x 0) (omega arith)
+    ∙ word-key b n j l in
     let (j, l, q) = wrote-among b (sortedKey b i) (sorted-wrote b i (sorted-low b i (omega arith))) in
     let s = ap (siteOf o) (sym q) ∙ here j l in
     by-test (eqb i 0)
@@ -84,7 +88,8 @@ part-good s i t h x m =
     (record {
       size = words-length (b .keys) n;
       head = rw (here, x, p .course .mask-house, m, le-leb n sizes.writes few, eq-eqb (coordinatorOf (b .tx)) (coordinatorOf (b .tx)) refl);
-      writes = sym (all-below (partWriteOk o own (sortedWords (b .keys) n)) n (λ j l. part-write o own (b .keys) (p .keys .wrote-here) n j refl l));
+      writes = sym
+          (all-below (partWriteOk o own (sortedWords (b .keys) n)) n (λ j l. part-write o own (b .keys) (p .keys .wrote-here) n j refl l));
     })
 
 -- The state record passes its check.
@@ -99,7 +104,8 @@ state-good s n t =
 module _ (s : Site) (room : ℕ) (base : List ℕ) (ok : Bool) (place : ℕ) (due : Bool) (code : ℕ) where
   abbrev InstallAsks : Type 0
   InstallAsks =
-      (ok ≡ siteOk s) × (place ≡ leastQueued (s .live) sizes.live) × (due ≡ isDue (s .live) place) × (code ≡ installCode ok room (length base) due (s .counters .installs))
+      (ok ≡ siteOk s) × (place ≡ leastQueued (s .live) sizes.live) × (due ≡ isDue (s .live) place)
+      × (code ≡ installCode ok room (length base) due (s .counters .installs))
 
   pub install-past : InstallAsks → code ≡ 0 → installOf s room base ≡ installedAt s base place
   unfolding installOf

@@ -17,7 +17,8 @@ use Rattle.rules.specs.Keys.{dependent}
 use Rattle.rules.specs.Live.{isPrepared}
 use Rattle.rules.specs.History.{recall, remembered, within}
 use Rattle.rules.specs.JoinLaws.{count-joined, of-site, of-mark, listed-from, joined-member}
-use Rattle.rules.specs.Certify.{markOf, concurrentWords, preparedWords, installedWords, preparedList, installedList, candidates, concurrent}
+use Rattle.rules.specs.Certify.{markOf, concurrentWords, preparedWords, installedWords, preparedList, installedList, candidates}
+use Rattle.rules.specs.Certify.{concurrent}
 use Rattle.rules.specs.EntryLaws.{gathered-from, joined-tx, joined-mask, joined-mark, in-digit, digit-in}
 use Rattle.rules.specs.KeysLaws.{by-order}
 use Rattle.rules.specs.Join.{joinTx, joinCount}
@@ -50,12 +51,23 @@ prepared-from : (s : Site) (place k : ℕ) → sizes.entry * k + sizes.entry ≤
 unfolding preparedList
 prepared-from s place k h =
     let own = subAt s place .keys in
-    let (i, l, e, at) = gathered-from (λ i. preparedWords place own i (subAt s i)) (λ i. prepared-each place own i (subAt s i)) sizes.live k h in
+    let (i, l, e, at) =
+    gathered-from (λ i. preparedWords place own i (subAt s i)) (λ i. prepared-each place own i (subAt s i)) sizes.live k h in
     prepared-is place own i (subAt s i)
     (λ n p w.
-    let word : (r : ℕ) → r < sizes.entry → getD (preparedList (s .live) place sizes.live) (sizes.entry * k + r) 0 ≡ getD (concurrentWords own (subAt s i .tx) (subAt s i .course .mask) (subAt s i .keys)) r 0 =
+    let word : (r : ℕ) → r < sizes.entry
+    → getD (preparedList (s .live) place sizes.live) (sizes.entry * k + r) 0
+    ≡ getD (concurrentWords own (subAt s i .tx) (subAt s i .course .mask) (subAt s i .keys)) r 0 =
     λ r z. at r z ∙ ap (λ (x : List ℕ). getD x r 0) w in
-    record { place = i; low = l; other = n; prepared = p; tx = word 0 (omega arith); mask = word 1 (omega arith); mark = word 2 (omega arith) })
+    record {
+      place = i;
+      low = l;
+      other = n;
+      prepared = p;
+      tx = word 0 (omega arith);
+      mask = word 1 (omega arith);
+      mark = word 2 (omega arith);
+    })
     (λ w. absurd (omega (arith, ap length w)))
 
 module _ (s : Site) (place : ℕ) where
@@ -65,14 +77,23 @@ module _ (s : Site) (place : ℕ) where
       let seen = within n (subAt s place .snapshot) in
       installedList (s .history) n (subAt s place .keys) seen (remembered n - seen)
 
-  installed-from : (k : ℕ) → sizes.entry * k + sizes.entry ≤ length after → LaterInstall s place (entryTx after k) (entryMask after k) (entryMark after k)
+  installed-from : (k : ℕ) → sizes.entry * k + sizes.entry ≤ length after
+      → LaterInstall s place (entryTx after k) (entryMask after k) (entryMark after k)
   unfolding installedList installedWords
   installed-from k h =
       let n = s .counters .installs in
       let seen = within n (subAt s place .snapshot) in
       let own = subAt s place .keys in
-      let (i, l, e, at) = gathered-from (λ i. installedWords own (recall (s .history) n (seen + i))) (λ i. inr refl) (remembered n - seen) k h in
-      record { install = seen + i; after = omega arith; kept = omega arith; tx = at 0 (omega arith); mask = at 1 (omega arith); mark = at 2 (omega arith) }
+      let (i, l, e, at) =
+      gathered-from (λ i. installedWords own (recall (s .history) n (seen + i))) (λ i. inr refl) (remembered n - seen) k h in
+      record {
+        install = seen + i;
+        after = omega arith;
+        kept = omega arith;
+        tx = at 0 (omega arith);
+        mask = at 1 (omega arith);
+        mark = at 2 (omega arith);
+      }
 
   pub candidate-from : (k : ℕ) → k < entryCount (candidates s place)
       → (let es = candidates s place in Candidate s place (entryTx es k) (entryMask es k) (entryMark es k))
@@ -83,15 +104,34 @@ module _ (s : Site) (place : ℕ) where
       let q = length-append ws after in
       by-order (sizes.entry * k) (length ws)
       (λ z.
-      let at : (r : ℕ) → r < sizes.entry → getD (ws ++ after) (sizes.entry * k + r) 0 ≡ getD ws (sizes.entry * k + r) 0 = λ r p. List·getD-append ws after 0 (sizes.entry * k + r) (omega arith) in
+      let at : (r : ℕ) → r < sizes.entry
+      → getD (ws ++ after) (sizes.entry * k + r) 0 ≡ getD ws (sizes.entry * k + r) 0 =
+      λ r p. List·getD-append ws after 0 (sizes.entry * k + r) (omega arith) in
       let c = prepared-from s place k (omega arith) in
-      inl (record { place = c .place; low = c .low; other = c .other; prepared = c .prepared; tx = at 0 (omega arith) ∙ c .tx; mask = at 1 (omega arith) ∙ c .mask; mark = at 2 (omega arith) ∙ c .mark }))
+      inl (record {
+        place = c .place;
+        low = c .low;
+        other = c .other;
+        prepared = c .prepared;
+        tx = at 0 (omega arith)
+            ∙ c .tx;
+        mask = at 1 (omega arith) ∙ c .mask;
+        mark = at 2 (omega arith) ∙ c .mark;
+      }))
       (λ z.
       let at : (r : ℕ) → getD (ws ++ after) (sizes.entry * k + r) 0 ≡ getD after (sizes.entry * (k - a) + r) 0 =
       λ r. (let p : sizes.entry * k + r ≡ length ws + (sizes.entry * (k - a) + r) = omega arith in
       ap (λ (i : ℕ). getD (ws ++ after) i 0) p ∙ getD-append-add ws after (sizes.entry * (k - a) + r) 0) in
       let c = installed-from (k - a) (omega arith) in
-      inr (record { install = c .install; after = c .after; kept = c .kept; tx = at 0 ∙ c .tx; mask = at 1 ∙ c .mask; mark = at 2 ∙ c .mark }))
+      inr (record {
+        install = c .install;
+        after = c .after;
+        kept = c .kept;
+        tx = at 0 ∙ c .tx;
+        mask = at 1 ∙ c .mask;
+        mark = at 2
+            ∙ c .mark;
+      }))
 
   retold : {t u m d e : ℕ} → t ≡ u → d ≡ e → Candidate s place u m e → Candidate s place t m d
   retold p q c = rw (p, q) c
@@ -109,15 +149,20 @@ module _ (s : Site) (place : ℕ) where
       let (i, p, e) = joined-member es n j l in
       (entryMask es i, entryMark es i, retold (joined-tx es n j l ∙ sym e) refl (candidate-from i p))
 
-  pub names-only : (j r : ℕ) → j < entryCount list → inMask (entryMask list j) r ≡ true → (m d : ℕ) × Candidate s place (entryTx list j) m d × (inMask m r ≡ true)
+  pub names-only : (j r : ℕ) → j < entryCount list → inMask (entryMask list j) r ≡ true
+      → (m d : ℕ) × Candidate s place (entryTx list j) m d × (inMask m r ≡ true)
   unfolding concurrent
   names-only j r h t =
       let es = candidates s place in
       let n = entryCount es in
       let l : j < joinCount es n = omega (arith, count-joined es n) in
       let y = ap (λ (v : ℕ). digit v (r - 1)) (joined-mask es n j l) in
-      let (i, p, e, w) = listed-from _ _ (of-site (r - 1)) es (joinTx es n (suc j)) n (omega (arith, in-digit (entryMask list j) r t)) in
-      (entryMask es i, entryMark es i, retold (joined-tx es n j l ∙ sym e) refl (candidate-from i p), digit-in (entryMask es i) r (omega (arith, in-digit (entryMask list j) r t)))
+      let (i, p, e, w) = listed-from _ _ (of-site (r - 1)) es (joinTx es n (suc j)) n (omega (arith, in-digit (entryMask list j) r t)) in (
+        entryMask es i,
+        entryMark es i,
+        retold (joined-tx es n j l ∙ sym e) refl (candidate-from i p),
+        digit-in (entryMask es i) r (omega (arith, in-digit (entryMask list j) r t)),
+      )
 
   pub marks-only : (j : ℕ) → j < entryCount list → entryMark list j ≡ 1 → (m : ℕ) × Candidate s place (entryTx list j) m 1
   unfolding concurrent

@@ -21,7 +21,8 @@ use Rattle.rules.specs.Merger.{emitCode, mergeCode, mergePartCode, merge
 use Rattle.rules.specs.MergerWords.{above}
 use Rattle.rules.specs.MessageLaws.{site-clear}
 use Rattle.rules.specs.Record.{partOk, partTests, recordHead, recordWrites, stateOk, stateTests}
-use Rattle.rules.specs.RecordLaws.{length-record, part-clear, part-passed-good, part-passed-words, shape-clear, state-clear, state-passed-good}
+use Rattle.rules.specs.RecordLaws.{length-record, part-clear, part-passed-good, part-passed-words, shape-clear, state-clear}
+use Rattle.rules.specs.RecordLaws.{state-passed-good}
 use Rattle.kinds.specs.Kind as kind
 use Rattle.kinds.specs.Reason as reason
 use Rattle.kinds.specs.Sizes as sizes
@@ -75,7 +76,8 @@ source-clear o queues c i e =
     let l = leb (c .queued) sizes.queue ∷ allBelow (queuedOk o queues i) (c .queued) ∷ [] in
     (leb-true _ _ (every-at l 0 e), λ j h. queued-clear o queues i j (all-below-at (queuedOk o queues i) (c .queued) j (every-at l 1 e) h))
 
-clear-source : (o : House) (queues : List ℕ) (c : Source) (i : ℕ) → c .queued ≤ sizes.queue → ((j : ℕ) → j < c .queued → QueuedClear o queues i j)
+clear-source : (o : House) (queues : List ℕ) (c : Source) (i : ℕ) → c .queued ≤ sizes.queue
+    → ((j : ℕ) → j < c .queued → QueuedClear o queues i j)
     → sourceOk o queues c i ≡ true
 unfolding sourceOk
 clear-source o queues c i n f =

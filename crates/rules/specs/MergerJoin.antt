@@ -15,11 +15,13 @@ use Rattle.kinds.specs.declared.RecordHead.{RecordHead}
 use Rattle.laws.specs.Choice.{by-test, every, every-at}
 use Rattle.laws.specs.Scan.{all-below, all-below-at, allBelow, foldBelow, split-last}
 use Rattle.rules.specs.House.{coordinatorOf, inMask, isMask, isSite, isTx, serialOf, siteOf, wholeHouse}
-use Rattle.rules.specs.Merger.{Merging, dueCode, dueHead, emitCode, emitDue, emitOf, headAt, headIn, headsOf, joinedWrites, leastSite, mergedHead, mergedWords, noHead, partWrites, placeWords, popMerger, popQueues, queuedPart, writesIn}
+use Rattle.rules.specs.Merger.{Merging, dueCode, dueHead, emitCode, emitDue, emitOf, headAt, headIn, headsOf, joinedWrites, leastSite}
+use Rattle.rules.specs.Merger.{mergedHead, mergedWords, noHead, partWrites, placeWords, popMerger, popQueues, queuedPart, writesIn}
 use Rattle.rules.specs.MergerClear.{MergerClear, QueuedClear, emit-clear, part-long}
 use Rattle.rules.specs.MergerLaws.{IsDue, LeastOf, Queued, WholeAt, due-clear, due-queued, is-due, least-is, queued-fits, whole-parts}
 use Rattle.rules.specs.MergerWords.{HeadFits, HeadsFit, head-fits, joined-writes, part-writes}
-use Rattle.rules.specs.Record.{GoodMerged, keyAscends, mergedHeadOk, mergedOk, mergedWriteOk, pairOk, partHeadOk, partHeadTests, partOk, partWriteOk, recordHead, recordWrites, writeKey}
+use Rattle.rules.specs.Record.{GoodMerged, keyAscends, mergedHeadOk, mergedOk, mergedWriteOk, pairOk, partHeadOk, partHeadTests}
+use Rattle.rules.specs.Record.{partOk, partWriteOk, recordHead, recordWrites, writeKey}
 use Rattle.rules.specs.RecordLaws.{head-back, merged-written-passes, pair-clear, part-passed-good, writes-back}
 use Rattle.kinds.specs.Sizes as sizes
 use Rattle.kinds.specs.Word as word
@@ -150,7 +152,8 @@ writes-ascending o queues mask n i f h =
     by-test (inMask mask (i + 1))
     (λ t. let c = f i h t in
     let m = queuedPart queues i 0 in
-    rw (t, halved (length (recordWrites m)) (recordHead m .count) (part-passed-good o m (c .part) .size)) (part-ascending o m i (c .part) (c .site)))
+    rw (t, halved (length (recordWrites m)) (recordHead m .count) (part-passed-good o m (c .part) .size))
+    (part-ascending o m i (c .part) (c .site)))
     (λ t. rw t (no-writes (sizes.siteKeys * i) (sizes.siteKeys * (i + 1))))
 
 good-fits : (o : House) (queues : List ℕ) (mask n : ℕ) → PartsGood o queues mask n → HeadsFit queues mask n
@@ -167,10 +170,12 @@ joined-ascending o queues mask (suc n) f =
     let p = partWrites queues mask n in
     let w = joined-writes queues mask n (good-fits o queues mask n b) in
     let v = part-writes queues mask n (head-fits queues mask (suc n) n (good-fits o queues mask (suc n) f) (omega arith)) in
-    let c : writesIn (ws ++ p) ≡ writesIn ws + writesIn p = halved (length (ws ++ p)) (writesIn ws + writesIn p) (length-append ws p ∙ omega arith) in
+    let c : writesIn (ws ++ p) ≡ writesIn ws + writesIn p =
+    halved (length (ws ++ p)) (writesIn ws + writesIn p) (length-append ws p ∙ omega arith) in
     let z : sizes.siteKeys * (n + 1) ≡ sizes.siteKeys * suc n = omega arith in
     rw (c, ← z)
-    (append-ascending ws p (writesIn ws) (omega arith) (writesIn p) 0 (sizes.siteKeys * n) (sizes.siteKeys * (n + 1)) (omega arith) (omega arith)
+    (append-ascending ws p (writesIn ws) (omega arith) (writesIn p) 0 (sizes.siteKeys * n) (sizes.siteKeys * (n + 1)) (omega arith)
+    (omega arith)
     (joined-ascending o queues mask n b)
     (writes-ascending o queues mask (suc n) n f (omega arith)))
 
@@ -184,7 +189,8 @@ key-rises ws (suc k) n a h =
 
 merged-writes : (ws : List ℕ) (n : ℕ) → KeysAscend ws n 0 sizes.keys → allBelow (mergedWriteOk ws) n ≡ true
 unfolding mergedWriteOk
-merged-writes ws n a = sym (all-below (mergedWriteOk ws) n (λ k h. rw (key-rises ws k n a h, lt-ltb (writeKey ws k) sizes.keys (a .to k h))))
+merged-writes ws n a =
+    sym (all-below (mergedWriteOk ws) n (λ k h. rw (key-rises ws k n a h, lt-ltb (writeKey ws k) sizes.keys (a .to k h))))
 
 wider-pair : (o : House) (r : RecordHead) → o .sites ≤ sizes.sites → pairOk o r ≡ true → pairOk wholeHouse r ≡ true
 unfolding pairOk isTx isSite isMask wholeHouse
@@ -243,7 +249,8 @@ due-passes g queues c e =
     let m = queuedPart queues k 0 in
     let p = every-at (partHeadTests (g .house) (recordHead m)) 2 (part-head (g .house) m (d .0 .part)) in
     merged-written-passes (mergedHead r (writesIn (joinedWrites queues (r .mask) n))) (joinedWrites queues (r .mask) n)
-    (merged-good (g .house) queues n r (c .few) (c .few) (rw (d .1) p) (λ i h t. c .parts i 0 h (due-queued g (headsOf queues n) k e i h t)))
+    (merged-good (g .house) queues n r (c .few) (c .few) (rw (d .1) p)
+    (λ i h t. c .parts i 0 h (due-queued g (headsOf queues n) k e i h t)))
 
 -- An emit that is not refused: the least head is due and whole; what is written passes, and reads back as its pair with the writes of
 -- its parts; the parts are gone from the queues.
@@ -255,7 +262,8 @@ pub record Emits (g : Merger) (queues : List ℕ) (e : Merging) : Type 0 where
   pub part : dueHead g queues ≡ recordHead (queuedPart queues (leastSite g queues) 0)
   pub answer : e .answer ≡ Emitted (dueHead g queues .number) (dueHead g queues .coordinator) (dueHead g queues .tx)
   pub passes : mergedOk (e .words) ≡ true
-  pub head : recordHead (e .words) ≡ mergedHead (dueHead g queues) (writesIn (joinedWrites queues (dueHead g queues .mask) (g .house .sites)))
+  pub head : recordHead (e .words)
+      ≡ mergedHead (dueHead g queues) (writesIn (joinedWrites queues (dueHead g queues .mask) (g .house .sites)))
   pub writes : recordWrites (e .words) ≡ joinedWrites queues (dueHead g queues .mask) (g .house .sites)
   pub merger : e .merger ≡ popMerger g (dueHead g queues .mask) (g .house .sites)
   pub queues-left : e .queues ≡ popQueues queues (dueHead g queues .mask) (g .house .sites)

@@ -16,10 +16,13 @@ use Rattle.laws.specs.Choice.{by-test, pick, some}
 use Rattle.laws.specs.Overlay.{putAt}
 use Rattle.laws.specs.Scan.{foldBelow, split-last}
 use Rattle.rules.specs.House.{inMask}
-use Rattle.rules.specs.Merger.{dueCode, emitCode, emitDue, emitOf, freshMerger, headIn, headsOf, leastHead, mergeCode, mergeOf, mergePart, mergePartCode, mergeState, mergeStateCode, pastSource, placeAt, placeWords, popMerger, popMergerAt, popQueues, popSource, queuedPart, sourceAt, withSource}
+use Rattle.rules.specs.Merger.{dueCode, emitCode, emitDue, emitOf, freshMerger, headIn, headsOf, leastHead, mergeCode, mergeOf}
+use Rattle.rules.specs.Merger.{mergePart, mergePartCode, mergeState, mergeStateCode, pastSource, placeAt, placeWords, popMerger}
+use Rattle.rules.specs.Merger.{popMergerAt, popQueues, popSource, queuedPart, sourceAt, withSource}
 use Rattle.rules.specs.MergerClear.{MergerClear, QueuedClear, merge-clear, part-long, part-short, part-taken, taken-part}
 use Rattle.rules.specs.MergerLaws.{Queued, due-queued, pop-later}
-use Rattle.rules.specs.MergerWords.{above, kept-place, length-popped, length-put, popped-place, put-elsewhere, put-length, put-part-back}
+use Rattle.rules.specs.MergerWords.{above, kept-place, length-popped, length-put, popped-place, put-elsewhere, put-length}
+use Rattle.rules.specs.MergerWords.{put-part-back}
 use Rattle.rules.specs.MessageLaws.{SiteClear, site-clear}
 use Rattle.rules.specs.Record.{partOk, recordHead, stateOk}
 use Rattle.rules.specs.RecordLaws.{part-clear, part-passed-good, shape-clear, state-clear, state-passed-good, part-shape}
@@ -102,7 +105,8 @@ module _ (g : Merger) (queues m : List ℕ) (i : ℕ) (s : Source) (c : Holds g 
           (λ t. let e = eqb-true k i t in rw (e, source-same g queues m i s (omega (arith, c .sized, c .clear .few))) n)
           (λ t. rw (source-other g queues m i s k (eqb-false k i t)) refl)
 
-  module _ (p : partOk (g .house) m ≡ true) (e : recordHead m .site ≡ i + 1) (r : sourceAt g i .queued < sizes.queue) (n : s .queued ≡ sourceAt g i .queued + 1) where
+  module _ (p : partOk (g .house) m ≡ true) (e : recordHead m .site ≡ i + 1) (r : sourceAt g i .queued < sizes.queue)
+      (n : s .queued ≡ sourceAt g i .queued + 1) where
     -- the queues with the part
     after : List ℕ
     after = putAt (placeAt i (sourceAt g i .queued)) queues m
@@ -125,7 +129,8 @@ module _ (g : Merger) (queues m : List ℕ) (i : ℕ) (s : Source) (c : Holds g 
     unfolding after
     part-old k j d o =
         let f = c .clear .few in
-        moved-clear (g .house) queues after k j j (put-elsewhere queues m i (sourceAt g i .queued) (c .clear .size) (omega arith) r (part-short (g .house) m p) k j d) o
+        moved-clear (g .house) queues after k j j
+        (put-elsewhere queues m i (sourceAt g i .queued) (c .clear .size) (omega arith) r (part-short (g .house) m p) k j d) o
 
     part-there : (k j : ℕ) → k < g .house .sites → j < sourceAt (withSource g i s) k .queued → QueuedClear (g .house) after k j
     part-there k j h l =
@@ -184,7 +189,8 @@ merge-part-kept g queues m c e k =
     let s = taken-site g queues m e in
     by-test (eqb (mergePartCode (sourceAt g i) r) 0)
     (λ t. let p = part-taken (sourceAt g i) r (eqb-true _ _ t) in
-    let n : Source = record { state = sourceAt g i .state; number = r .number; coordinator = r .coordinator; queued = sourceAt g i .queued + 1 } in
+    let n : Source =
+    record { state = sourceAt g i .state; number = r .number; coordinator = r .coordinator; queued = sourceAt g i .queued + 1 } in
     rw t (part-kept g queues m i n c (omega arith) (taken-part g queues m e k) (omega arith) (p .room) refl))
     (λ t. rw t c)
 
@@ -196,7 +202,9 @@ merge-state-kept g queues m c e =
     let i = r .site - 1 in
     let s = taken-site g queues m e in
     by-test (eqb (mergeStateCode (sourceAt g i) r) 0)
-    (λ t. let n : Source = record { state = r .number; number = sourceAt g i .number; coordinator = sourceAt g i .coordinator; queued = sourceAt g i .queued } in
+    (λ t. let n : Source =
+    record { state = r .number; number = sourceAt g i .number; coordinator = sourceAt g i .coordinator; queued = sourceAt g i .queued }
+    in
     rw t (state-kept g queues m i n c (omega arith) refl))
     (λ t. rw t c)
 
@@ -235,7 +243,8 @@ popped-source g mask (suc n) i b h =
     split-last h
     (λ (z : i ≡ n). rw z
     (by-test (inMask mask (n + 1))
-    (λ t. rw t (getD-set-same (p .sources) n (popSource (sourceAt p n)) pastSource (omega arith) ∙ ap popSource (pop-later g mask n n (omega arith))))
+    (λ t. rw t (getD-set-same (p .sources) n (popSource (sourceAt p n)) pastSource (omega arith)
+    ∙ ap popSource (pop-later g mask n n (omega arith))))
     (λ t. rw t (pop-later g mask n n (omega arith)))))
     (λ (y : i < n).
     let q = popped-source g mask n i (omega arith) y in
@@ -267,14 +276,17 @@ pop-kept g queues mask c f =
                 rw o
                 (by-test (inMask mask (i + 1))
                 (λ t. let y = f i k t in let b : j < sourceAt g i .queued - 1 = rw (s i k, t) at l in
-                moved-clear (g .house) queues (popQueues queues mask n) i (j + 1) j (popped-place queues mask n i (c .clear .size) u k j t (omega arith)) (c .clear .parts i (j + 1) k (omega arith)))
+                moved-clear (g .house) queues (popQueues queues mask n) i (j + 1) j
+                (popped-place queues mask n i (c .clear .size) u k j t (omega arith)) (c .clear .parts i (j + 1) k (omega arith)))
                 (λ t. let b : j < sourceAt g i .queued = rw (s i k, t) at l in
-                moved-clear (g .house) queues (popQueues queues mask n) i j j (kept-place queues mask n i (c .clear .size) u k j t (omega arith)) (c .clear .parts i j k b)));
+                moved-clear (g .house) queues (popQueues queues mask n) i j j
+                (kept-place queues mask n i (c .clear .size) u k j t (omega arith)) (c .clear .parts i j k b)));
             rest = λ i h l. let k : n ≤ i = rw o at h in rw (pop-later g mask n i k) (c .clear .rest i k l);
           };
     }
 
-pub emit-kept : (g : Merger) (room : ℕ) (queues : List ℕ) → Holds g queues → Holds (emitOf g room queues .merger) (emitOf g room queues .queues)
+pub emit-kept : (g : Merger) (room : ℕ) (queues : List ℕ) → Holds g queues
+    → Holds (emitOf g room queues .merger) (emitOf g room queues .queues)
 unfolding emitOf emitDue
 emit-kept g room queues c =
     let heads = headsOf queues (g .house .sites) in

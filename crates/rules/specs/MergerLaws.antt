@@ -16,7 +16,9 @@ use Rattle.laws.specs.Choice.{by-test, every, every-at, some}
 use Rattle.laws.specs.Pair.{precedes-trans, precedes-self}
 use Rattle.laws.specs.Scan.{all-below, all-below-at, allBelow, fold-more, foldBelow, split-last}
 use Rattle.rules.specs.House.{inMask}
-use Rattle.rules.specs.Merger.{betterHead, dueCode, hasHead, hasPart, headAt, headBefore, headIn, headsOf, isDue, isDueAt, isWhole, isWholeAt, leastHead, mergeState, mergeStateCode, mergerOutOf, noHead, pastSource, popMerger, popMergerAt, popSource, queuedPart, sourceAt}
+use Rattle.rules.specs.Merger.{betterHead, dueCode, hasHead, hasPart, headAt, headBefore, headIn, headsOf, isDue, isDueAt, isWhole}
+use Rattle.rules.specs.Merger.{isWholeAt, leastHead, mergeState, mergeStateCode, mergerOutOf, noHead, pastSource, popMerger}
+use Rattle.rules.specs.Merger.{popMergerAt, popSource, queuedPart, sourceAt}
 use Rattle.rules.specs.MergerClear.{MergerClear, QueuedClear, part-long}
 use Rattle.rules.specs.MergerWords.{HeadFits, HeadsFit, PartFits}
 use Rattle.rules.specs.Record.{recordHead}
@@ -32,7 +34,8 @@ pub heads-more : (queues : List ℕ) (i : ℕ) → headsOf queues (i + 1) ≡ se
 unfolding headsOf
 heads-more queues i = fold-more (λ i l. set l i (headAt queues i)) i (replicate sizes.sites noHead)
 
-pub least-head-more : (g : Merger) (heads : List RecordHead) (i : ℕ) → leastHead g heads (i + 1) ≡ betterHead g heads i (leastHead g heads i)
+pub least-head-more : (g : Merger) (heads : List RecordHead) (i : ℕ)
+    → leastHead g heads (i + 1) ≡ betterHead g heads i (leastHead g heads i)
 unfolding leastHead
 least-head-more g heads i = fold-more (betterHead g heads) i sizes.sites
 
@@ -72,7 +75,8 @@ module _ (g : Merger) (heads : List RecordHead) (n k : ℕ) (b : n < sizes.sites
       inr (record {
         below = omega (arith, l .below);
         queued = l .queued;
-        least = λ i h q. split-last h (λ (z : i ≡ n). absurd (let y : sourceAt g i .queued ≡ 0 = rw z e in omega arith)) (λ (y : i < n). l .least i y q);
+        least = λ i h q. split-last h (λ (z : i ≡ n). absurd (let y : sourceAt g i .queued ≡ 0 = rw z e in omega arith))
+            (λ (y : i < n). l .least i y q);
       })
 
   scan-first : 0 < sourceAt g n .queued → NoHead g n → LeastOf g heads (suc n) n
@@ -85,7 +89,8 @@ module _ (g : Merger) (heads : List RecordHead) (n k : ℕ) (b : n < sizes.sites
             (λ (y : i < n). absurd (omega (arith, f i y)));
       }
 
-  scan-better : 0 < sourceAt g n .queued → headBefore (headIn heads n) (headIn heads k) ≡ true → LeastOf g heads n k → LeastOf g heads (suc n) n
+  scan-better : 0 < sourceAt g n .queued → headBefore (headIn heads n) (headIn heads k) ≡ true → LeastOf g heads n k
+      → LeastOf g heads (suc n) n
   scan-better q t l =
       record {
         below = omega arith;
@@ -94,7 +99,8 @@ module _ (g : Merger) (heads : List RecordHead) (n k : ℕ) (b : n < sizes.sites
             (λ (z : i ≡ n). rw z (precedes-self (headIn heads n .number) (headIn heads n .coordinator)))
             (λ (y : i < n). by-test (headBefore (headIn heads i) (headIn heads n))
             (λ u. absurd (let v = l .least i y p in
-            let w = precedes-trans (headIn heads i .number) (headIn heads i .coordinator) (headIn heads n .number) (headIn heads n .coordinator) (headIn heads k .number) (headIn heads k .coordinator) u t in
+            let w = precedes-trans (headIn heads i .number) (headIn heads i .coordinator) (headIn heads n .number)
+            (headIn heads n .coordinator) (headIn heads k .number) (headIn heads k .coordinator) u t in
             let x : _≡_ {A = ℕ} 0 1 = cc in omega arith))
             (λ u. u));
       }
@@ -152,7 +158,8 @@ pub record HasPart (g : Merger) (heads : List RecordHead) (r : RecordHead) (i : 
 pub has-part : (g : Merger) (heads : List RecordHead) (r : RecordHead) (i : ℕ) → hasPart g heads r i ≡ true → HasPart g heads r i
 unfolding hasPart hasHead
 has-part g heads r i e =
-    let l = ltb 0 (sourceAt g i .queued) ∷ eqb (headIn heads i .number) (r .number) ∷ eqb (headIn heads i .coordinator) (r .coordinator) ∷ [] in
+    let l = ltb 0 (sourceAt g i .queued) ∷ eqb (headIn heads i .number) (r .number)
+    ∷ eqb (headIn heads i .coordinator) (r .coordinator) ∷ [] in
     record {
       queued = ltb-true _ _ (every-at l 0 e);
       number = eqb-true _ _ (every-at l 1 e);
@@ -231,7 +238,8 @@ is-due g heads least e =
     let l = ltb least sizes.sites ∷ allBelow (isDueAt g (headIn heads least .number)) (g .house .sites) ∷ [] in
     record {
       some = ltb-true _ _ (every-at l 0 e);
-      every = λ i h. due-at g (headIn heads least .number) i (all-below-at (isDueAt g (headIn heads least .number)) (g .house .sites) i (every-at l 1 e) h);
+      every = λ i h. due-at g (headIn heads least .number) i
+          (all-below-at (isDueAt g (headIn heads least .number)) (g .house .sites) i (every-at l 1 e) h);
     }
 
 pub due-is : (g : Merger) (heads : List RecordHead) (least : ℕ) → IsDue g heads least → isDue g heads least ≡ true
@@ -239,7 +247,8 @@ unfolding isDue
 due-is g heads least d =
     rw (
       lt-ltb _ _ (d .some),
-      ← all-below (isDueAt g (headIn heads least .number)) (g .house .sites) (λ i h. at-due g (headIn heads least .number) i (d .every i h)),
+      ← all-below (isDueAt g (headIn heads least .number)) (g .house .sites)
+          (λ i h. at-due g (headIn heads least .number) i (d .every i h)),
     )
 
 -- What is not refused is due and whole.
@@ -279,8 +288,10 @@ due-fits g queues heads least c e i h m = queued-fits (g .house) queues i (c .pa
 -- A state moves no part.
 pub state-queues : (g : Merger) (queues m : List ℕ) → queues ≡ mergeState g queues m .queues
 unfolding mergeState
-state-queues g queues m = by-test (eqb (mergeStateCode (sourceAt g (recordHead m .site - 1)) (recordHead m)) 0) (λ e. rw e refl) (λ e. rw e refl)
+state-queues g queues m =
+    by-test (eqb (mergeStateCode (sourceAt g (recordHead m .site - 1)) (recordHead m)) 0) (λ e. rw e refl) (λ e. rw e refl)
 
 pub state-out : (g : Merger) (queues m : List ℕ) → mergerOutOf (mergeState g [] m) ≡ mergerOutOf (mergeState g queues m)
 unfolding mergeState mergerOutOf
-state-out g queues m = by-test (eqb (mergeStateCode (sourceAt g (recordHead m .site - 1)) (recordHead m)) 0) (λ e. rw e refl) (λ e. rw e refl)
+state-out g queues m =
+    by-test (eqb (mergeStateCode (sourceAt g (recordHead m .site - 1)) (recordHead m)) 0) (λ e. rw e refl) (λ e. rw e refl)

@@ -3,7 +3,8 @@ use Prim.Native.Nat.{_*_, _+_, _-_, _<_, _≤_, suc, zero, ℕ}
 use borrow.Author.Tests.{ltb-false, ltb-true}
 use lib.Dec.{ltb}
 use lib.ListN.{List·getD-append, drop, drop-of-length-le, getD, length, length-append, length-drop, replicate, set, take}
-use lib.Seq.{drop-append-add, drop-append-le, drop-at, drop-drop, getD-append-add, getD-drop, getD-take, length-take-le, take-all, take-append-le, take-at, take-nil, take-take}
+use lib.Seq.{drop-append-add, drop-append-le, drop-at, drop-drop, getD-append-add, getD-drop, getD-take, length-take-le, take-all}
+use lib.Seq.{take-append-le, take-at, take-nil, take-take}
 use mathlib.Core.Bool.{false, true}
 use mathlib.Core.List.{List, [], _++_, _∷_, append-nil}
 use mathlib.Core.Logic.{_⊎_, inl, inr}
@@ -13,7 +14,8 @@ use Rattle.laws.specs.Choice.{by-test, pick}
 use Rattle.laws.specs.Overlay.{behind, length-overlay, length-rest, overlay, overlay-copied, putAt}
 use Rattle.laws.specs.Scan.{fold-more, foldBelow, split-last}
 use Rattle.rules.specs.House.{inMask}
-use Rattle.rules.specs.Merger.{behindHead, joinedWrites, partWrites, placeAt, placeWords, popQueue, popQueueAt, popQueues, queuedPart, siteWords}
+use Rattle.rules.specs.Merger.{behindHead, joinedWrites, partWrites, placeAt, placeWords, popQueue, popQueueAt, popQueues, queuedPart}
+use Rattle.rules.specs.Merger.{siteWords}
 use Rattle.rules.specs.Record.{recordHead, recordWrites}
 use Rattle.kinds.specs.Sizes as sizes
 use Rattle.kinds.specs.Word as word
@@ -103,7 +105,8 @@ unfolding popQueues
 pops-more queues mask i = fold-more (popQueueAt mask) i queues
 
 -- the places moved up, and 0 over the last
-pub head-dropped : (d xs ys : List ℕ) (a : ℕ) → length d ≡ sizes.siteQueue → xs ≡ overlay d (drop sizes.part d) → a ≡ length (drop sizes.part d)
+pub head-dropped : (d xs ys : List ℕ) (a : ℕ) → length d ≡ sizes.siteQueue → xs ≡ overlay d (drop sizes.part d)
+    → a ≡ length (drop sizes.part d)
     → ys ≡ replicate (length (take (length xs - a) (drop a xs))) 0 → take a xs ++ (ys ++ drop (length xs - a) (drop a xs)) ≡ behindHead d
 head-dropped d xs ys a n x e y =
     let m = length-drop sizes.part d in
@@ -119,7 +122,8 @@ length-behind ws h = length-append (drop sizes.part ws) (replicate sizes.part 0)
 
 pub length-site : (queues : List ℕ) (i : ℕ) → length queues ≡ sizes.queues → i < sizes.sites → length (siteWords queues i) ≡ sizes.siteQueue
 unfolding siteWords
-length-site queues i e h = length-take-le sizes.siteQueue (drop (sizes.siteQueue * i) queues) (omega (arith, length-drop (sizes.siteQueue * i) queues))
+length-site queues i e h =
+    length-take-le sizes.siteQueue (drop (sizes.siteQueue * i) queues) (omega (arith, length-drop (sizes.siteQueue * i) queues))
 
 -- what is left where the head is dropped from the lent words of one site
 pub queue-popped : (queues ys : List ℕ) (i n : ℕ) → length queues ≡ sizes.queues → i < sizes.sites → n ≡ sizes.siteQueue
@@ -172,7 +176,8 @@ put-behind a d w b h l =
     ∙ drop-drop (b - (a + length w)) (a + length w) d
     ∙ ap (λ (k : ℕ). drop k d) f
 
-pub put-within : (a : ℕ) (d w : List ℕ) (b n : ℕ) → a ≤ length d → b + n ≤ length w → take n (drop (a + b) (putAt a d w)) ≡ take n (drop b w)
+pub put-within : (a : ℕ) (d w : List ℕ) (b n : ℕ) → a ≤ length d → b + n ≤ length w
+    → take n (drop (a + b) (putAt a d w)) ≡ take n (drop b w)
 unfolding putAt
 put-within a d w b n h l =
     let r = drop (a + length w) d in
@@ -198,7 +203,8 @@ pub length-pop : (queues : List ℕ) (i : ℕ) → length queues ≡ sizes.queue
 unfolding popQueue
 length-pop queues i e h =
     let s = length-site queues i e h in
-    length-put (sizes.siteQueue * i) queues (behindHead (siteWords queues i)) (omega (arith, length-behind (siteWords queues i) (omega arith)))
+    length-put (sizes.siteQueue * i) queues (behindHead (siteWords queues i))
+    (omega (arith, length-behind (siteWords queues i) (omega arith)))
 
 popped-length : (queues : List ℕ) (i : ℕ) → length queues ≡ sizes.queues → i < sizes.sites
     → length (behindHead (take sizes.siteQueue (drop (sizes.siteQueue * i) queues))) ≡ sizes.siteQueue
@@ -226,12 +232,14 @@ pop-elsewhere queues i k e h f =
     let w = behindHead (take sizes.siteQueue (drop (sizes.siteQueue * i) queues)) in
     let n : length w ≡ sizes.siteQueue = popped-length queues i e h in
     by-test (ltb k i)
-    (λ t. let l = ltb-true k i t in put-before (sizes.siteQueue * i) queues w (sizes.siteQueue * k) sizes.siteQueue (omega arith) (omega arith))
+    (λ t. let l = ltb-true k i t in
+    put-before (sizes.siteQueue * i) queues w (sizes.siteQueue * k) sizes.siteQueue (omega arith) (omega arith))
     (λ t. let l = ltb-false k i t in let m : i < k = above i k l (λ q. f (sym q)) in
     ap (take sizes.siteQueue) (put-behind (sizes.siteQueue * i) queues w (sizes.siteQueue * k) (omega arith) (omega arith)))
 
 -- The first n sites popped by a mask.
-pub length-popped : (queues : List ℕ) (mask n : ℕ) → length queues ≡ sizes.queues → n ≤ sizes.sites → length (popQueues queues mask n) ≡ length queues
+pub length-popped : (queues : List ℕ) (mask n : ℕ) → length queues ≡ sizes.queues → n ≤ sizes.sites
+    → length (popQueues queues mask n) ≡ length queues
 unfolding popQueues foldBelow popQueueAt
 length-popped queues mask zero e h = refl
 length-popped queues mask (suc n) e h =
@@ -295,7 +303,8 @@ module _ (queues : List ℕ) (mask n i : ℕ) (e : length queues ≡ sizes.queue
       ∙ behind-place (siteWords queues i) j (length-site queues i e (omega arith)) b
       ∙ sym (place-in-site queues i (j + 1) b)
 
-  pub kept-place : (j : ℕ) → inMask mask (i + 1) ≡ false → j < sizes.queue → placeWords (popQueues queues mask n) i j ≡ placeWords queues i j
+  pub kept-place : (j : ℕ) → inMask mask (i + 1) ≡ false → j < sizes.queue
+      → placeWords (popQueues queues mask n) i j ≡ placeWords queues i j
   kept-place j m b =
       let s = rw m at (popped-site queues mask n i e h l) in
       place-in-site (popQueues queues mask n) i j b
@@ -303,14 +312,16 @@ module _ (queues : List ℕ) (mask n i : ℕ) (e : length queues ≡ sizes.queue
       ∙ sym (place-in-site queues i j b)
 
 -- A part put into its place is the record there, and the other places are as they were.
-module _ (queues m : List ℕ) (i j : ℕ) (e : length queues ≡ sizes.queues) (h : i < sizes.sites) (l : j < sizes.queue) (n : length m ≤ sizes.part) where
+module _ (queues m : List ℕ) (i j : ℕ) (e : length queues ≡ sizes.queues) (h : i < sizes.sites) (l : j < sizes.queue)
+    (n : length m ≤ sizes.part) where
   put-words : placeWords (putAt (placeAt i j) queues m) i j ≡ take sizes.part (m ++ drop (placeAt i j + length m) queues)
   unfolding placeWords putAt
   put-words =
       let a = placeAt i j in
       ap (take sizes.part) (drop-at (take a queues) (m ++ drop (a + length m) queues) a (length-take-le a queues (omega arith)))
 
-  pub put-length : 0 < length m → getD m word.length 0 ≡ length m → getD (placeWords (putAt (placeAt i j) queues m) i j) word.length 0 ≡ length m
+  pub put-length : 0 < length m → getD m word.length 0 ≡ length m
+      → getD (placeWords (putAt (placeAt i j) queues m) i j) word.length 0 ≡ length m
   put-length b w =
       let r = drop (placeAt i j + length m) queues in
       rw put-words (getD-take sizes.part (m ++ r) 0 0 (omega arith) ∙ List·getD-append m r 0 0 b ∙ w)

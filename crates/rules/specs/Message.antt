@@ -84,7 +84,8 @@ argumentOk o h =
     pick (eqb (h .kind) kind.joined) (some (eqb (h .argument) 0 ∷ eqb (h .argument) reason.full ∷ []))
     (pick (eqb (h .kind) kind.prepare) (every (isMask o (h .argument) ∷ inMask (h .argument) (h .from) ∷ inMask (h .argument) (h .to) ∷ []))
     (pick (eqb (h .kind) kind.vote)
-    (some (eqb (h .argument) 0 ∷ eqb (h .argument) reason.unknown ∷ eqb (h .argument) reason.conflict ∷ eqb (h .argument) reason.uncertain ∷ []))
+    (some (eqb (h .argument) 0 ∷ eqb (h .argument) reason.unknown ∷ eqb (h .argument) reason.conflict
+    ∷ eqb (h .argument) reason.uncertain ∷ []))
     (eqb (h .argument) 0)))
 
 -- at most 47 entries in a CONC, 376 in a CERT, none elsewhere

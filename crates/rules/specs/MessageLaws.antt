@@ -16,7 +16,9 @@ use Rattle.kinds.specs.Word as word
 use Rattle.kinds.specs.declared.House.{House}
 use Rattle.kinds.specs.declared.MessageHead.{MessageHead}
 use Rattle.rules.specs.House.{isSite, isTx, coordinatorOf}
-use Rattle.rules.specs.Message.{entryOffset, messageLength, messageWords, messageHead, messageEntries, coordinatorEnd, argumentOk, mostEntries, endsTests, endsOk, headTests, headOk, shapeTests, messageShape, messageTests, messageOk, GoodMessage}
+use Rattle.rules.specs.Message.{entryOffset, messageLength, messageWords, messageHead, messageEntries, coordinatorEnd, argumentOk}
+use Rattle.rules.specs.Message.{mostEntries, endsTests, endsOk, headTests, headOk, shapeTests, messageShape, messageTests, messageOk}
+use Rattle.rules.specs.Message.{GoodMessage}
 
 -- Any words: the first n of them from k on, read one by one.
 abbrev pub front : ℕ → ℕ → List ℕ → List ℕ
@@ -80,7 +82,9 @@ head-clear o h e =
 
 pub most-at-most : (k : ℕ) → mostEntries k ≤ sizes.certEntries
 unfolding mostEntries
-most-at-most k = by-test (eqb k kind.conc) (λ p. rw p (omega arith)) (λ p. by-test (eqb k kind.cert) (λ q. rw (p, q) (omega arith)) (λ q. rw (p, q) (omega arith)))
+most-at-most k =
+    by-test (eqb k kind.conc) (λ p. rw p (omega arith))
+    (λ p. by-test (eqb k kind.cert) (λ q. rw (p, q) (omega arith)) (λ q. rw (p, q) (omega arith)))
 
 -- only a CONC and a CERT have entries
 pub most-none : (k : ℕ) → k < kind.conc → mostEntries k ≡ 0
@@ -113,7 +117,8 @@ pub entries-back : (h : MessageHead) (es : List ℕ) → messageEntries (message
 unfolding messageEntries messageWords
 entries-back h es = refl
 
-pub length-message : (h : MessageHead) (es : List ℕ) → length es ≡ sizes.entry * h .count → length (messageWords h es) ≡ messageLength (h .count)
+pub length-message : (h : MessageHead) (es : List ℕ) → length es ≡ sizes.entry * h .count
+    → length (messageWords h es) ≡ messageLength (h .count)
 unfolding messageWords
 length-message h es e = omega arith
 
@@ -121,7 +126,12 @@ shape-written : (h : MessageHead) (es : List ℕ) → length es ≡ sizes.entry 
 unfolding messageShape messageWords
 shape-written h es e =
     let l : length (messageWords h es) ≡ messageLength (h .count) = length-message h es e in
-    rw (le-leb sizes.messageHeader (length (messageWords h es)) (omega arith), eq-eqb (messageLength (h .count)) (length (messageWords h es)) (sym l), eq-eqb (length (messageWords h es)) (messageLength (h .count)) l, eq-eqb (entryOffset (h .count)) (entryOffset (h .count)) refl)
+    rw (
+      le-leb sizes.messageHeader (length (messageWords h es)) (omega arith),
+      eq-eqb (messageLength (h .count)) (length (messageWords h es)) (sym l),
+      eq-eqb (length (messageWords h es)) (messageLength (h .count)) l,
+      eq-eqb (entryOffset (h .count)) (entryOffset (h .count)) refl,
+    )
 
 -- and passes the check
 pub written-passes : (o : House) (h : MessageHead) (es : List ℕ) → GoodMessage o h es → messageOk o (messageWords h es) ≡ true

@@ -61,7 +61,8 @@ DueIsWhole w = (out : List ℕ) → step w (world.emit out) .answer ≡ Refused 
 abbrev pub Drained : ℕ → World → ℕ → Type 0
 Drained sites w n =
     (s : ℕ) → 1 ≤ s → s ≤ sites
-    → (w .merged s ≡ length (w .log s)) × ((i : ℕ) × (i < length (w .log s)) × (recordAt w s i .kind ≡ kind.state) × (n ≤ recordAt w s i .number))
+    → (w .merged s ≡ length (w .log s))
+    × ((i : ℕ) × (i < length (w .log s)) × (recordAt w s i .kind ≡ kind.state) × (n ≤ recordAt w s i .number))
 
 -- tx was emitted
 abbrev pub InStream : World → ℕ → Type 0
@@ -77,4 +78,5 @@ Drains sites b w =
 unfoldable pub RecordsProgress : Type 0
 RecordsProgress =
     (sites : ℕ) (calls : List Call) → 1 ≤ sites → sites ≤ sizes.sites → Lawful (freshWorld sites) calls
-    → (let w = run (freshWorld sites) calls in LogsAscend w × NextTaken w × DueIsWhole w × Drains sites (bookFrom (freshWorld sites) calls) w)
+    → (let w = run (freshWorld sites) calls in
+    LogsAscend w × NextTaken w × DueIsWhole w × Drains sites (bookFrom (freshWorld sites) calls) w)

@@ -27,7 +27,8 @@ pub tx-order : (a b : ℕ) → precedes (coordinatorOf a) a (coordinatorOf b) b 
 unfolding coordinatorOf
 tx-order a b =
     by-order a b
-    (λ h. cases-precedes _ _ _ _ (by-order (a / sizes.serials) (b / sizes.serials) (λ l. inl l) (λ l. inr (omega arith, h))) ∙ sym (lt-ltb a b h))
+    (λ h. cases-precedes _ _ _ _ (by-order (a / sizes.serials) (b / sizes.serials) (λ l. inl l) (λ l. inr (omega arith, h)))
+    ∙ sym (lt-ltb a b h))
     (λ h. unset _ (λ t. ⊎-elim
     (λ (l : a / sizes.serials < b / sizes.serials). omega arith)
     (λ (l : (a / sizes.serials ≡ b / sizes.serials) × (a < b)). omega (arith, l .1))
@@ -74,7 +75,8 @@ comes-first-at live b best first e =
     (λ h. rw (le-leb sizes.live best h))
 
 -- what it means to come first, and not to
-first-true : (b : Sub) (best : ℕ) (first : Sub) → comesFirst b best first ≡ true → (isQueued b ≡ true) × (best < sizes.live → queuedBefore b first ≡ true)
+first-true : (b : Sub) (best : ℕ) (first : Sub) → comesFirst b best first ≡ true
+    → (isQueued b ≡ true) × (best < sizes.live → queuedBefore b first ≡ true)
 unfolding comesFirst
 first-true b best first t =
     let r = picked-right (isQueued b) (every (some (leb sizes.live best ∷ queuedBefore b first ∷ []) ∷ [])) t in
@@ -83,7 +85,8 @@ first-true b best first t =
       λ h. by-test (queuedBefore b first) (λ q. q) (λ q. absurd (set-not _ s (rw (lt-leb sizes.live best h, q)))),
     )
 
-first-false : (b : Sub) (best : ℕ) (first : Sub) → comesFirst b best first ≡ false → isQueued b ≡ true → (best < sizes.live) × (queuedBefore b first ≡ false)
+first-false : (b : Sub) (best : ℕ) (first : Sub) → comesFirst b best first ≡ false → isQueued b ≡ true
+    → (best < sizes.live) × (queuedBefore b first ≡ false)
 unfolding comesFirst
 first-false b best first f t = (
   by-order best sizes.live (λ h. h) (λ h. absurd (set-not _ (rw (t, le-leb sizes.live best h)) f)),
@@ -173,7 +176,8 @@ pub state-clock : (live : List Sub) (clock n : ℕ) → stateNumber live clock n
 state-clock live clock zero = omega (arith, state-none live clock)
 state-clock live clock (suc n) = omega (arith, state-clock live clock n, state-falls live clock n)
 
-pub state-open : (live : List Sub) (clock n i : ℕ) → i < n → stageAt live i ≡ stage.queued → stateNumber live clock n ≤ partAt live i .course .number
+pub state-open : (live : List Sub) (clock n i : ℕ) → i < n → stageAt live i ≡ stage.queued
+    → stateNumber live clock n ≤ partAt live i .course .number
 state-open live clock zero i h s = absurd (omega arith)
 state-open live clock (suc n) i h s =
     let e = rw add-one at (state-more live clock n) in
@@ -183,7 +187,8 @@ state-open live clock (suc n) i h s =
     bound-is (partAt live n) (stateNumber live clock n) (λ t q. omega arith) (λ t q. absurd (omega arith)) (λ t r q. absurd (t s′))))
     (λ (z : i < n). omega (arith, state-open live clock n i z s, state-falls live clock n))
 
-pub state-decided : (live : List Sub) (clock n i : ℕ) → i < n → stageAt live i ≡ stage.decided → stateNumber live clock n ≤ partAt live i .course .number - 1
+pub state-decided : (live : List Sub) (clock n i : ℕ) → i < n → stageAt live i ≡ stage.decided
+    → stateNumber live clock n ≤ partAt live i .course .number - 1
 state-decided live clock zero i h s = absurd (omega arith)
 state-decided live clock (suc n) i h s =
     let e = rw add-one at (state-more live clock n) in

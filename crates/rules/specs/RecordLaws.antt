@@ -1,4 +1,5 @@
--- Laws of the record layouts: what is written passes its check and reads back; the check passes nothing else; no words are a message and a record.
+-- Laws of the record layouts: what is written passes its check and reads back; the check passes nothing else; no words are a message and a
+-- record.
 use Prim.Native.Nat.{ℕ, _*_, _≤_, _<_}
 use mathlib.Core.Path.{_≡_, refl, sym, _∙_}
 use mathlib.Core.List.{List}
@@ -17,7 +18,9 @@ use Rattle.rules.specs.House.{isSite, isTx, isMask, inMask, coordinatorO
 use Rattle.rules.specs.Message.{messageHead, messageOk, messageTests}
 use Rattle.rules.specs.MessageLaws as message
 use Rattle.rules.specs.MessageLaws.{front-rest}
-use Rattle.rules.specs.Record.{writeOffset, recordLength, recordWords, recordHead, recordWrites, pairTests, pairOk, partHeadTests, partHeadOk, stateHeadTests, stateHeadOk, mergedHeadTests, mergedHeadOk, shapeTests, recordShape, partTests, partOk, stateTests, stateOk, mergedTests, mergedOk, GoodPart, GoodState, GoodMerged}
+use Rattle.rules.specs.Record.{writeOffset, recordLength, recordWords, recordHead, recordWrites, pairTests, pairOk, partHeadTests}
+use Rattle.rules.specs.Record.{partHeadOk, stateHeadTests, stateHeadOk, mergedHeadTests, mergedHeadOk, shapeTests, recordShape}
+use Rattle.rules.specs.Record.{partTests, partOk, stateTests, stateOk, mergedTests, mergedOk, GoodPart, GoodState, GoodMerged}
 
 -- The shape, which the three kinds share.
 pub record ShapeClear (m : List ℕ) : Type 0 where
@@ -115,7 +118,8 @@ pub writes-back : (r : RecordHead) (ws : List ℕ) → recordWrites (recordWords
 unfolding recordWrites recordWords
 writes-back r ws = refl
 
-pub length-record : (r : RecordHead) (ws : List ℕ) → length ws ≡ sizes.write * r .count → length (recordWords r ws) ≡ recordLength (r .count)
+pub length-record : (r : RecordHead) (ws : List ℕ) → length ws ≡ sizes.write * r .count
+    → length (recordWords r ws) ≡ recordLength (r .count)
 unfolding recordWords
 length-record r ws e = omega arith
 
@@ -205,8 +209,10 @@ merged-passed-good m e =
       writes = every-at (mergedTests m) 2 e;
     }
 
--- No words are both. A message of a kind below CONC has no entries, so it is 10 words long and word 8 is 0; a record of which word 8 is 0 is 9 words long.
-entryless : (o : House) (m : List ℕ) → getD m word.kind 0 < kinds.conc → messageOk o m ≡ true → (length m ≡ 10) × (getD m word.writeOffset 0 ≡ 0)
+-- No words are both. A message of a kind below CONC has no entries, so it is 10 words long and word 8 is 0; a record of which word 8 is 0
+-- is 9 words long.
+entryless : (o : House) (m : List ℕ) → getD m word.kind 0 < kinds.conc → messageOk o m ≡ true
+    → (length m ≡ 10) × (getD m word.writeOffset 0 ≡ 0)
 unfolding messageOk messageHead
 entryless o m k e =
     let s = message.shape-clear m (every-at (messageTests o m) 0 e) in
@@ -232,15 +238,18 @@ record-no-message o m s k =
 
 pub part-no-message : (o p : House) (m : List ℕ) → partOk o m ≡ true → messageOk p m ≡ false
 unfolding recordHead
-part-no-message o p m e = record-no-message p m (part-shape o m e) (omega (arith, part-clear o (recordHead m) (part-passed-good o m e .head) .kind))
+part-no-message o p m e =
+    record-no-message p m (part-shape o m e) (omega (arith, part-clear o (recordHead m) (part-passed-good o m e .head) .kind))
 
 pub state-no-message : (o p : House) (m : List ℕ) → stateOk o m ≡ true → messageOk p m ≡ false
 unfolding recordHead
-state-no-message o p m e = record-no-message p m (state-shape o m e) (omega (arith, state-clear o (recordHead m) (state-passed-good o m e .head) .kind))
+state-no-message o p m e =
+    record-no-message p m (state-shape o m e) (omega (arith, state-clear o (recordHead m) (state-passed-good o m e .head) .kind))
 
 pub merged-no-message : (p : House) (m : List ℕ) → mergedOk m ≡ true → messageOk p m ≡ false
 unfolding recordHead
-merged-no-message p m e = record-no-message p m (merged-shape m e) (omega (arith, merged-clear (recordHead m) (merged-passed-good m e .head) .kind))
+merged-no-message p m e =
+    record-no-message p m (merged-shape m e) (omega (arith, merged-clear (recordHead m) (merged-passed-good m e .head) .kind))
 
 -- and the other way round
 pub record MessageAlone (o : House) (m : List ℕ) : Type 0 where

@@ -24,11 +24,13 @@ pub sender-apart : (mask i : ℕ) → isRecipient mask (i + 1) i ≡ false
 unfolding isRecipient
 sender-apart mask i = rw (eq-eqb (i + 1) (i + 1) refl, pick-same)
 
-pub words-to-some : (h : MessageHead) (sent : List ℕ) (mask : ℕ) (es : List ℕ) (i : ℕ) → isRecipient mask (h .from) i ≡ true → wordsTo h sent mask es i ≡ messageWords (headTo h sent i) es
+pub words-to-some : (h : MessageHead) (sent : List ℕ) (mask : ℕ) (es : List ℕ) (i : ℕ) → isRecipient mask (h .from) i ≡ true
+    → wordsTo h sent mask es i ≡ messageWords (headTo h sent i) es
 unfolding wordsTo
 words-to-some h sent mask es i e = rw e
 
-pub words-to-none : (h : MessageHead) (sent : List ℕ) (mask : ℕ) (es : List ℕ) (i : ℕ) → isRecipient mask (h .from) i ≡ false → wordsTo h sent mask es i ≡ []
+pub words-to-none : (h : MessageHead) (sent : List ℕ) (mask : ℕ) (es : List ℕ) (i : ℕ) → isRecipient mask (h .from) i ≡ false
+    → wordsTo h sent mask es i ≡ []
 unfolding wordsTo
 words-to-none h sent mask es i e = rw e
 
@@ -36,7 +38,8 @@ pub messages-none : (h : MessageHead) (sent : List ℕ) (mask : ℕ) (es : List 
 unfolding messagesTo foldBelow
 messages-none h sent mask es = refl
 
-pub messages-more : (h : MessageHead) (sent : List ℕ) (mask : ℕ) (es : List ℕ) (k : ℕ) → messagesTo h sent mask es (k + 1) ≡ messagesTo h sent mask es k ++ wordsTo h sent mask es k
+pub messages-more : (h : MessageHead) (sent : List ℕ) (mask : ℕ) (es : List ℕ) (k : ℕ)
+    → messagesTo h sent mask es (k + 1) ≡ messagesTo h sent mask es k ++ wordsTo h sent mask es k
 unfolding messagesTo
 messages-more h sent mask es k = fold-more (λ i ws. ws ++ wordsTo h sent mask es i) k []
 
@@ -45,7 +48,8 @@ abbrev longest : ℕ
 longest = messageLength sizes.certEntries
 
 -- Messages fit the buffer: of eight sites at most seven are not the sender.
-module _ (h : MessageHead) (sent : List ℕ) (mask : ℕ) (es : List ℕ) (size : length es ≡ sizes.entry * h .count) (few : h .count ≤ sizes.certEntries) where
+module _ (h : MessageHead) (sent : List ℕ) (mask : ℕ) (es : List ℕ) (size : length es ≡ sizes.entry * h .count)
+    (few : h .count ≤ sizes.certEntries) where
   one-fits : (i : ℕ) → length (wordsTo h sent mask es i) ≤ longest
   unfolding headTo
   one-fits i =
@@ -53,7 +57,8 @@ module _ (h : MessageHead) (sent : List ℕ) (mask : ℕ) (es : List ℕ) (size 
       (λ e. let l = length-message (headTo h sent i) es size in rw (words-to-some h sent mask es i e) (omega arith))
       (λ e. rw (words-to-none h sent mask es i e) (omega arith))
 
-  more-length : (k : ℕ) → length (messagesTo h sent mask es (k + 1)) ≡ length (messagesTo h sent mask es k) + length (wordsTo h sent mask es k)
+  more-length : (k : ℕ)
+      → length (messagesTo h sent mask es (k + 1)) ≡ length (messagesTo h sent mask es k) + length (wordsTo h sent mask es k)
   more-length k = rw (messages-more h sent mask es k) (length-append (messagesTo h sent mask es k) (wordsTo h sent mask es k))
 
   all-fit : (k : ℕ) → length (messagesTo h sent mask es k) ≤ longest * k
@@ -65,18 +70,23 @@ module _ (h : MessageHead) (sent : List ℕ) (mask : ℕ) (es : List ℕ) (size 
   past-sender zero l u = absurd (omega arith)
   past-sender (suc k) l u =
       ⊎-elim
-      (λ (q : h .from ≡ suc k). let e : length (wordsTo h sent mask es k) ≡ 0 = ap length (words-to-none h sent mask es k (rw (q, ← add-one) (sender-apart mask k))) in rw (← add-one k) (omega (arith, all-fit k, more-length k)))
+      (λ (q : h .from ≡ suc k). let e : length (wordsTo h sent mask es k) ≡ 0 =
+      ap length (words-to-none h sent mask es k (rw (q, ← add-one) (sender-apart mask k))) in
+      rw (← add-one k) (omega (arith, all-fit k, more-length k)))
       (λ (q : h .from < suc k). rw (← add-one k) (omega (arith, past-sender k l (omega arith), one-fits k, more-length k)))
       (eq-or-lt-of-le u)
 
-  pub messages-fit : (k : ℕ) → 1 ≤ h .from → h .from ≤ sizes.sites → k < sizes.sites → length (messagesTo h sent mask es k) + length (wordsTo h sent mask es k) ≤ sizes.outgoing
+  pub messages-fit : (k : ℕ) → 1 ≤ h .from → h .from ≤ sizes.sites → k < sizes.sites
+      → length (messagesTo h sent mask es k) + length (wordsTo h sent mask es k) ≤ sizes.outgoing
   messages-fit k l u q =
       by-test (leb (h .from) (k + 1))
       (λ e. omega (arith, more-length k, past-sender (k + 1) l (leb-true _ _ e)))
       (λ e. omega (arith, more-length k, all-fit (k + 1), leb-false (h .from) (k + 1) e))
 
 -- The counts: a step keeps those of the sites behind it, so each recipient's is stepped once.
-pub steps-more : (sent : List ℕ) (mask sender k : ℕ) → stepRecipients sent mask sender (k + 1) ≡ pick (isRecipient mask sender k) (stepCount (stepRecipients sent mask sender k) k) (stepRecipients sent mask sender k)
+pub steps-more : (sent : List ℕ) (mask sender k : ℕ)
+    → stepRecipients sent mask sender (k + 1)
+    ≡ pick (isRecipient mask sender k) (stepCount (stepRecipients sent mask sender k) k) (stepRecipients sent mask sender k)
 unfolding stepRecipients
 steps-more sent mask sender k = fold-more (λ i l. pick (isRecipient mask sender i) (stepCount l i) l) k sent
 
@@ -91,7 +101,8 @@ step-length false l i = refl
 pub length-steps : (sent : List ℕ) (mask sender k : ℕ) → length (stepRecipients sent mask sender k) ≡ length sent
 length-steps sent mask sender zero = ap length (steps-none sent mask sender)
 length-steps sent mask sender (suc k) =
-    rw (← add-one k, steps-more sent mask sender k) (step-length (isRecipient mask sender k) (stepRecipients sent mask sender k) k ∙ length-steps sent mask sender k)
+    rw (← add-one k, steps-more sent mask sender k)
+    (step-length (isRecipient mask sender k) (stepRecipients sent mask sender k) k ∙ length-steps sent mask sender k)
 
 step-other : (b : Bool) (l : List ℕ) (i j : ℕ) → (j ≡ i → ⊥) → getD (pick b (stepCount l i) l) j 0 ≡ getD l j 0
 step-other true l i j d = getD-set-other l i j (getD l i 0 + 1) 0 d
@@ -101,19 +112,22 @@ pub steps-behind : (sent : List ℕ) (mask sender k j : ℕ) → k ≤ j → get
 steps-behind sent mask sender zero j h = rw (steps-none sent mask sender)
 steps-behind sent mask sender (suc k) j h =
     rw (← add-one k, steps-more sent mask sender k)
-    (step-other (isRecipient mask sender k) (stepRecipients sent mask sender k) k j (λ q. omega arith) ∙ steps-behind sent mask sender k j (omega arith))
+    (step-other (isRecipient mask sender k) (stepRecipients sent mask sender k) k j (λ q. omega arith)
+    ∙ steps-behind sent mask sender k j (omega arith))
 
 step-same : (b : Bool) (l : List ℕ) (i : ℕ) → i < length l → getD (pick b (stepCount l i) l) i 0 ≡ pick b (getD l i 0 + 1) (getD l i 0)
 step-same true l i h = getD-set-same l i (getD l i 0 + 1) 0 h
 step-same false l i h = refl
 
 -- of the first k sites, a recipient's count is one more, another's as it was
-pub steps-at : (sent : List ℕ) (mask sender k i : ℕ) → k ≤ length sent → i < k → getD (stepRecipients sent mask sender k) i 0 ≡ pick (isRecipient mask sender i) (getD sent i 0 + 1) (getD sent i 0)
+pub steps-at : (sent : List ℕ) (mask sender k i : ℕ) → k ≤ length sent → i < k
+    → getD (stepRecipients sent mask sender k) i 0 ≡ pick (isRecipient mask sender i) (getD sent i 0 + 1) (getD sent i 0)
 steps-at sent mask sender zero i u h = absurd (omega arith)
 steps-at sent mask sender (suc k) i u h =
     let l = stepRecipients sent mask sender k in
     let b = isRecipient mask sender k in
     rw (← add-one k, steps-more sent mask sender k)
     (split-last h
-    (λ (q : i ≡ k). rw q (step-same b l k (omega (arith, length-steps sent mask sender k)) ∙ rw (steps-behind sent mask sender k k (omega arith))))
+    (λ (q : i ≡ k). rw q
+    (step-same b l k (omega (arith, length-steps sent mask sender k)) ∙ rw (steps-behind sent mask sender k k (omega arith))))
     (λ (q : i < k). step-other b l k i (λ e. omega arith) ∙ steps-at sent mask sender k i (omega arith) q))

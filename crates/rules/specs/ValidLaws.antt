@@ -26,7 +26,8 @@ use Rattle.rules.specs.Keys.{keysAt, keysOk}
 use Rattle.rules.specs.History.{forgotten, remembered, slotOf, recall}
 use Rattle.rules.specs.HistoryLaws.{slot-low, slot-used}
 use Rattle.rules.specs.Message.{entryPossible}
-use Rattle.rules.specs.Valid.{courseOk, heldOk, subOk, entryOk, countersOk, liveOk, historyOk, siteOk, listAt, gatheredOk, listsOk, handedOk}
+use Rattle.rules.specs.Valid.{courseOk, heldOk, subOk, entryOk, countersOk, liveOk, historyOk, siteOk, listAt, gatheredOk, listsOk}
+use Rattle.rules.specs.Valid.{handedOk}
 
 -- The house and the site in it.
 pub record ValidHouse (o : House) (own : ℕ) : Type 0 where
@@ -117,9 +118,14 @@ pub participants-lack : (mask s : ℕ) → mask < 256 → 1 ≤ s → s ≤ 8 �
 participants-lack mask s h l k t =
     omega (arith, participants-sites mask h, ones-lack mask 8 (s - 1) (omega arith) (digit-none mask s t))
 
-pub participants-lack-two : (mask s r : ℕ) → mask < 256 → 1 ≤ s → s < r → r ≤ 8 → inMask mask s ≡ false → inMask mask r ≡ false → participants mask ≤ 6
+pub participants-lack-two : (mask s r : ℕ) → mask < 256 → 1 ≤ s → s < r → r ≤ 8 → inMask mask s ≡ false → inMask mask r ≡ false
+    → participants mask ≤ 6
 participants-lack-two mask s r h l q k t u =
-    omega (arith, participants-sites mask h, ones-lack-two mask 8 (s - 1) (r - 1) (omega arith) (omega arith) (digit-none mask s t) (digit-none mask r u))
+    omega (
+      arith,
+      participants-sites mask h,
+      ones-lack-two mask 8 (s - 1) (r - 1) (omega arith) (omega arith) (digit-none mask s t) (digit-none mask r u),
+    )
 
 pub valid-house : (o : House) (own : ℕ) → houseOk o ≡ true → isSite o own ≡ true → ValidHouse o own
 unfolding houseOk isSite
@@ -138,7 +144,8 @@ keys-here o own keys n j t h = eqb-true _ _ (all-below-at (λ i. eqb (siteOf o (
 pub valid-keys : (o : House) (own : ℕ) (b : Keys) → own ≤ 8 → keysOk o own b ≡ true → ValidKeys o own b
 unfolding keysOk
 valid-keys o own b h t =
-    let l = leb (b .read) sizes.reads ∷ leb (b .wrote) sizes.writes ∷ keysAt o own (b .reads) (b .read) ∷ keysAt o own (b .writes) (b .wrote) ∷ [] in
+    let l = leb (b .read) sizes.reads ∷ leb (b .wrote) sizes.writes ∷ keysAt o own (b .reads) (b .read)
+    ∷ keysAt o own (b .writes) (b .wrote) ∷ [] in
     record {
       few-read = leb-true (b .read) 16 (every-at l 0 t);
       few-wrote = leb-true (b .wrote) 16 (every-at l 1 t);
@@ -165,7 +172,8 @@ valid-course o own c h t =
       mask-low = mask-low o (c .mask) (h .few-sites) (every-at l 1 t);
       heard-low = mask-low o (c .heard) (h .few-sites) (every-at l 2 t);
       others = not-true (inMask (c .heard) own) (every-at l 3 t);
-      heard-few = participants-lack (c .heard) own (mask-low o (c .heard) (h .few-sites) (every-at l 2 t)) (h .own-low) (omega arith) (not-true (inMask (c .heard) own) (every-at l 3 t));
+      heard-few = participants-lack (c .heard) own (mask-low o (c .heard) (h .few-sites) (every-at l 2 t)) (h .own-low) (omega arith)
+          (not-true (inMask (c .heard) own) (every-at l 3 t));
       listed = leb-true (c .listed) (47 * (participants (c .heard) + 1)) (every-at l 4 t);
     }
 
@@ -197,7 +205,8 @@ counters-own o c t = every-at (isSite o (c .own) ∷ leb (c .serial) sizes.lastS
 
 pub counters-serial : (o : House) (c : Counters) → countersOk o c ≡ true → c .serial < 4294967296
 unfolding countersOk
-counters-serial o c t = omega (arith, leb-true (c .serial) sizes.lastSerial (every-at (isSite o (c .own) ∷ leb (c .serial) sizes.lastSerial ∷ []) 1 t))
+counters-serial o c t =
+    omega (arith, leb-true (c .serial) sizes.lastSerial (every-at (isSite o (c .own) ∷ leb (c .serial) sizes.lastSerial ∷ []) 1 t))
 
 live-at : (o : House) (own : ℕ) (live : List Sub) (i : ℕ) → liveOk o own live ≡ true → i < 16 → subOk o own (getD live i pastSub) ≡ true
 unfolding liveOk
@@ -206,7 +215,8 @@ live-at o own live i t h = all-below-at (λ i. subOk o own (getD live i pastSub)
 history-at : (o : House) (own installs : ℕ) (history : List Entry) (i : ℕ) → historyOk o own installs history ≡ true → i < 32
     → entryOk o own (ltb i (remembered installs)) (getD history i pastEntry) ≡ true
 unfolding historyOk
-history-at o own installs history i t h = all-below-at (λ i. entryOk o own (ltb i (remembered installs)) (getD history i pastEntry)) 32 i t h
+history-at o own installs history i t h =
+    all-below-at (λ i. entryOk o own (ltb i (remembered installs)) (getD history i pastEntry)) 32 i t h
 
 pub valid-site : (s : Site) → siteOk s ≡ true → ValidSite s
 unfolding siteOk
@@ -232,7 +242,8 @@ live-wrote s t i h = valid-site s t .part i h .keys .few-wrote
 
 -- each remembered install lies in a slot of the history
 pub valid-recall : (s : Site) → siteOk s ≡ true → (i : ℕ) → (let n = forgotten (s .counters .installs) + i in
-    ValidEntry (s .house) (s .counters .own) (ltb (slotOf n) (remembered (s .counters .installs))) (recall (s .history) (s .counters .installs) i))
+    ValidEntry (s .house) (s .counters .own) (ltb (slotOf n) (remembered (s .counters .installs)))
+    (recall (s .history) (s .counters .installs) i))
 valid-recall s t i =
     let n = forgotten (s .counters .installs) + i in
     valid-site s t .entry (slotOf n) (slot-low n)
@@ -253,7 +264,8 @@ handed-site s lists t = every-at (eqb (length lists) sizes.lists ∷ siteOk s �
 
 -- an entry that a held part has gathered
 pub handed-entry : (s : Site) (lists : List ℕ) → handedOk s lists ≡ true → (place i : ℕ) → place < sizes.live
-    → (subAt s place .course .stage ≡ stage.free → ⊥) → i < subAt s place .course .listed → entryPossible (s .house) (listAt lists place) i ≡ true
+    → (subAt s place .course .stage ≡ stage.free → ⊥) → i < subAt s place .course .listed
+    → entryPossible (s .house) (listAt lists place) i ≡ true
 unfolding handedOk listsOk gatheredOk
 handed-entry s lists t place i h n l =
     let o = s .house in

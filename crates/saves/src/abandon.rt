@@ -31,8 +31,10 @@ fn abandon_code(stage: u64, low: bool) -> u64
 // The part at a place is aborted, unless it is decided.
 fn abandon_at(p: Core, live: &mut [u64], history: &[u64], place: usize, out: &mut [u64]) -> Reply
     requires { ⌜ Placed p (now live) (now history) place × (sizes.outgoing ≤ length (now out)) ⌝ }
-    ensures { λ r. ⌜ Replied p (now (live .entry)) (now (history .entry)) r (now (live .exit)) (now (history .exit)) (abandonAt (siteOf p (now (live .entry)) (now (history .entry))) place) ⌝ }
-    ensures { λ _. ⌜ now (out .exit) ≡ overlay (now (out .entry)) (abandonAt (siteOf p (now (live .entry)) (now (history .entry))) place .words) ⌝ }
+    ensures { λ r. ⌜ Replied p (now (live .entry)) (now (history .entry)) r (now (live .exit)) (now (history .exit))
+        (abandonAt (siteOf p (now (live .entry)) (now (history .entry))) place) ⌝ }
+    ensures { λ _. ⌜ now (out .exit)
+        ≡ overlay (now (out .entry)) (abandonAt (siteOf p (now (live .entry)) (now (history .entry))) place .words) ⌝ }
 {
     let t = shell::turn_at(p, live, place);
     let course = t.sub.course;
@@ -48,8 +50,11 @@ fn abandon_at(p: Core, live: &mut [u64], history: &[u64], place: usize, out: &mu
 }
 
 pub fn abandon(p: Core, live: &mut [u64], history: &[u64], tx: u64, out: &mut [u64]) -> Reply
-    ensures { λ r. ⌜ Replied p (now (live .entry)) (now (history .entry)) r (now (live .exit)) (now (history .exit)) (abandonOf (siteOf p (now (live .entry)) (now (history .entry))) (length (now (out .entry))) tx) ⌝ }
-    ensures { λ _. ⌜ now (out .exit) ≡ overlay (now (out .entry)) (abandonOf (siteOf p (now (live .entry)) (now (history .entry))) (length (now (out .entry))) tx .words) ⌝ }
+    ensures { λ r. ⌜ Replied p (now (live .entry)) (now (history .entry)) r (now (live .exit)) (now (history .exit))
+        (abandonOf (siteOf p (now (live .entry)) (now (history .entry))) (length (now (out .entry))) tx) ⌝ }
+    ensures { λ _. ⌜ now (out .exit)
+        ≡ overlay (now (out .entry))
+        (abandonOf (siteOf p (now (live .entry)) (now (history .entry))) (length (now (out .entry))) tx .words) ⌝ }
 {
     let ok = valid::site_ok(p, live, history);
     let seats = p.seats;

@@ -60,8 +60,15 @@ fn lone_step(
 ) -> Taken
     requires { ⌜ Own p (now live) (now history) place (now own) n ⌝ }
     requires { ⌜ CanSendAll t (length (now out)) ⌝ }
-    ensures { λ r. ⌜ r ≡ takenOf (castStep t (voteOf (siteOf p (now (live .entry)) (now (history .entry))) place (joined (now (own .entry)) n) (entryCount (joined (now (own .entry)) n))) (joined (now (own .entry)) n)) ⌝ }
-    ensures { λ _. ⌜ now (out .exit) ≡ overlay (now (out .entry)) ((castStep t (voteOf (siteOf p (now (live .entry)) (now (history .entry))) place (joined (now (own .entry)) n) (entryCount (joined (now (own .entry)) n))) (joined (now (own .entry)) n)) .words) ⌝ }
+    ensures { λ r. ⌜ r
+        ≡ takenOf (castStep t
+        (voteOf (siteOf p (now (live .entry)) (now (history .entry))) place (joined (now (own .entry)) n)
+        (entryCount (joined (now (own .entry)) n))) (joined (now (own .entry)) n)) ⌝ }
+    ensures { λ _. ⌜ now (out .exit)
+        ≡ overlay (now (out .entry))
+        ((castStep t
+        (voteOf (siteOf p (now (live .entry)) (now (history .entry))) place (joined (now (own .entry)) n)
+        (entryCount (joined (now (own .entry)) n))) (joined (now (own .entry)) n)) .words) ⌝ }
 {
     let mut list = [0u64; LIST];
     let k = join::join(&mut list, own, n);
@@ -83,7 +90,9 @@ fn request_step(
     requires { ⌜ Own p (now live) (now history) place (now own) n ⌝ }
     requires { ⌜ CanSendAll (turnAt (siteOf p (now live) (now history)) place) (length (now out)) ⌝ }
     ensures { λ r. ⌜ r ≡ takenOf (requestChange (siteOf p (now (live .entry)) (now (history .entry))) place (now (own .entry))) ⌝ }
-    ensures { λ _. ⌜ now (out .exit) ≡ overlay (now (out .entry)) ((requestChange (siteOf p (now (live .entry)) (now (history .entry))) place (now (own .entry))) .words) ⌝ }
+    ensures { λ _. ⌜ now (out .exit)
+        ≡ overlay (now (out .entry))
+        ((requestChange (siteOf p (now (live .entry)) (now (history .entry))) place (now (own .entry))) .words) ⌝ }
 {
     let t = shell::turn_at(p, live, place);
     let c = course::turn::with_request(t.sub.course, n);
@@ -107,7 +116,8 @@ fn list_step(
     requires { ⌜ CanSendAll (turnAt (siteOf p (now live) (now history)) place) (length (now out)) ⌝ }
     ensures { λ r. ⌜ (let s = siteOf p (now (live .entry)) (now (history .entry)) in
         r ≡ takenOf (requestChange s place (concurrent s place))) ⌝ }
-    ensures { λ _. ⌜ now (lists .exit) ≡ putAt (sizes.gathered * place) (now (lists .entry)) (concurrent (siteOf p (now (live .entry)) (now (history .entry))) place) ⌝ }
+    ensures { λ _. ⌜ now (lists .exit)
+        ≡ putAt (sizes.gathered * place) (now (lists .entry)) (concurrent (siteOf p (now (live .entry)) (now (history .entry))) place) ⌝ }
     ensures { λ _. ⌜ (let s = siteOf p (now (live .entry)) (now (history .entry)) in
         now (out .exit) ≡ overlay (now (out .entry)) (requestChange s place (concurrent s place) .words)) ⌝ }
 {
@@ -132,7 +142,8 @@ fn commit_step(
     requires { ⌜ CanSendAll (turnAt (siteOf p (now live) (now history)) place) (length (now out)) ⌝ }
     ensures { λ r. ⌜ r ≡ takenOf (commitChange (siteOf p (now (live .entry)) (now (history .entry))) place) ⌝ }
     ensures { λ _. ⌜ now (lists .exit) ≡ commitLists (siteOf p (now (live .entry)) (now (history .entry))) (now (lists .entry)) place ⌝ }
-    ensures { λ _. ⌜ now (out .exit) ≡ overlay (now (out .entry)) ((commitChange (siteOf p (now (live .entry)) (now (history .entry))) place) .words) ⌝ }
+    ensures { λ _. ⌜ now (out .exit)
+        ≡ overlay (now (out .entry)) ((commitChange (siteOf p (now (live .entry)) (now (history .entry))) place) .words) ⌝ }
 {
     let t = shell::turn_at(p, live, place);
     if t.sub.course.reason != 0 {
@@ -155,9 +166,11 @@ fn commit_at(
 ) -> Reply
     requires { ⌜ Placed p (now live) (now history) place ⌝ }
     requires { ⌜ (length (now lists) ≡ sizes.lists) × (sizes.outgoing ≤ length (now out)) ⌝ }
-    ensures { λ r. ⌜ Replied p (now (live .entry)) (now (history .entry)) r (now (live .exit)) (now (history .exit)) (commitAt (siteOf p (now (live .entry)) (now (history .entry))) (now (lists .entry)) place) ⌝ }
+    ensures { λ r. ⌜ Replied p (now (live .entry)) (now (history .entry)) r (now (live .exit)) (now (history .exit))
+        (commitAt (siteOf p (now (live .entry)) (now (history .entry))) (now (lists .entry)) place) ⌝ }
     ensures { λ _. ⌜ now (lists .exit) ≡ commitAt (siteOf p (now (live .entry)) (now (history .entry))) (now (lists .entry)) place .lent ⌝ }
-    ensures { λ _. ⌜ now (out .exit) ≡ overlay (now (out .entry)) (commitAt (siteOf p (now (live .entry)) (now (history .entry))) (now (lists .entry)) place .words) ⌝ }
+    ensures { λ _. ⌜ now (out .exit)
+        ≡ overlay (now (out .entry)) (commitAt (siteOf p (now (live .entry)) (now (history .entry))) (now (lists .entry)) place .words) ⌝ }
 {
     let t = shell::turn_at(p, live, place);
     let c = t.sub.course;
@@ -182,9 +195,13 @@ pub fn commit(
     lists: &mut [u64],
     out: &mut [u64],
 ) -> Reply
-    ensures { λ r. ⌜ Replied p (now (live .entry)) (now (history .entry)) r (now (live .exit)) (now (history .exit)) (commitOf (siteOf p (now (live .entry)) (now (history .entry))) (length (now (out .entry))) (now (lists .entry)) tx) ⌝ }
-    ensures { λ _. ⌜ now (lists .exit) ≡ commitOf (siteOf p (now (live .entry)) (now (history .entry))) (length (now (out .entry))) (now (lists .entry)) tx .lent ⌝ }
-    ensures { λ _. ⌜ now (out .exit) ≡ overlay (now (out .entry)) ((commitOf (siteOf p (now (live .entry)) (now (history .entry))) (length (now (out .entry))) (now (lists .entry)) tx) .words) ⌝ }
+    ensures { λ r. ⌜ Replied p (now (live .entry)) (now (history .entry)) r (now (live .exit)) (now (history .exit))
+        (commitOf (siteOf p (now (live .entry)) (now (history .entry))) (length (now (out .entry))) (now (lists .entry)) tx) ⌝ }
+    ensures { λ _. ⌜ now (lists .exit)
+        ≡ commitOf (siteOf p (now (live .entry)) (now (history .entry))) (length (now (out .entry))) (now (lists .entry)) tx .lent ⌝ }
+    ensures { λ _. ⌜ now (out .exit)
+        ≡ overlay (now (out .entry))
+        ((commitOf (siteOf p (now (live .entry)) (now (history .entry))) (length (now (out .entry))) (now (lists .entry)) tx) .words) ⌝ }
 {
     let ok = valid::handed_ok(p, live, history, lists);
     let seats = p.seats;

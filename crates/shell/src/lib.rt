@@ -17,7 +17,8 @@ ghost use Rattle.lent.specs.Lent.{siteOf, Replied};
 
 // An answer that alters nothing.
 pub fn unaltered(p: Core, answer: Answer, words: usize) -> Reply
-    ensures { λ r. ⌜ ((ws : List ℕ) → words ≡ length ws → (w h lent : List ℕ) → Replied p w h r w h (record { answer = answer; words = ws; site = siteOf p w h; lent = lent })) ⌝ }
+    ensures { λ r. ⌜ ((ws : List ℕ) → words ≡ length ws → (w h lent : List ℕ)
+        → Replied p w h r w h (record { answer = answer; words = ws; site = siteOf p w h; lent = lent })) ⌝ }
 {
     Reply {
         answer,
@@ -97,7 +98,8 @@ pub fn passed(p: Core, from: u64) -> Reply
 // The site with a step taken at a place.
 pub fn settled(p: Core, live: &mut [u64], place: usize, a: Taken) -> Reply
     requires { ⌜ (length (now live) ≡ sizes.liveWords) × (place < sizes.live) ⌝ }
-    ensures { λ r. ⌜ ((c : Change) → a ≡ takenOf c → (h lent : List ℕ) → Replied p (now (live .entry)) h r (now (live .exit)) h (changed (siteOf p (now (live .entry)) h) place c lent)) ⌝ }
+    ensures { λ r. ⌜ ((c : Change) → a ≡ takenOf c → (h lent : List ℕ)
+        → Replied p (now (live .entry)) h r (now (live .exit)) h (changed (siteOf p (now (live .entry)) h) place c lent)) ⌝ }
 {
     let answer = a.answer;
     let t = a.turn;

@@ -128,7 +128,8 @@ fn read_at(
     key: u64,
 ) -> Reply
     requires { ⌜ Accessed p (now live) (now history) place × (key < length (now base)) ⌝ }
-    ensures { λ r. ⌜ Replied p (now (live .entry)) (now (history .entry)) r (now (live .exit)) (now (history .exit)) (readAt (siteOf p (now (live .entry)) (now (history .entry))) (now (base .entry)) place key) ⌝ }
+    ensures { λ r. ⌜ Replied p (now (live .entry)) (now (history .entry)) r (now (live .exit)) (now (history .exit))
+        (readAt (siteOf p (now (live .entry)) (now (history .entry))) (now (base .entry)) place key) ⌝ }
 {
     let t = shell::turn_at(p, live, place);
     let keys = t.sub.keys;
@@ -152,7 +153,8 @@ fn read_at(
 
 // Reads a key of this site.
 pub fn read(p: Core, live: &mut [u64], history: &[u64], base: &[u64], tx: u64, key: u64) -> Reply
-    ensures { λ r. ⌜ Replied p (now (live .entry)) (now (history .entry)) r (now (live .exit)) (now (history .exit)) (readOf (siteOf p (now (live .entry)) (now (history .entry))) (now (base .entry)) tx key) ⌝ }
+    ensures { λ r. ⌜ Replied p (now (live .entry)) (now (history .entry)) r (now (live .exit)) (now (history .exit))
+        (readOf (siteOf p (now (live .entry)) (now (history .entry))) (now (base .entry)) tx key) ⌝ }
 {
     let ok = valid::site_ok(p, live, history);
     let house = tables::lent_house(p.house, live.len(), history.len());
@@ -184,7 +186,8 @@ fn fresh_code(p: Core, live: &[u64], history: &[u64], place: usize, t: Turn, key
 fn written(p: Core, live: &mut [u64], place: usize, t: Turn, key: u64, value: Value) -> Reply
     requires { ⌜ (length (now live) ≡ sizes.liveWords) × (place < sizes.live) ⌝ }
     requires { ⌜ Writable (t .sub .keys) key ⌝ }
-    ensures { λ r. ⌜ ((h : List ℕ) → t ≡ turnAt (siteOf p (now (live .entry)) h) place → Replied p (now (live .entry)) h r (now (live .exit)) h (writtenOf (siteOf p (now (live .entry)) h) place key value)) ⌝ }
+    ensures { λ r. ⌜ ((h : List ℕ) → t ≡ turnAt (siteOf p (now (live .entry)) h) place
+        → Replied p (now (live .entry)) h r (now (live .exit)) h (writtenOf (siteOf p (now (live .entry)) h) place key value)) ⌝ }
 {
     let keys = t.sub.keys;
     let more = keys::with_write(keys, key, value);
@@ -202,7 +205,8 @@ fn write_at(
     value: Value,
 ) -> Reply
     requires { ⌜ Accessed p (now live) (now history) place ⌝ }
-    ensures { λ r. ⌜ Replied p (now (live .entry)) (now (history .entry)) r (now (live .exit)) (now (history .exit)) (writeAt (siteOf p (now (live .entry)) (now (history .entry))) place key value) ⌝ }
+    ensures { λ r. ⌜ Replied p (now (live .entry)) (now (history .entry)) r (now (live .exit)) (now (history .exit))
+        (writeAt (siteOf p (now (live .entry)) (now (history .entry))) place key value) ⌝ }
 {
     let t = shell::turn_at(p, live, place);
     let keys = t.sub.keys;
@@ -218,7 +222,8 @@ fn write_at(
 
 // Writes a key of this site privately, and holds it until install or abort.
 pub fn write(p: Core, live: &mut [u64], history: &[u64], tx: u64, key: u64, value: Value) -> Reply
-    ensures { λ r. ⌜ Replied p (now (live .entry)) (now (history .entry)) r (now (live .exit)) (now (history .exit)) (writeOf (siteOf p (now (live .entry)) (now (history .entry))) tx key value) ⌝ }
+    ensures { λ r. ⌜ Replied p (now (live .entry)) (now (history .entry)) r (now (live .exit)) (now (history .exit))
+        (writeOf (siteOf p (now (live .entry)) (now (history .entry))) tx key value) ⌝ }
 {
     let ok = valid::site_ok(p, live, history);
     let house = tables::lent_house(p.house, live.len(), history.len());

@@ -65,7 +65,8 @@ fn begun(p: Core) -> Taken
 }
 
 pub fn begin(p: Core, live: &mut [u64], history: &[u64]) -> Reply
-    ensures { λ r. ⌜ Replied p (now (live .entry)) (now (history .entry)) r (now (live .exit)) (now (history .exit)) (beginOf (siteOf p (now (live .entry)) (now (history .entry)))) ⌝ }
+    ensures { λ r. ⌜ Replied p (now (live .entry)) (now (history .entry)) r (now (live .exit)) (now (history .exit))
+        (beginOf (siteOf p (now (live .entry)) (now (history .entry)))) ⌝ }
 {
     let ok = valid::site_ok(p, live, history);
     let seats = p.seats;

@@ -69,8 +69,10 @@ fn enlist_at(
 ) -> Reply
     requires { ⌜ Accessed p (now live) (now history) place ⌝ }
     requires { ⌜ (1 ≤ site) × ((site ≤ sizes.sites) × (sizes.outgoing ≤ length (now out))) ⌝ }
-    ensures { λ r. ⌜ Replied p (now (live .entry)) (now (history .entry)) r (now (live .exit)) (now (history .exit)) (enlistAt (siteOf p (now (live .entry)) (now (history .entry))) place site) ⌝ }
-    ensures { λ _. ⌜ now (out .exit) ≡ overlay (now (out .entry)) (enlistAt (siteOf p (now (live .entry)) (now (history .entry))) place site .words) ⌝ }
+    ensures { λ r. ⌜ Replied p (now (live .entry)) (now (history .entry)) r (now (live .exit)) (now (history .exit))
+        (enlistAt (siteOf p (now (live .entry)) (now (history .entry))) place site) ⌝ }
+    ensures { λ _. ⌜ now (out .exit)
+        ≡ overlay (now (out .entry)) (enlistAt (siteOf p (now (live .entry)) (now (history .entry))) place site .words) ⌝ }
 {
     let t = shell::turn_at(p, live, place);
     let course = t.sub.course;
@@ -92,8 +94,11 @@ pub fn enlist(
     site: u64,
     out: &mut [u64],
 ) -> Reply
-    ensures { λ r. ⌜ Replied p (now (live .entry)) (now (history .entry)) r (now (live .exit)) (now (history .exit)) (enlistOf (siteOf p (now (live .entry)) (now (history .entry))) (length (now (out .entry))) tx site) ⌝ }
-    ensures { λ _. ⌜ now (out .exit) ≡ overlay (now (out .entry)) (enlistOf (siteOf p (now (live .entry)) (now (history .entry))) (length (now (out .entry))) tx site .words) ⌝ }
+    ensures { λ r. ⌜ Replied p (now (live .entry)) (now (history .entry)) r (now (live .exit)) (now (history .exit))
+        (enlistOf (siteOf p (now (live .entry)) (now (history .entry))) (length (now (out .entry))) tx site) ⌝ }
+    ensures { λ _. ⌜ now (out .exit)
+        ≡ overlay (now (out .entry))
+        (enlistOf (siteOf p (now (live .entry)) (now (history .entry))) (length (now (out .entry))) tx site .words) ⌝ }
 {
     let ok = valid::site_ok(p, live, history);
     let house = tables::lent_house(p.house, live.len(), history.len());

@@ -64,9 +64,16 @@ pub fn start(
     base: &mut [u64],
     lists: &mut [u64],
 ) -> Reply
-    ensures { λ r. ⌜ Started sites own (now (live .entry)) (now (history .entry)) (length (now (base .entry))) (length (now (lists .entry))) r (now (live .exit)) (now (history .exit)) ⌝ }
-    ensures { λ _. ⌜ now (base .exit) ≡ startTable (startedCode sites own (now (live .entry)) (now (history .entry)) (length (now (base .entry))) (length (now (lists .entry)))) (now (base .entry)) ⌝ }
-    ensures { λ _. ⌜ now (lists .exit) ≡ startTable (startedCode sites own (now (live .entry)) (now (history .entry)) (length (now (base .entry))) (length (now (lists .entry)))) (now (lists .entry)) ⌝ }
+    ensures { λ r. ⌜ Started sites own (now (live .entry)) (now (history .entry)) (length (now (base .entry))) (length (now (lists .entry)))
+        r (now (live .exit)) (now (history .exit)) ⌝ }
+    ensures { λ _. ⌜ now (base .exit)
+        ≡ startTable
+        (startedCode sites own (now (live .entry)) (now (history .entry)) (length (now (base .entry))) (length (now (lists .entry))))
+        (now (base .entry)) ⌝ }
+    ensures { λ _. ⌜ now (lists .exit)
+        ≡ startTable
+        (startedCode sites own (now (live .entry)) (now (history .entry)) (length (now (base .entry))) (length (now (lists .entry))))
+        (now (lists .entry)) ⌝ }
 {
     let house = tables::lent_house(House { sites }, live.len(), history.len());
     let code = start_code(house.sites, own, base.len(), lists.len());

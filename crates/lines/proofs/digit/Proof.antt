@@ -20,7 +20,12 @@ returns-2 c = search (lt-ltb, le-ltb, le-leb, lt-leb, eq-eqb, ne-eqb, needs)
 
 returns-3 : tie.Need-returns-3
 unfolding digit
-returns-3 c = let a = c .before .before .before .args in simp (le-ltb (a .b) 48 (c .before .before .if1 .left), le-ltb 57 (a .b) (c .before .if2 .left), le-leb 18446744073709551616 (a .word * 10 + (a .b - 48)) (omega arith))
+returns-3 c = let a = c .before .before .before .args in
+    simp (
+      le-ltb (a .b) 48 (c .before .before .if1 .left),
+      le-ltb 57 (a .b) (c .before .if2 .left),
+      le-leb 18446744073709551616 (a .word * 10 + (a .b - 48)) (omega arith),
+    )
 
 mul-tens : tie.Need-mul-tens
 mul-tens c = search needs

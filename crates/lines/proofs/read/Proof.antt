@@ -8,7 +8,8 @@ use Rattle.lines.proofs.read.Statement.{statement}
 use Rattle.lines.proofs.read.Tie as tie
 
 abbrev Inv-loop : tie.InvT-loop
-Inv-loop text from to t₀ i₀ t i = (from ≤ i) × (i ≤ to) × (t ≡ readOn text from (i - from) t₀) × ((k : ℕ) → k < i - from → getD text (from + k) 0 ≡ 10 → ⊥)
+Inv-loop text from to t₀ i₀ t i = (from ≤ i) × (i ≤ to) × (t ≡ readOn text from (i - from) t₀)
+    × ((k : ℕ) → k < i - from → getD text (from + k) 0 ≡ 10 → ⊥)
 
 abbrev μ-loop : tie.MeasureT-loop
 μ-loop text from to t₀ i₀ t i = to - i
@@ -20,7 +21,8 @@ abbrev at-loop : tie.Else1 Inv-loop μ-loop → tie.At-loop Inv-loop μ-loop
 at-loop c = c .before .before .before
 
 loop-holds : tie.Need-loop-holds Inv-loop μ-loop
-loop-holds c = let a = c .before .args in (search needs, search needs, read-none (a .text .now) (a .from) (a .s), no-newline-none (a .text .now) (a .from))
+loop-holds c = let a = c .before .args in
+    (search needs, search needs, read-none (a .text .now) (a .from) (a .s), no-newline-none (a .text .now) (a .from))
 
 shared-slice-read-b : tie.Need-shared-slice-read-b Inv-loop μ-loop
 shared-slice-read-b c = search needs

@@ -24,7 +24,8 @@ mul-c : tie.Need-mul-c
 mul-c c = omega (arith, ap (λ (r : RecordHead). r .site) (c .before .read-record .ensures), c .before .before .before .pre .high)
 
 element-copy-out-c : tie.Need-element-copy-out-c
-element-copy-out-c c = omega (arith, ap (λ (r : RecordHead). r .site) (c .before .read-record .ensures), c .before .before .before .pre .high)
+element-copy-out-c c =
+    omega (arith, ap (λ (r : RecordHead). r .site) (c .before .read-record .ensures), c .before .before .before .pre .high)
 
 refused-requires : tie.Need-refused-requires
 refused-requires c κs = search needs

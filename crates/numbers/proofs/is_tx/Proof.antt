@@ -21,12 +21,23 @@ is-site-requires c κs = search needs
 -- src/lib.rt:69:9
 returns : tie.Need-returns
 unfolding isTx
-returns c = simp (← c .before .before .before .coordinator-of .ensures, ← c .before .is-site .ensures, not-true (c .before .is-site .result) (c .if1 .taken))
+returns c = simp (
+  ← c .before .before .before .coordinator-of .ensures,
+  ← c .before .is-site .ensures,
+  not-true (c .before .is-site .result) (c .if1 .taken),
+)
 
 -- src/lib.rt:63:1
 returns-2 : tie.Need-returns-2
 unfolding isTx
-returns-2 c = simp (← c .before .before .before .coordinator-of .ensures, ← c .before .before .serial-of .ensures, ← c .before .is-site .ensures, not-false (c .before .is-site .result) (c .if1 .left), pick-self)
+returns-2 c =
+    simp (
+      ← c .before .before .before .coordinator-of .ensures,
+      ← c .before .before .serial-of .ensures,
+      ← c .before .is-site .ensures,
+      not-false (c .before .is-site .result) (c .if1 .left),
+      pick-self,
+    )
 
 pub is-tx-spec : {M : Type 1} → statement M
 is-tx-spec =

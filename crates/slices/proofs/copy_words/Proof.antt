@@ -39,8 +39,13 @@ loop-less c = search needs
 loop-again : tie.Need-loop-again Inv-loop μ-loop
 loop-again c =
     let a = c .before .before .before .args in
-    let l = c .before .before .loop in
-    (search needs, (simp length-set (l .inv .1 .0), overlay-copied (a .out .now) (a .src .now) (l .out) (l .i) (l .inv .1 .1) (omega arith) (omega arith)))
+    let l = c .before .before .loop in (
+      search needs,
+      (
+        simp length-set (l .inv .1 .0),
+        overlay-copied (a .out .now) (a .src .now) (l .out) (l .i) (l .inv .1 .1) (omega arith) (omega arith),
+      ),
+    )
 
 same-length : tie.Need-same-length Inv-loop μ-loop
 same-length c = search needs

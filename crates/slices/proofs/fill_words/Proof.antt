@@ -32,8 +32,10 @@ loop-less c = search needs
 
 loop-again : tie.Need-loop-again Inv-loop μ-loop
 loop-again c =
-    let l = c .before .loop in
-    (search needs, (simp length-set (l .inv .1 .0), rw (l .inv .1 .1) (fill-more (l .i) 0 (c .before .before .args .out .now) (omega arith))))
+    let l = c .before .loop in (
+      search needs,
+      (simp length-set (l .inv .1 .0), rw (l .inv .1 .1) (fill-more (l .i) 0 (c .before .before .args .out .now) (omega arith))),
+    )
 
 same-length : tie.Need-same-length Inv-loop μ-loop
 same-length c = search needs

@@ -47,7 +47,8 @@ loop-again c =
     let put-write = c .before .before .put-write in
     let args = start (at-loop (c .before .before)) .args in
     let l = at-loop (c .before .before) .loop in
-    let s = ap (λ (x : List ℕ). set x (sizes.copyHeader + writeKey (args .ws .now) (l .i)) (writeValue (args .ws .now) (l .i))) (l .inv .1 .1) in
+    let s = ap (λ (x : List ℕ). set x (sizes.copyHeader + writeKey (args .ws .now) (l .i)) (writeValue (args .ws .now) (l .i)))
+    (l .inv .1 .1) in
     (search needs, (search needs, put-write .ensures ∙ s ∙ sym (put-more (args .copy .now) (args .ws .now) (l .i))))
 
 same-length : tie.Need-same-length Inv-loop μ-loop

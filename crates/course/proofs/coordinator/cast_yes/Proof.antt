@@ -30,7 +30,9 @@ unfolding withMark
 decide-step-requires c κs =
     let m : after-with-mark (c .before) .with-mark .result .mask ≡ start (after-with-mark (c .before)) .args .t .sub .course .mask =
     ap (λ (d : Course). d .mask) (after-with-mark (c .before) .with-mark .ensures) in
-    all-course (start (after-with-mark (c .before)) .args .t) (c .before .before .before .with-course .result) (after-with-mark (c .before) .with-mark .result) _ (c .before .before .before .with-course .ensures) m (start (after-with-mark (c .before)) .pre .0)
+    all-course (start (after-with-mark (c .before)) .args .t) (c .before .before .before .with-course .result)
+    (after-with-mark (c .before) .with-mark .result) _ (c .before .before .before .with-course .ensures) m
+    (start (after-with-mark (c .before)) .pre .0)
 
 same-length : tie.Need-same-length
 same-length c = search needs
@@ -50,8 +52,12 @@ send-all-requires : tie.Need-send-all-requires
 unfolding withMark
 send-all-requires c κs =
     let m : after-with-mark-2 (c .before) .with-mark .result .mask ≡ start (after-with-mark-2 (c .before)) .args .t .sub .course .mask =
-    ap (λ (d : Course). d .mask) (after-with-mark-2 (c .before) .with-mark .ensures) in
-    (all-course (start (after-with-mark-2 (c .before)) .args .t) (c .before .before .before .with-course .result) (after-with-mark-2 (c .before) .with-mark .result) _ (c .before .before .before .with-course .ensures) m (start (after-with-mark-2 (c .before)) .pre .0), start (after-with-mark-2 (c .before)) .pre .1)
+    ap (λ (d : Course). d .mask) (after-with-mark-2 (c .before) .with-mark .ensures) in (
+      all-course (start (after-with-mark-2 (c .before)) .args .t) (c .before .before .before .with-course .result)
+          (after-with-mark-2 (c .before) .with-mark .result) _ (c .before .before .before .with-course .ensures) m
+          (start (after-with-mark-2 (c .before)) .pre .0),
+      start (after-with-mark-2 (c .before)) .pre .1,
+    )
 
 same-length-2 : tie.Need-same-length-2
 same-length-2 c = search needs

@@ -27,7 +27,9 @@ unfolding withDecision
 send-all-requires c κs =
     let m : after-with-decision (c .before) .with-decision .result .mask ≡ start (c .before .before .before) .args .t .sub .course .mask =
     ap (λ (d : Course). d .mask) (after-with-decision (c .before) .with-decision .ensures) in
-    let q = all-course (start (c .before .before .before) .args .t) (c .before .before .before .with-course .result) (after-with-decision (c .before) .with-decision .result) _ (c .before .before .before .with-course .ensures) m (start (c .before .before .before) .pre) in
+    let q = all-course (start (c .before .before .before) .args .t) (c .before .before .before .with-course .result)
+    (after-with-decision (c .before) .with-decision .result) _ (c .before .before .before .with-course .ensures) m
+    (start (c .before .before .before) .pre) in
     (record { long = q .long; first = q .first; last = q .last; low = q .low }, no-entries)
 
 same-length : tie.Need-same-length

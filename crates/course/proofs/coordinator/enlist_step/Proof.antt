@@ -18,8 +18,12 @@ slice-aggregate-send-to : tie.Need-slice-aggregate-send-to
 slice-aggregate-send-to c = search needs
 
 send-to-requires : tie.Need-send-to-requires
-send-to-requires c κs =
-    (to-course (start (c .before .before) .args .t) (c .before .before .with-course .result) (c .before .before .before .with-participant .result) (start (c .before .before) .args .site) _ (c .before .before .with-course .ensures) (start (c .before .before) .pre), no-entries)
+send-to-requires c κs = (
+  to-course (start (c .before .before) .args .t) (c .before .before .with-course .result)
+      (c .before .before .before .with-participant .result) (start (c .before .before) .args .site) _
+      (c .before .before .with-course .ensures) (start (c .before .before) .pre),
+  no-entries,
+)
 
 same-length : tie.Need-same-length
 same-length c = search needs

@@ -47,7 +47,8 @@ decide-step-requires c κs =
     let e = sym (c .before .before .all-heard .ensures) ∙ c .before .if2 .taken in
     let f = rw (after-with-heard .with-heard .ensures) at e in
     let q = start .pre .0 (rw (eq-eqb (start .args .vote) 0 (after-with-heard .before .if1 .left), f)) in
-    all-course (start .args .t) (c .before .before .before .with-course .result) (after-with-heard .with-heard .result) _ (c .before .before .before .with-course .ensures) m q
+    all-course (start .args .t) (c .before .before .before .with-course .result) (after-with-heard .with-heard .result) _
+    (c .before .before .before .with-course .ensures) m q
 
 same-length-2 : tie.Need-same-length-2
 same-length-2 c = search needs

@@ -22,8 +22,12 @@ slice-aggregate-send-to : tie.Need-slice-aggregate-send-to
 slice-aggregate-send-to c = search needs
 
 send-to-requires : tie.Need-send-to-requires
-send-to-requires c κs =
-    (to-course (start (c .before .before .before) .args .t) (c .before .before .with-course .result) (c .before .before .before .with-mark .result) (start (c .before .before .before) .args .to) _ (c .before .before .with-course .ensures) (start (c .before .before .before) .pre), no-entries)
+send-to-requires c κs = (
+  to-course (start (c .before .before .before) .args .t) (c .before .before .with-course .result)
+      (c .before .before .before .with-mark .result) (start (c .before .before .before) .args .to) _
+      (c .before .before .with-course .ensures) (start (c .before .before .before) .pre),
+  no-entries,
+)
 
 same-length : tie.Need-same-length
 same-length c = search needs
@@ -50,8 +54,12 @@ slice-aggregate-send-to-2 : tie.Need-slice-aggregate-send-to-2
 slice-aggregate-send-to-2 c = search needs
 
 send-to-requires-2 : tie.Need-send-to-requires-2
-send-to-requires-2 c κs =
-    (to-course (start-2 (c .before .before .before) .args .t) (c .before .before .with-course2 .result) (c .before .before .before .with-stage .result) (start-2 (c .before .before .before) .args .to) _ (c .before .before .with-course2 .ensures) (start-2 (c .before .before .before) .pre), no-entries)
+send-to-requires-2 c κs = (
+  to-course (start-2 (c .before .before .before) .args .t) (c .before .before .with-course2 .result)
+      (c .before .before .before .with-stage .result) (start-2 (c .before .before .before) .args .to) _
+      (c .before .before .with-course2 .ensures) (start-2 (c .before .before .before) .pre),
+  no-entries,
+)
 
 same-length-2 : tie.Need-same-length-2
 same-length-2 c = search needs

@@ -24,8 +24,11 @@ slice-aggregate-send-to : tie.Need-slice-aggregate-send-to
 slice-aggregate-send-to c = search needs
 
 send-to-requires : tie.Need-send-to-requires
-send-to-requires c κs =
-    (to-course (start (then1 (c .before)) .args .t) (c .before .before .with-course .result) (c .before .before .before .with-stage .result) (start (then1 (c .before)) .args .to) _ (c .before .before .with-course .ensures) (start (then1 (c .before)) .pre .0), no-entries)
+send-to-requires c κs = (
+  to-course (start (then1 (c .before)) .args .t) (c .before .before .with-course .result) (c .before .before .before .with-stage .result)
+      (start (then1 (c .before)) .args .to) _ (c .before .before .with-course .ensures) (start (then1 (c .before)) .pre .0),
+  no-entries,
+)
 
 same-length : tie.Need-same-length
 same-length c = search needs
@@ -58,8 +61,11 @@ with-course-requires-2 : tie.Need-with-course-requires-2
 with-course-requires-2 c κs = search needs
 
 send-to-requires-2 : tie.Need-send-to-requires-2
-send-to-requires-2 c κs =
-    (to-course (start-2 (c .before .before .before) .args .t) (c .before .with-course2 .result) (c .before .before .with-stage2 .result) (start-2 (c .before .before .before) .args .to) _ (c .before .with-course2 .ensures) (start-2 (c .before .before .before) .pre .0), start-2 (c .before .before .before) .pre .1)
+send-to-requires-2 c κs = (
+  to-course (start-2 (c .before .before .before) .args .t) (c .before .with-course2 .result) (c .before .before .with-stage2 .result)
+      (start-2 (c .before .before .before) .args .to) _ (c .before .with-course2 .ensures) (start-2 (c .before .before .before) .pre .0),
+  start-2 (c .before .before .before) .pre .1,
+)
 
 same-length-2 : tie.Need-same-length-2
 same-length-2 c = search needs

@@ -18,7 +18,13 @@ returns c = simp (← c .before .before .in-mask .ensures, not-true (c .before .
 
 returns-2 : tie.Need-returns-2
 unfolding isOutstanding
-returns-2 c = simp (← c .before .before .in-mask .ensures, ← c .before .in-mask2 .ensures, not-false (c .before .before .in-mask .result) (c .if1 .left), pick-self)
+returns-2 c =
+    simp (
+      ← c .before .before .in-mask .ensures,
+      ← c .before .in-mask2 .ensures,
+      not-false (c .before .before .in-mask .result) (c .if1 .left),
+      pick-self,
+    )
 
 pub is-outstanding-spec : {M : Type 1} → statement M
 is-outstanding-spec = tie.close (tie.spec in-mask-requires in-mask-requires-2 returns returns-2)

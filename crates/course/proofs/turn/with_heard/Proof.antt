@@ -15,7 +15,8 @@ larger-requires c κs = search needs
 
 returns : tie.Need-returns
 unfolding withReply
-returns c = let z : c .before .before .before .args .c .listed + 0 ≡ c .before .before .before .args .c .listed = omega arith in rw (c .before .before .mask-of .ensures, c .before .larger .ensures, z)
+returns c = let z : c .before .before .before .args .c .listed + 0 ≡ c .before .before .before .args .c .listed = omega arith in
+    rw (c .before .before .mask-of .ensures, c .before .larger .ensures, z)
 
 pub with-heard-spec : {M : Type 1} → statement M
 with-heard-spec = tie.close (tie.spec mask-of-requires larger-requires returns)

@@ -38,7 +38,17 @@ returns-8 c = rw (c .match .keys8)
 
 returns-9 : tie.Need-returns-9
 unfolding oneOf
-returns-9 c = let r = c .match .rest in simp (ne-eqb _ 495690474867 (r .0 .0 .0 .0 .0 .0 .0 .1), ne-eqb _ 422608071022 (r .0 .0 .0 .0 .0 .0 .1), ne-eqb _ 109330228406644 (r .0 .0 .0 .0 .0 .1), ne-eqb _ 27411243344359278 (r .0 .0 .0 .0 .1), ne-eqb _ 29676314707455084 (r .0 .0 .0 .1), ne-eqb _ 125780003615348 (r .0 .0 .1), ne-eqb _ 469853431653 (r .0 .1), ne-eqb _ 125780003414393 (r .1))
+returns-9 c = let r = c .match .rest in
+    simp (
+      ne-eqb _ 495690474867 (r .0 .0 .0 .0 .0 .0 .0 .1),
+      ne-eqb _ 422608071022 (r .0 .0 .0 .0 .0 .0 .1),
+      ne-eqb _ 109330228406644 (r .0 .0 .0 .0 .0 .1),
+      ne-eqb _ 27411243344359278 (r .0 .0 .0 .0 .1),
+      ne-eqb _ 29676314707455084 (r .0 .0 .0 .1),
+      ne-eqb _ 125780003615348 (r .0 .0 .1),
+      ne-eqb _ 469853431653 (r .0 .1),
+      ne-eqb _ 125780003414393 (r .1),
+    )
 
 pub one-spec : {M : Type 1} → statement M
 one-spec =

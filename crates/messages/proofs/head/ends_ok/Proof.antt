@@ -65,7 +65,14 @@ is-site-requires-2 c κs = search needs
 
 returns-4 : tie.Need-returns-4
 unfolding endsOk
-returns-4 c = search (← c .before .is-site2 .ensures, not-true (c .before .is-site2 .result) (c .if4 .taken), from-is (c .before .before), le-leb, needs)
+returns-4 c =
+    search (
+      ← c .before .is-site2 .ensures,
+      not-true (c .before .is-site2 .result) (c .if4 .taken),
+      from-is (c .before .before),
+      le-leb,
+      needs,
+    )
 
 returns-5 : tie.Need-returns-5
 unfolding endsOk

@@ -40,7 +40,8 @@ clock-ok-requires c κs = search needs
 
 returns-2 : tie.Need-returns-2
 unfolding headOk
-returns-2 c = search (← c .before .clock-ok .ensures, not-true (c .before .clock-ok .result) (c .if2 .taken), ends-are (c .before .before), needs)
+returns-2 c =
+    search (← c .before .clock-ok .ensures, not-true (c .before .clock-ok .result) (c .if2 .taken), ends-are (c .before .before), needs)
 
 argument-ok-requires : tie.Need-argument-ok-requires
 argument-ok-requires c κs =

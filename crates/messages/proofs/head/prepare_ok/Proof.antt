@@ -22,13 +22,21 @@ in-mask-requires : tie.Need-in-mask-requires
 in-mask-requires c κs = search needs
 
 returns-2 : tie.Need-returns-2
-returns-2 c = search (← c .before .in-mask .ensures, not-true (c .before .in-mask .result) (c .if2 .taken), mask-is (c .before .before), needs)
+returns-2 c =
+    search (← c .before .in-mask .ensures, not-true (c .before .in-mask .result) (c .if2 .taken), mask-is (c .before .before), needs)
 
 in-mask-requires-2 : tie.Need-in-mask-requires-2
 in-mask-requires-2 c κs = search needs
 
 returns-3 : tie.Need-returns-3
-returns-3 c = search (← c .before .before .in-mask .ensures, not-false (c .before .before .in-mask .result) (c .before .if2 .left), mask-is (c .before .before .before), pick-self, needs)
+returns-3 c =
+    search (
+      ← c .before .before .in-mask .ensures,
+      not-false (c .before .before .in-mask .result) (c .before .if2 .left),
+      mask-is (c .before .before .before),
+      pick-self,
+      needs,
+    )
 
 pub prepare-ok-spec : {M : Type 1} → statement M
 prepare-ok-spec =

@@ -14,7 +14,8 @@ use Rattle.messages.proofs.send.broadcast.Tie as tie
 
 abbrev Inv-loop : tie.InvT-loop
 Inv-loop out₀ h sent mask es at₀ i₀ out at i =
-    (i ≤ sizes.sites) × ((length out ≡ length out₀) × ((at ≡ length (messagesTo h sent mask es i)) × (out ≡ overlay out₀ (messagesTo h sent mask es i))))
+    (i ≤ sizes.sites)
+    × ((length out ≡ length out₀) × ((at ≡ length (messagesTo h sent mask es i)) × (out ≡ overlay out₀ (messagesTo h sent mask es i))))
 
 abbrev μ-loop : tie.MeasureT-loop
 μ-loop out₀ h sent mask es at₀ i₀ out at i = sizes.sites - i
@@ -30,13 +31,16 @@ at-loop c = c .before .before .before
 
 -- the message to the next site fits too
 room : (c : tie.In-loop Inv-loop μ-loop)
-    → c .before .loop .at + length (wordsTo (start (c .before) .args .h) (start (c .before) .args .sent) (start (c .before) .args .mask) (start (c .before) .args .es .now) (c .before .loop .i)) ≤ sizes.outgoing
+    → c .before .loop .at
+    + length (wordsTo (start (c .before) .args .h) (start (c .before) .args .sent) (start (c .before) .args .mask)
+    (start (c .before) .args .es .now) (c .before .loop .i)) ≤ sizes.outgoing
 room c =
     let a = start (c .before) .args in
     let p = start (c .before) .pre in
     omega (
       arith,
-      messages-fit (a .h) (a .sent) (a .mask) (a .es .now) (p .1 .1 .0) (p .1 .1 .1) (c .before .loop .i) (p .0 .1 .0) (p .0 .1 .1) (c .loop-test .taken),
+      messages-fit (a .h) (a .sent) (a .mask) (a .es .now) (p .1 .1 .0) (p .1 .1 .1) (c .before .loop .i) (p .0 .1 .0) (p .0 .1 .1)
+          (c .loop-test .taken),
     )
 
 loop-holds : tie.Need-loop-holds Inv-loop μ-loop

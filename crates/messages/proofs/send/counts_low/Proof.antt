@@ -47,11 +47,15 @@ loop-less : tie.Need-loop-less Inv-loop μ-loop
 loop-less c = search needs
 
 loop-again : tie.Need-loop-again Inv-loop μ-loop
-loop-again c = (search needs, below-more _ _ (c .before .before .before .loop .inv .1) (sym (c .before .count-low .ensures) ∙ not-false _ (c .if1 .left)))
+loop-again c = (
+  search needs,
+  below-more _ _ (c .before .before .before .loop .inv .1) (sym (c .before .count-low .ensures) ∙ not-false _ (c .if1 .left)),
+)
 
 returns-2 : tie.Need-returns-2 Inv-loop μ-loop
 unfolding countsLow
-returns-2 c = let a = c .before .before .args in all-end (low (a .sent) (a .mask) (a .sender)) _ _ (c .loop-test .left) (c .before .loop .inv .1)
+returns-2 c = let a = c .before .before .args in
+    all-end (low (a .sent) (a .mask) (a .sender)) _ _ (c .loop-test .left) (c .before .loop .inv .1)
 
 pub counts-low-spec : {M : Type 1} → statement M
 counts-low-spec =

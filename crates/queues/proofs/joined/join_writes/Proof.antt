@@ -87,7 +87,8 @@ loop-again c =
     let m = joined-more (a .queues .now) (a .mask) (l .i) in
     let p = part-writes (a .queues .now) (a .mask) (l .i) (head-fits _ _ _ _ (pre .1 .1) (loop-test .taken)) in
     let r = room (in-loop (c .before)) in
-    let e = behind (a .out .now) ws w (l .out) (copy-writes .last .0) (l .at) (l .inv .1 .1 .0) (omega arith) (l .inv .1 .1 .1) (copy-writes .ensures .1) in (
+    let e = behind (a .out .now) ws w (l .out) (copy-writes .last .0) (l .at) (l .inv .1 .1 .0) (omega arith) (l .inv .1 .1 .1)
+    (copy-writes .ensures .1) in (
       omega arith,
       (
         ap length e ∙ length-overlay (a .out .now) (ws ++ w) (omega (arith, length-append ws w)),

@@ -25,7 +25,8 @@ array-share-prefix-ws c = let j = c .before .before .join-writes in front-back _
 
 slice-aggregate-write-record : tie.Need-slice-aggregate-write-record
 slice-aggregate-write-record c =
-    let j = c .before .before .before .join-writes in sym (length-take-le (j .result) (j .last .0) (front-back _ _ _ _ (j .ensures .0) (j .ensures .1) .0))
+    let j = c .before .before .before .join-writes in
+    sym (length-take-le (j .result) (j .last .0) (front-back _ _ _ _ (j .ensures .0) (j .ensures .1) .0))
 
 write-record-requires : tie.Need-write-record-requires
 write-record-requires c κs = let j = c .before .before .before .join-writes in

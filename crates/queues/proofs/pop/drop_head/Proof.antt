@@ -50,7 +50,8 @@ returns c =
     let move-up = after-move-up (c .before .before .before) .move-up in
     let args = start (after-move-up (c .before .before .before)) .args in
     let pre = start (after-move-up (c .before .before .before)) .pre in
-    head-dropped (args .ws .now) (move-up .last .0) (fill-words .last .0) (move-up .result) (pre) (move-up .ensures .1) (move-up .ensures .0) (fill-words .ensures)
+    head-dropped (args .ws .now) (move-up .last .0) (fill-words .last .0) (move-up .result) (pre) (move-up .ensures .1)
+    (move-up .ensures .0) (fill-words .ensures)
 
 pub drop-head-spec : {M : Type 1} → statement M
 drop-head-spec =

@@ -17,7 +17,8 @@ house-ok-requires c κs = search needs
 
 returns-2 : tie.Need-returns-2
 unfolding mergerOk
-returns-2 c = simp (eq-eqb _ _ (c .before .before .if1 .left), ← c .before .house-ok .ensures, not-true (c .before .house-ok .result) (c .if2 .taken))
+returns-2 c =
+    simp (eq-eqb _ _ (c .before .before .if1 .left), ← c .before .house-ok .ensures, not-true (c .before .house-ok .result) (c .if2 .taken))
 
 sources-ok-requires : tie.Need-sources-ok-requires
 sources-ok-requires c κs = let h = house-clear _ (sym (c .before .house-ok .ensures) ∙ not-false _ (c .if2 .left)) in (h .1, search needs)

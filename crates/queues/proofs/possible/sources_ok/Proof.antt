@@ -31,7 +31,8 @@ source-ok-requires : tie.Need-source-ok-requires Inv-loop μ-loop
 source-ok-requires c κs = search needs
 
 returns : tie.Need-returns Inv-loop μ-loop
-returns c = not-all-below _ _ _ (c .before .before .before .loop-test .taken) (sym (c .before .source-ok .ensures) ∙ not-true _ (c .if1 .taken))
+returns c = not-all-below _ _ _ (c .before .before .before .loop-test .taken)
+    (sym (c .before .source-ok .ensures) ∙ not-true _ (c .if1 .taken))
 
 add-i : tie.Need-add-i Inv-loop μ-loop
 add-i c = search needs

@@ -21,7 +21,14 @@ returns c = search (← c .before .is-tx .ensures, not-true (c .before .is-tx .r
 
 returns-2 : tie.Need-returns-2
 unfolding pairOk
-returns-2 c = search (← c .before .before .is-tx .ensures, ← c .before .before .before .coordinator-of .ensures, not-false (c .before .before .is-tx .result) (c .before .if1 .left), ne-eqb, needs)
+returns-2 c =
+    search (
+      ← c .before .before .is-tx .ensures,
+      ← c .before .before .before .coordinator-of .ensures,
+      not-false (c .before .before .is-tx .result) (c .before .if1 .left),
+      ne-eqb,
+      needs,
+    )
 
 is-mask-requires : tie.Need-is-mask-requires
 is-mask-requires c κs = search needs

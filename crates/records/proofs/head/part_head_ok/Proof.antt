@@ -40,7 +40,14 @@ pair-ok-requires c κs = search needs
 
 returns-3 : tie.Need-returns-3
 unfolding partHeadOk
-returns-3 c = search (← c .before .pair-ok .ensures, not-true (c .before .pair-ok .result) (c .if3 .taken), site-is (c .before .before), eq-eqb, needs)
+returns-3 c =
+    search (
+      ← c .before .pair-ok .ensures,
+      not-true (c .before .pair-ok .result) (c .if3 .taken),
+      site-is (c .before .before),
+      eq-eqb,
+      needs,
+    )
 
 in-mask-requires : tie.Need-in-mask-requires
 in-mask-requires c κs =

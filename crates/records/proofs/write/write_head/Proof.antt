@@ -47,7 +47,8 @@ same-length : tie.Need-same-length
 same-length c = search needs
 
 returns : tie.Need-returns
-returns c = let a = c .before .before .args in rw (c .write-offset .ensures) (overlay-sets (a .out .now) (recordHeadWords (a .r)) (omega arith))
+returns c = let a = c .before .before .args in
+    rw (c .write-offset .ensures) (overlay-sets (a .out .now) (recordHeadWords (a .r)) (omega arith))
 
 pub write-head-spec : {M : Type 1} → statement M
 write-head-spec =

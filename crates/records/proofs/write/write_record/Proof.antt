@@ -45,7 +45,8 @@ returns c =
     let w = after-slice-known2 (c .before) .before .before .write-head in
     let k = c .before .before .copy-words in (
       omega arith,
-      behind (a .out .now) (recordHeadWords (a .r)) (a .ws .now) (w .last .0) (k .last .0) sizes.recordHeader refl (omega arith) (w .ensures) (k .ensures),
+      behind (a .out .now) (recordHeadWords (a .r)) (a .ws .now) (w .last .0) (k .last .0) sizes.recordHeader refl (omega arith)
+          (w .ensures) (k .ensures),
     )
 
 pub write-record-spec : {M : Type 1} → statement M

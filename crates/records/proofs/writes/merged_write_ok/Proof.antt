@@ -27,7 +27,13 @@ shared-slice-read-key c = search needs
 
 returns-2 : tie.Need-returns-2
 unfolding mergedWriteOk
-returns-2 c = search (← c .before .before .key-ascends .ensures, not-false (c .before .before .key-ascends .result) (c .before .if1 .left), pick-self, needs)
+returns-2 c =
+    search (
+      ← c .before .before .key-ascends .ensures,
+      not-false (c .before .before .key-ascends .result) (c .before .if1 .left),
+      pick-self,
+      needs,
+    )
 
 pub merged-write-ok-spec : {M : Type 1} → statement M
 merged-write-ok-spec =

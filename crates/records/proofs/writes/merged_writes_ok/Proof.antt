@@ -22,7 +22,8 @@ merged-write-ok-requires : tie.Need-merged-write-ok-requires Inv-loop μ-loop
 merged-write-ok-requires c κs = search needs
 
 returns : tie.Need-returns Inv-loop μ-loop
-returns c = not-all-below _ _ _ (c .before .before .loop-test .taken) (sym (c .before .merged-write-ok .ensures) ∙ not-true _ (c .if1 .taken))
+returns c = not-all-below _ _ _ (c .before .before .loop-test .taken)
+    (sym (c .before .merged-write-ok .ensures) ∙ not-true _ (c .if1 .taken))
 
 add-i : tie.Need-add-i Inv-loop μ-loop
 add-i c = search needs
@@ -31,7 +32,10 @@ loop-less : tie.Need-loop-less Inv-loop μ-loop
 loop-less c = search needs
 
 loop-again : tie.Need-loop-again Inv-loop μ-loop
-loop-again c = (search needs, below-more _ _ (c .before .before .before .loop .inv .1) (sym (c .before .merged-write-ok .ensures) ∙ not-false _ (c .if1 .left)))
+loop-again c = (
+  search needs,
+  below-more _ _ (c .before .before .before .loop .inv .1) (sym (c .before .merged-write-ok .ensures) ∙ not-false _ (c .if1 .left)),
+)
 
 returns-2 : tie.Need-returns-2 Inv-loop μ-loop
 returns-2 c = all-end _ _ _ (c .loop-test .left) (c .before .loop .inv .1)

@@ -30,7 +30,14 @@ site-of-requires c κs = search needs
 
 returns-2 : tie.Need-returns-2
 unfolding partWriteOk
-returns-2 c = search (← c .site-of .ensures, ← c .before .before .before .key-ascends .ensures, not-false (c .before .before .before .key-ascends .result) (c .before .before .if1 .left), pick-self, needs)
+returns-2 c =
+    search (
+      ← c .site-of .ensures,
+      ← c .before .before .before .key-ascends .ensures,
+      not-false (c .before .before .before .key-ascends .result) (c .before .before .if1 .left),
+      pick-self,
+      needs,
+    )
 
 pub part-write-ok-spec : {M : Type 1} → statement M
 part-write-ok-spec =

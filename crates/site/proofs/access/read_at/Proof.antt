@@ -49,11 +49,13 @@ long c = lent-lengths (c .args .p) (c .args .live .now) (c .args .history .now) 
 turned : (c : tie.After-turn-at) → let s = start (c .before) in c .turn-at .result ≡ turnAt (handed s) (s .args .place)
 turned c = c .turn-at .ensures (start (c .before) .args .history .now)
 
-keys-of : (s : Site) (place : ℕ) (t : Turn) → place < sizes.live → t ≡ turnAt s place → ValidSite s → ValidKeys (s .house) (s .counters .own) (t .sub .keys)
+keys-of : (s : Site) (place : ℕ) (t : Turn) → place < sizes.live → t ≡ turnAt s place → ValidSite s
+    → ValidKeys (s .house) (s .counters .own) (t .sub .keys)
 unfolding turnAt
 keys-of s place t l e v = rw e (v .part place l .keys)
 
-kept : (c : tie.After-turn-at) → let s = handed (start (c .before)) in ValidKeys (s .house) (s .counters .own) (c .turn-at .result .sub .keys)
+kept : (c : tie.After-turn-at) → let s = handed (start (c .before)) in
+    ValidKeys (s .house) (s .counters .own) (c .turn-at .result .sub .keys)
 kept c = let s = start (c .before) in keys-of (handed s) (s .args .place) _ (s .pre .0 .low) (turned c) (valid s)
 
 -- what the rule does, by the turn's own keys
@@ -74,8 +76,10 @@ refuses s base place k t code e w f n = let q = rw e at w in let g = rw e at f i
 abbrev stepOf : Turn → Keys → Value → Change
 stepOf t more v = record { answer = Found v; words = []; turn = withSubOf t (withKeys (t .sub) more) }
 
-reads : (s : Site) (base : List Value) (place k : ℕ) (t : Turn) (v : Value) (more : Keys) → t ≡ turnAt s place → wroteKey (t .sub .keys) k ≡ false
-    → versionCode s t k ≡ 0 → v ≡ versionOf (s .history) (s .counters .installs) base (t .sub .snapshot) k → more ≡ withRead (t .sub .keys) k
+reads : (s : Site) (base : List Value) (place k : ℕ) (t : Turn) (v : Value) (more : Keys) → t ≡ turnAt s place
+    → wroteKey (t .sub .keys) k ≡ false
+    → versionCode s t k ≡ 0 → v ≡ versionOf (s .history) (s .counters .installs) base (t .sub .snapshot) k
+    → more ≡ withRead (t .sub .keys) k
     → readAt s base place k ≡ changed s place (stepOf t more v) []
 unfolding readAt readVersion turnAt
 reads s base place k t v more e w f g h = let q = rw e at w in let c = rw e at f in rw (q, c, h, g, e)
@@ -102,7 +106,8 @@ returns c =
     let s = begins wrote in
     let a = s .args in
     let had = sym (wrote .wrote-key .ensures) ∙ value .before .if1 .taken in
-    rw (found (handed s) (a .base .now) (a .place) (a .key) _ _ (turned (turn wrote)) had (value .wrote-value .ensures)) (c .unaltered .ensures [] refl _ _ [])
+    rw (found (handed s) (a .base .now) (a .place) (a .key) _ _ (turned (turn wrote)) had (value .wrote-value .ensures))
+    (c .unaltered .ensures [] refl _ _ [])
 
 is-forgotten-requires : tie.Need-is-forgotten-requires
 is-forgotten-requires c κs = search needs
@@ -143,7 +148,8 @@ returns-2 c =
     let wrote = test .before in
     let s = begins wrote in
     let a = s .args in
-    rw (refuses (handed s) (a .base .now) (a .place) (a .key) _ (code .read-code .result) (turned (turn wrote)) (lacked test) (first code) (c .before .if2 .taken))
+    rw (refuses (handed s) (a .base .now) (a .place) (a .key) _ (code .read-code .result) (turned (turn wrote)) (lacked test) (first code)
+    (c .before .if2 .taken))
     (c .refused .ensures _ _ [])
 
 version-of-requires : tie.Need-version-of-requires
@@ -182,7 +188,8 @@ returns-3 c =
     let wrote = test .before in
     let s = begins wrote in
     let a = s .args in
-    rw (reads (handed s) (a .base .now) (a .place) (a .key) _ _ _ (turned (turn wrote)) (lacked test) (sym (first code) ∙ past keys .if2 .left)
+    rw (reads (handed s) (a .base .now) (a .place) (a .key) _ _ _ (turned (turn wrote)) (lacked test)
+    (sym (first code) ∙ past keys .if2 .left)
     (read .before .version-of .ensures) (read .with-read .ensures))
     (end .settled .ensures _ (keys .with-keys .ensures) (a .history .now) [])
 

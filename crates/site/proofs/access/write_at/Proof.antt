@@ -40,7 +40,8 @@ turned : (c : tie.After-turn-at) → let s = start (c .before) in c .turn-at .re
 turned c = c .turn-at .ensures (start (c .before) .args .history .now)
 
 -- what the rule does, by the turn's own keys
-again : (s : Site) (place k : ℕ) (v : Value) (t : Turn) → t ≡ turnAt s place → wroteKey (t .sub .keys) k ≡ true → writeAt s place k v ≡ written s place k v
+again : (s : Site) (place k : ℕ) (v : Value) (t : Turn) → t ≡ turnAt s place → wroteKey (t .sub .keys) k ≡ true
+    → writeAt s place k v ≡ written s place k v
 unfolding writeAt turnAt
 again s place k v t e w = let q = rw e at w in rw q
 
@@ -49,7 +50,8 @@ refuses : (s : Site) (place k : ℕ) (v : Value) (t : Turn) (code : ℕ) → t �
 unfolding writeAt turnAt
 refuses s place k v t code e w f n = let q = rw e at w in rw (q, ← f, ne-eqb code 0 n)
 
-writes : (s : Site) (place k : ℕ) (v : Value) (t : Turn) → t ≡ turnAt s place → wroteKey (t .sub .keys) k ≡ false → writeCodeAt s place k ≡ 0
+writes : (s : Site) (place k : ℕ) (v : Value) (t : Turn) → t ≡ turnAt s place → wroteKey (t .sub .keys) k ≡ false
+    → writeCodeAt s place k ≡ 0
     → writeAt s place k v ≡ written s place k v
 unfolding writeAt turnAt
 writes s place k v t e w f = let q = rw e at w in rw (q, f)
@@ -112,7 +114,8 @@ same-length-2 c = search needs
 abbrev tested : tie.After-fresh-code → tie.Else1
 tested c = c .before .before
 
-lacked : (c : tie.After-fresh-code) → let k = tested c .before in wroteKey (k .before .before .turn-at .result .sub .keys) (begins k .args .key) ≡ false
+lacked : (c : tie.After-fresh-code) → let k = tested c .before in
+    wroteKey (k .before .before .turn-at .result .sub .keys) (begins k .args .key) ≡ false
 lacked c = let k = tested c .before in sym (k .wrote-key .ensures) ∙ tested c .if1 .left
 
 returns-2 : tie.Need-returns-2
@@ -121,7 +124,8 @@ returns-2 c =
     let wrote = tested code .before in
     let s = begins wrote in
     let a = s .args in
-    rw (refuses (handed s) (a .place) (a .key) (a .value) _ (code .fresh-code .result) (turned (wrote .before .before)) (lacked code) (code .fresh-code .ensures) (c .before .if2 .taken))
+    rw (refuses (handed s) (a .place) (a .key) (a .value) _ (code .fresh-code .result) (turned (wrote .before .before)) (lacked code)
+    (code .fresh-code .ensures) (c .before .if2 .taken))
     (c .refused .ensures _ _ [])
 
 written-requires-2 : tie.Need-written-requires-2
@@ -151,7 +155,8 @@ returns-3 c =
     let s = begins wrote in
     let a = s .args in
     let none = sym (code .fresh-code .ensures) ∙ past .if2 .left in
-    rw (writes (handed s) (a .place) (a .key) (a .value) _ (turned turn) (lacked code) none) (end .written2 .ensures (a .history .now) (turned turn))
+    rw (writes (handed s) (a .place) (a .key) (a .value) _ (turned turn) (lacked code) none)
+    (end .written2 .ensures (a .history .now) (turned turn))
 
 pub write-at-spec : {M : Type 1} → statement M
 write-at-spec =

@@ -47,7 +47,8 @@ returns c h e =
     let s = start (keys .before) in
     let a = s .args in
     end .settled .ensures _
-    (step-as (siteOf (a .p) (a .live .now) h) (a .place) (a .key) (a .value) (a .t) _ _ e (keys .before .with-write .ensures) (keys .with-keys .ensures))
+    (step-as (siteOf (a .p) (a .live .now) h) (a .place) (a .key) (a .value) (a .t) _ _ e (keys .before .with-write .ensures)
+    (keys .with-keys .ensures))
     h []
 
 pub written-spec : {M : Type 1} → statement M

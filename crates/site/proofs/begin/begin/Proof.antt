@@ -26,7 +26,8 @@ handed c = let a = start (looked c .before) .args in siteOf (a .p) (a .live .now
 
 -- the first cause against the call, and what it says where there is none
 first : (c : tie.After-begin-code) → c .begin-code .result ≡ beginCode (siteOk (handed c)) (handed c .counters) (freePlace (handed c .live))
-first c = rw (← looked c .site-ok .ensures, ← c .before .free-place .ensures (start (looked c .before) .args .live .now)) (c .begin-code .ensures)
+first c = rw (← looked c .site-ok .ensures, ← c .before .free-place .ensures (start (looked c .before) .args .live .now))
+    (c .begin-code .ensures)
 
 clear : (c : tie.Else1) → BeginClear (siteOk (handed (c .before))) (handed (c .before) .counters) (freePlace (handed (c .before) .live))
 clear c = begin-clear _ _ _ (sym (first (c .before)) ∙ c .if1 .left)
@@ -78,7 +79,8 @@ returns-2 c =
     let code = past .before in
     let a = start (looked code .before) .args in
     rw (← first code, eq-eqb (code .begin-code .result) 0 (past .if1 .left), ← code .before .free-place .ensures (a .live .now))
-    (end .settled .ensures (begun (handed code)) (end .before .before .begun .ensures (a .live .now) (a .history .now)) (a .history .now) [])
+    (end .settled .ensures (begun (handed code)) (end .before .before .begun .ensures (a .live .now) (a .history .now))
+    (a .history .now) [])
 
 pub begin-spec : {M : Type 1} → statement M
 begin-spec =

@@ -47,7 +47,8 @@ at c = placed c .place-of .ensures (begins c .args .live .now)
 
 first : (c : tie.After-enlist-code) → let s = begins c in let site = handed s in
     c .enlist-code .result
-    ≡ enlistCode (siteOk site) (length (s .args .out .now)) (isSite (site .house) (s .args .site)) (placed c .place-of .result) (isMine site (s .args .tx))
+    ≡ enlistCode (siteOk site) (length (s .args .out .now)) (isSite (site .house) (s .args .site)) (placed c .place-of .result)
+    (isMine site (s .args .tx))
 first c =
     rw (
       ← looked (placed c) .site-ok .ensures,
@@ -58,7 +59,8 @@ first c =
     (c .enlist-code .ensures)
 
 clear : (c : tie.Else1) → let s = begins (c .before) in let site = handed s in
-    EnlistClear (siteOk site) (length (s .args .out .now)) (isSite (site .house) (s .args .site)) (placed (c .before) .place-of .result) (isMine site (s .args .tx))
+    EnlistClear (siteOk site) (length (s .args .out .now)) (isSite (site .house) (s .args .site)) (placed (c .before) .place-of .result)
+    (isMine site (s .args .tx))
 clear c = enlist-clear _ _ _ _ _ (sym (first (c .before)) ∙ c .if1 .left)
 
 site-ok-requires : tie.Need-site-ok-requires
@@ -89,8 +91,10 @@ returns : tie.Need-returns
 unfolding enlistOf
 returns c =
     let code = c .before .before in
-    let n = ne-eqb (code .enlist-code .result) 0 (c .before .if1 .taken) in
-    (rw (← at code, ← first code, n) (c .refused .ensures _ _ []), rw (← at code, ← first code, n) (overlay-none (begins code .args .out .now)))
+    let n = ne-eqb (code .enlist-code .result) 0 (c .before .if1 .taken) in (
+      rw (← at code, ← first code, n) (c .refused .ensures _ _ []),
+      rw (← at code, ← first code, n) (overlay-none (begins code .args .out .now)),
+    )
 
 enlist-at-requires : tie.Need-enlist-at-requires
 enlist-at-requires c κs =

@@ -50,7 +50,8 @@ abbrev codeAt : Site → Turn → ℕ → ℕ
 codeAt s t site =
     joinerCode (t .sub .course .stage) (eqb site (s .counters .own)) (inMask (t .sub .course .mask) site) (channelSpent (s .channels) site)
 
-first : (c : tie.After-joiner-code) → c .joiner-code .result ≡ codeAt (handed (begins c)) (turn (asked c) .turn-at .result) (begins c .args .site)
+first : (c : tie.After-joiner-code)
+    → c .joiner-code .result ≡ codeAt (handed (begins c)) (turn (asked c) .turn-at .result) (begins c .args .site)
 first c = c .joiner-code .ensures ∙ code _ _ _ _ _ _ (asked c .before .in-mask .ensures) (asked c .channel-spent .ensures)
   where
     code : (st : ℕ) (own l r m n : Bool) → l ≡ m → r ≡ n → joinerCode st own l r ≡ joinerCode st own m n
@@ -61,7 +62,8 @@ refuses : (s : Site) (place site code : ℕ) (t : Turn) → t ≡ turnAt s place
 unfolding enlistAt turnAt
 refuses s place site code t e f n = let g = rw e at f in rw (← g, ne-eqb code 0 n)
 
-joins : (s : Site) (place site : ℕ) (t : Turn) → t ≡ turnAt s place → codeAt s t site ≡ 0 → enlistAt s place site ≡ changed s place (enlistStep t site) []
+joins : (s : Site) (place site : ℕ) (t : Turn) → t ≡ turnAt s place → codeAt s t site ≡ 0
+    → enlistAt s place site ≡ changed s place (enlistStep t site) []
 unfolding enlistAt turnAt
 joins s place site t e f = let g = rw e at f in rw (g, e)
 
@@ -92,7 +94,8 @@ returns c =
     let code = c .before .before in
     let s = begins code in
     let a = s .args in
-    let e = refuses (handed s) (a .place) (a .site) (code .joiner-code .result) _ (turned (turn (asked code))) (first code) (c .before .if1 .taken) in
+    let e = refuses (handed s) (a .place) (a .site) (code .joiner-code .result) _ (turned (turn (asked code))) (first code)
+    (c .before .if1 .taken) in
     (rw e (c .refused .ensures _ _ []), rw e (overlay-none (a .out .now)))
 
 enlist-step-requires : tie.Need-enlist-step-requires
@@ -102,7 +105,12 @@ enlist-step-requires c κs =
     let s = begins code in
     let p = s .pre .1 in
     let clear = sym (first code) ∙ past .if1 .left in
-    record { long = p .1 .1; first = p .0; last = p .1 .0; low = low (handed s) (s .args .place) (s .args .site) _ (turned (turn (asked code))) clear }
+    record {
+      long = p .1 .1;
+      first = p .0;
+      last = p .1 .0;
+      low = low (handed s) (s .args .place) (s .args .site) _ (turned (turn (asked code))) clear;
+    }
 
 -- the step before it is settled
 abbrev stepped : tie.After-settled-arg → tie.After-enlist-step

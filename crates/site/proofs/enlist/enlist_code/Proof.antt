@@ -17,11 +17,20 @@ returns c = simp (lt-ltb (c .before .args .room) sizes.outgoing (c .if1 .taken))
 
 returns-2 : tie.Need-returns-2
 unfolding enlistCode
-returns-2 c = simp (le-ltb (c .before .before .args .room) sizes.outgoing (c .before .if1 .left), not-true (c .before .before .args .ok) (c .if2 .taken))
+returns-2 c =
+    simp (
+      le-ltb (c .before .before .args .room) sizes.outgoing (c .before .if1 .left),
+      not-true (c .before .before .args .ok) (c .if2 .taken),
+    )
 
 returns-3 : tie.Need-returns-3
 unfolding enlistCode
-returns-3 c = simp (le-ltb (c .before .before .before .args .room) sizes.outgoing (c .before .before .if1 .left), not-false (c .before .before .before .args .ok) (c .before .if2 .left), not-true (c .before .before .before .args .known) (c .if3 .taken))
+returns-3 c =
+    simp (
+      le-ltb (c .before .before .before .args .room) sizes.outgoing (c .before .before .if1 .left),
+      not-false (c .before .before .before .args .ok) (c .before .if2 .left),
+      not-true (c .before .before .before .args .known) (c .if3 .taken),
+    )
 
 returns-4 : tie.Need-returns-4
 unfolding enlistCode

@@ -18,7 +18,8 @@ returns-2 c = simp (eq-eqb (c .before .before .args .stage) stage.active (c .bef
 
 returns-3 : tie.Need-returns-3
 unfolding joinerCode
-returns-3 c = simp (eq-eqb (c .before .before .before .args .stage) stage.active (c .before .before .if1 .left), c .before .if2 .left, c .if3 .taken)
+returns-3 c =
+    simp (eq-eqb (c .before .before .before .args .stage) stage.active (c .before .before .if1 .left), c .before .if2 .left, c .if3 .taken)
 
 returns-4 : tie.Need-returns-4
 unfolding joinerCode

@@ -23,7 +23,8 @@ start c = lent c .before .before
 
 -- the first cause against the call
 first : (c : tie.After-start-code) → let a = start (c .before) .args in
-    c .start-code .result ≡ startedCode (a .sites) (a .own) (a .live .now) (a .history .now) (length (a .base .now)) (length (a .lists .now))
+    c .start-code .result
+    ≡ startedCode (a .sites) (a .own) (a .live .now) (a .history .now) (length (a .base .now)) (length (a .lists .now))
 first c = c .start-code .ensures ∙ code _ _ _ _ _ (c .before .lent-house .ensures)
   where
     code : (o e : House) (own base lists : ℕ) → o ≡ e → startCode (o .sites) own base lists ≡ startCode (e .sites) own base lists
@@ -44,7 +45,8 @@ returns c =
     let code = c .before .before in
     let a = start (code .before) .args in
     let n = ne-eqb (code .start-code .result) 0 (c .before .if1 .taken) in (
-      rw (c .fresh-core .ensures) (started-refused (a .sites) (a .own) (a .live .now) (a .history .now) _ _ _ (first code) (c .before .if1 .taken)),
+      rw (c .fresh-core .ensures)
+          (started-refused (a .sites) (a .own) (a .live .now) (a .history .now) _ _ _ (first code) (c .before .if1 .taken)),
       (rw (← first code, n), rw (← first code, n)),
     )
 
@@ -97,8 +99,10 @@ filled c = c .before .before .before
 abbrev live : tie.After-fresh-core2 → tie.After-fill-words
 live c = filled (history c) .before
 
-fresh : (sites own : ℕ) (w h : List ℕ) (b l : ℕ) (core : Core) (v g : List ℕ) → startedCode sites own w h b l ≡ 0 → core ≡ freshCore sites own
-    → v ≡ replicate (length w) 0 → g ≡ replicate (length h) 0 → Started sites own w h b l (record { answer = Done; words = 0; core = core }) v g
+fresh : (sites own : ℕ) (w h : List ℕ) (b l : ℕ) (core : Core) (v g : List ℕ) → startedCode sites own w h b l ≡ 0
+    → core ≡ freshCore sites own
+    → v ≡ replicate (length w) 0 → g ≡ replicate (length h) 0
+    → Started sites own w h b l (record { answer = Done; words = 0; core = core }) v g
 fresh sites own w h b l core v g z e f q = rw (e, f, q) (started-fresh sites own w h b l z)
 
 table : (code : ℕ) (d v : List ℕ) → code ≡ 0 → v ≡ replicate (length d) 0 → v ≡ startTable code d
@@ -111,7 +115,8 @@ returns-2 c =
     let code = past .before in
     let a = start (code .before) .args in
     let z = sym (first code) ∙ past .if1 .left in (
-      fresh (a .sites) (a .own) (a .live .now) (a .history .now) _ _ _ _ _ z (c .fresh-core2 .ensures) (live c .fill-words .ensures) (history c .fill-words2 .ensures),
+      fresh (a .sites) (a .own) (a .live .now) (a .history .now) _ _ _ _ _ z (c .fresh-core2 .ensures) (live c .fill-words .ensures)
+          (history c .fill-words2 .ensures),
       (table _ (a .base .now) _ z (base c .fill-words3 .ensures), table _ (a .lists .now) _ z (lists c .fill-words4 .ensures)),
     )
 

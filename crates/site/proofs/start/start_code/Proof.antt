@@ -27,7 +27,13 @@ is-site-requires c κs = search needs
 
 returns-2 : tie.Need-returns-2
 unfolding startCode
-returns-2 c = simp (← c .before .before .before .house-ok .ensures, not-false (c .before .before .before .house-ok .result) (c .before .before .if1 .left), ← c .before .is-site .ensures, not-true (c .before .is-site .result) (c .if2 .taken))
+returns-2 c =
+    simp (
+      ← c .before .before .before .house-ok .ensures,
+      not-false (c .before .before .before .house-ok .result) (c .before .before .if1 .left),
+      ← c .before .is-site .ensures,
+      not-true (c .before .is-site .result) (c .if2 .taken),
+    )
 
 returns-3 : tie.Need-returns-3
 unfolding startCode

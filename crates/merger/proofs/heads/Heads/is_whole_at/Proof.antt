@@ -32,7 +32,8 @@ in-mask-requires c κs = search needs
 
 returns : tie.Need-returns
 unfolding isWholeAt
-returns c = simp (← c .before .in-mask .ensures, not-true (c .before .in-mask .result) (c .if1 .taken), ← c .before .before .has-part .ensures)
+returns c = simp
+    (← c .before .in-mask .ensures, not-true (c .before .in-mask .result) (c .if1 .taken), ← c .before .before .has-part .ensures)
 
 returns-2 : tie.Need-returns-2
 unfolding isWholeAt

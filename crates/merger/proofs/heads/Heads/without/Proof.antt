@@ -28,8 +28,11 @@ unfolding Queued withoutTo
 without-at-requires c κs =
     let loop = c .before .loop in
     let args = c .before .before .before .args in
-    let pre = c .before .before .before .pre in
-    (search needs, (λ e. rw (loop .inv .1, pop-later (args .self .merger) (args .mask) (loop .i) (loop .i) (omega arith)) (pre .1 (loop .i) (omega arith) e)))
+    let pre = c .before .before .before .pre in (
+      search needs,
+      (λ e. rw (loop .inv .1, pop-later (args .self .merger) (args .mask) (loop .i) (loop .i) (omega arith))
+          (pre .1 (loop .i) (omega arith) e)),
+    )
 
 add-i : tie.Need-add-i Inv-loop μ-loop
 add-i c = search needs
