@@ -24,7 +24,7 @@ use Rattle.rules.specs.World.{World, Call, Is, here, there, step, siteSt
 use Rattle.rules.specs.World as world
 use Rattle.rules.specs.Book as book
 use Rattle.rules.specs.Book.{Fact, factsOf, bookFrom}
-use Rattle.rules.specs.Claim.{LastReplay}
+use Rattle.rules.specs.Claim.{LastReplay, behind, none}
 use Rattle.rules.proofs.Tables.{All, a-nil, a-cons, all-append, all-one, upd-cases, all-is, is-append}
 use Rattle.rules.proofs.RefineLaid.{put-header}
 use Rattle.rules.proofs.RefineReplay.{Replays, replay-cases}
@@ -98,9 +98,9 @@ commits-none : (t : ℕ) (a : Answer) → NoReplay (book.commits t a)
 commits-none t a = on-committed NoReplay a-nil (λ n. all-one refl) a
 
 still-last : (c : ℕ) (b l : List Fact) (n d : ℕ) → ((m e : ℕ) → Is (book.replayed c m e) l → ⊥) → LastReplay c b n d → LastReplay c (b ++ l) n d
-still-last c b l n d f (inl (p, q, e, g)) =
-    inl (p, q ++ l, rw e (append-assoc p (book.replayed c n d ∷ q) l), λ m r i. ⊎-elim (λ j. g m r j) (λ j. f m r j) (is-append q l i))
-still-last c b l n d f (inr (g, x, y)) = inr ((λ m r i. ⊎-elim (λ j. g m r j) (λ j. f m r j) (is-append b l i)), x, y)
+still-last c b l n d f (behind p q e g) =
+    behind p (q ++ l) (rw e (append-assoc p (book.replayed c n d ∷ q) l)) (λ m r i. ⊎-elim (λ j. g m r j) (λ j. f m r j) (is-append q l i))
+still-last c b l n d f (none g x y) = none (λ m r i. ⊎-elim (λ j. g m r j) (λ j. f m r j) (is-append b l i)) x y
 
 -- The copy's pair after a replay.
 number-after : (copy ws : List ℕ) → length copy ≡ sizes.copy → (copyNumber (replayed copy ws) ≡ recordHead ws .number) × (copyCoordinator (replayed copy ws) ≡ recordHead ws .coordinator)
@@ -141,7 +141,7 @@ module _ (w : World) (b : List Fact) (h : LastReplays b w) where
           let l = book.replayed c (r .number) (r .coordinator) ∷ [] in
           rw (t .is)
           (upd-cases (λ j z. LastReplay j (b ++ l) (copyNumber z) (copyCoordinator z)) (w .copy) c (replayed (w .copy c) ws)
-          (rw (x, y) (inl (b, [], refl, λ m d i. none-replayed a-nil c m d i)))
+          (rw (x, y) (behind b [] refl (λ m d i. none-replayed a-nil c m d i)))
           (λ j n. still-last j b l _ _ (λ m d i. other j (r .number) (r .coordinator) m d n i) (h j)))
         where
           other : (j n d m e : ℕ) → (j ≡ c → ⊥) → Is (book.replayed j m e) (book.replayed c n d ∷ []) → ⊥
@@ -175,7 +175,7 @@ run-replays (c ∷ calls) w b h =
 -- from a fresh house: no copy has a pair, and the book is empty
 replays-fresh : (sites : ℕ) → LastReplays [] (freshWorld sites)
 unfolding freshWorld copyStartOf
-replays-fresh sites c = inr ((λ m d i. none-replayed a-nil c m d i), refl, refl)
+replays-fresh sites c = none (λ m d i. none-replayed a-nil c m d i) refl refl
 
 pub book-replays : (sites : ℕ) (calls : List Call) → LastReplays (bookFrom (freshWorld sites) calls) (run (freshWorld sites) calls)
 book-replays sites calls = run-replays calls (freshWorld sites) [] (replays-fresh sites)
