@@ -59,6 +59,10 @@ fn outcome(page: &mut [u8], used: usize, a: Answer) -> usize
             coordinator,
             tx,
         } => told_three(page, used, number, coordinator, tx),
+        Answer::Replayed {
+            number,
+            coordinator,
+        } => told_two(page, used, number, coordinator),
         Answer::Standing {
             value,
             number,

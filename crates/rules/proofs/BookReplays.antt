@@ -15,8 +15,8 @@ use Rattle.kinds.specs.Kind as kind
 use Rattle.kinds.specs.Reason as reason
 use Rattle.kinds.specs.State.{Value}
 use Rattle.kinds.specs.declared.Answer.{Answer}
-use Rattle.kinds.specs.declared.Answer.the-variants.{Refused, Done, Begun, Found, Committed, Aborted, Installed, Reported, Emitted, Standing}
-use Rattle.rules.specs.Answers.{onBegun, onFound, onDone, onCommitted, onInstalled, onAnswer}
+use Rattle.kinds.specs.declared.Answer.the-variants.{Refused, Done, Begun, Found, Committed, Aborted, Installed, Reported, Emitted, Replayed, Standing}
+use Rattle.rules.specs.Answers.{onBegun, onFound, onDone, onCommitted, onInstalled, onReplayed, onAnswer}
 use Rattle.rules.specs.Record.{recordHead, recordWrites}
 use Rattle.rules.specs.Message.{messageHead}
 use Rattle.rules.specs.Copy.{copyNumber, copyCoordinator, replayed, replayOf, copyStartOf}
@@ -31,34 +31,39 @@ use Rattle.rules.proofs.RefineReplay.{Replays, replay-cases}
 
 -- What holds of the case, and of the rest, holds of an answer.
 module _ {A : Type 0} (P : A → Type 0) {other : A} (o : P other) where
-  on-answer : {done : A} {begun found committed : ℕ → A} {installed : ℕ → ℕ → A}
+  on-answer : {done : A} {begun found committed : ℕ → A} {installed replayed : ℕ → ℕ → A}
       → P done → ((n : ℕ) → P (begun n)) → ((n : ℕ) → P (found n)) → ((n : ℕ) → P (committed n)) → ((n c : ℕ) → P (installed n c))
-      → (a : Answer) → P (onAnswer other done begun found committed installed a)
-  on-answer d b f c i (Refused n) = o
-  on-answer d b f c i Done = d
-  on-answer d b f c i (Begun n) = b n
-  on-answer d b f c i (Found n) = f n
-  on-answer d b f c i (Committed n) = c n
-  on-answer d b f c i (Aborted n) = o
-  on-answer d b f c i (Installed n m) = i n m
-  on-answer d b f c i (Reported n) = o
-  on-answer d b f c i (Emitted n m t) = o
-  on-answer d b f c i (Standing n m t) = o
+      → ((n c : ℕ) → P (replayed n c))
+      → (a : Answer) → P (onAnswer other done begun found committed installed replayed a)
+  on-answer d b f c i r (Refused n) = o
+  on-answer d b f c i r Done = d
+  on-answer d b f c i r (Begun n) = b n
+  on-answer d b f c i r (Found n) = f n
+  on-answer d b f c i r (Committed n) = c n
+  on-answer d b f c i r (Aborted n) = o
+  on-answer d b f c i r (Installed n m) = i n m
+  on-answer d b f c i r (Reported n) = o
+  on-answer d b f c i r (Emitted n m t) = o
+  on-answer d b f c i r (Replayed n m) = r n m
+  on-answer d b f c i r (Standing n m t) = o
 
   pub on-done : {f : A} → P f → (a : Answer) → P (onDone other f a)
-  on-done g = on-answer g (λ n. o) (λ n. o) (λ n. o) (λ n c. o)
+  on-done g = on-answer g (λ n. o) (λ n. o) (λ n. o) (λ n c. o) (λ n c. o)
 
   pub on-begun : {f : ℕ → A} → ((n : ℕ) → P (f n)) → (a : Answer) → P (onBegun other f a)
-  on-begun g = on-answer o g (λ n. o) (λ n. o) (λ n c. o)
+  on-begun g = on-answer o g (λ n. o) (λ n. o) (λ n c. o) (λ n c. o)
 
   pub on-found : {f : ℕ → A} → ((n : ℕ) → P (f n)) → (a : Answer) → P (onFound other f a)
-  on-found g = on-answer o (λ n. o) g (λ n. o) (λ n c. o)
+  on-found g = on-answer o (λ n. o) g (λ n. o) (λ n c. o) (λ n c. o)
 
   pub on-committed : {f : ℕ → A} → ((n : ℕ) → P (f n)) → (a : Answer) → P (onCommitted other f a)
-  on-committed g = on-answer o (λ n. o) (λ n. o) g (λ n c. o)
+  on-committed g = on-answer o (λ n. o) (λ n. o) g (λ n c. o) (λ n c. o)
 
   pub on-installed : {f : ℕ → ℕ → A} → ((n c : ℕ) → P (f n c)) → (a : Answer) → P (onInstalled other f a)
-  on-installed g = on-answer o (λ n. o) (λ n. o) (λ n. o) g
+  on-installed g = on-answer o (λ n. o) (λ n. o) (λ n. o) g (λ n c. o)
+
+  pub on-replayed : {f : ℕ → ℕ → A} → ((n c : ℕ) → P (f n c)) → (a : Answer) → P (onReplayed other f a)
+  on-replayed g = on-answer o (λ n. o) (λ n. o) (λ n. o) (λ n c. o) g
 
 -- Facts that are no replay.
 abbrev isReplayed : Fact → Bool
