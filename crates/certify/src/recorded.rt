@@ -9,7 +9,7 @@ ghost use mathlib.Core.Bool.{true};
 ghost use mathlib.Core.List.{List, [], _∷_};
 ghost use Prim.Native.Nat.{ℕ, _+_, _≤_, _<_};
 ghost use lib.ListN.{length};
-ghost use lib.Dec.{eqb, ltb};
+ghost use lib.Dec.{ltb};
 ghost use Rattle.laws.specs.Choice.{pick, some};
 ghost use Rattle.laws.specs.Scan.{anyBelow};
 ghost use Rattle.kinds.specs.Sizes as sizes;

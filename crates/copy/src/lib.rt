@@ -62,7 +62,7 @@ pub fn replay(copy: &mut [u64], m: &[u64]) -> Answer
     copy[word::LAST_NUMBER] = r.number;
     copy[word::LAST_COORDINATOR] = r.coordinator;
     put_writes(copy, &m[RECORD_HEADER..], r.count as usize);
-    Answer::Installed {
+    Answer::Replayed {
         number: r.number,
         coordinator: r.coordinator,
     }

@@ -13,7 +13,6 @@ use kinds::stage::REJECTED;
 ghost use mathlib.Core.Path.{_≡_};
 ghost use lib.ListN.{length};
 ghost use Rattle.laws.specs.Overlay.{overlay};
-ghost use Rattle.kinds.specs.Sizes as sizes;
 ghost use Rattle.rules.specs.Effect.{takenOf};
 ghost use Rattle.rules.specs.Course.{preparedStep, certifiedStep, Entries, CanSendTo};
 

@@ -5,14 +5,11 @@ use kinds::MessageHead;
 use kinds::Taken;
 use kinds::Turn;
 use kinds::sizes::ENTRY;
-use kinds::sizes::SITES;
 ghost use mathlib.Core.Path.{_≡_};
 ghost use Prim.Native.Nat.{_+_, _-_, _*_, _≤_, _<_};
 ghost use lib.ListN.{length, getD};
 ghost use Rattle.laws.specs.Overlay.{overlay};
 ghost use Rattle.kinds.specs.Sizes as sizes;
-ghost use Rattle.rules.specs.Message.{entryCount};
-ghost use Rattle.rules.specs.Send.{CountsLow};
 ghost use Rattle.rules.specs.Effect.{takenOf};
 ghost use Rattle.rules.specs.Course.{headOf, sentTo as sentToOf, sendTo, sendAll, Entries, CanSendTo, CanSendAll};
 

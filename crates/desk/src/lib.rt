@@ -33,6 +33,7 @@ ghost use Prim.Native.Nat.{_<_};
 ghost use Rattle.said.specs.Said.{saidOf};
 ghost use Rattle.pages.specs.Laid.{Laid, lineStart, full};
 ghost use Rattle.pages.specs.Line.{lineOf};
+ghost use Rattle.desk.specs.Route.{none};
 
 // Why a script ends, where `found` of its input does not say it: the temporary file or the output fails.
 pub const LOST: u64 = 4;
@@ -110,7 +111,7 @@ pub fn idle(d: Desk) -> Ask {
 
 // The item that a queue or cursor, below QUEUES, hands in next.
 fn handed(fd: i32, store: &mut [u64; STORE], queue: usize, item: &mut [u64; ITEM]) -> First
-    requires { ⌜ queue < 81 ⌝ }
+    requires { ⌜ queue < none ⌝ }
 {
     if is_cursor(queue) {
         return spool::next(fd, store, STREAM, queue, item);
@@ -150,7 +151,7 @@ fn fetched(
             next,
         },
         First::Nothing => idle(answered(d, page, Answer::Refused(NOTHING))),
-        First::Lost => idle(ended(d, LOST)),
+        First::Failed => idle(ended(d, LOST)),
     }
 }
 

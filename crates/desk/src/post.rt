@@ -7,6 +7,8 @@ use spool::STORE;
 ghost use mathlib.Core.Path.{_≡_};
 ghost use Prim.Native.Nat.{_+_, _*_, _≤_, _<_};
 ghost use lib.ListN.{length};
+ghost use Rattle.kinds.specs.Sizes as sizes;
+ghost use Rattle.desk.specs.Route.{copies, channel as channelOf, log as logOf, stream, cursor as cursorOf, none};
 
 // The queue of the merged stream, behind the channels and the logs.
 pub const STREAM: usize = SITES * SITES + SITES;
@@ -15,24 +17,24 @@ pub const COPIES: usize = 8;
 
 // The queue of messages between two sites, less 1 each.
 pub fn channel(from: usize, to: usize) -> usize
-    requires { ⌜ (from < 8) × (to < 8) ⌝ }
-    ensures { λ r. ⌜ (r ≡ from * 8 + to) × (r < 64) ⌝ }
+    requires { ⌜ (from < sizes.sites) × (to < sizes.sites) ⌝ }
+    ensures { λ r. ⌜ (r ≡ channelOf from to) × (r < logOf 0) ⌝ }
 {
     from * SITES + to
 }
 
 // The queue of a site's log, less 1.
 pub fn log(site: usize) -> usize
-    requires { ⌜ site < 8 ⌝ }
-    ensures { λ r. ⌜ (r ≡ 64 + site) × (r < 72) ⌝ }
+    requires { ⌜ site < sizes.sites ⌝ }
+    ensures { λ r. ⌜ (r ≡ logOf site) × (r < stream) ⌝ }
 {
     SITES * SITES + site
 }
 
 // The cursor of a copy, less 1, in the stream.
 pub fn cursor(copy: usize) -> usize
-    requires { ⌜ copy < 8 ⌝ }
-    ensures { λ r. ⌜ (r ≡ 73 + copy) × (r < 81) ⌝ }
+    requires { ⌜ copy < copies ⌝ }
+    ensures { λ r. ⌜ (r ≡ cursorOf copy) × (r < none) ⌝ }
 {
     STREAM + 1 + copy
 }

@@ -1,8 +1,7 @@
 -- A state with one of its parts changed, what is empty, and what lies past the end of a table.
 use Prim.Native.Nat.{ℕ}
-use mathlib.Core.List.{List, []}
+use mathlib.Core.List.{[]}
 use lib.ListN.{replicate, set, getD}
-use Rattle.kinds.specs.declared.House.{House}
 use Rattle.kinds.specs.declared.Snapshot.{Snapshot}
 use Rattle.kinds.specs.declared.Keys.{Keys}
 use Rattle.kinds.specs.declared.Course.{Course}
@@ -73,10 +72,6 @@ withChannels s c = record { house = s .house; counters = s .counters; channels =
 
 abbrev pub withSub : Site → ℕ → Sub → Site
 withSub s i b = record { house = s .house; counters = s .counters; channels = s .channels; live = set (s .live) i b; history = s .history }
-
-abbrev pub withEntry : Site → ℕ → Entry → Site
-withEntry s i e =
-    record { house = s .house; counters = s .counters; channels = s .channels; live = s .live; history = set (s .history) i e }
 
 abbrev pub withClock : Counters → ℕ → Counters
 withClock c n = record { own = c .own; clock = n; serial = c .serial; installs = c .installs }

@@ -155,6 +155,10 @@ pub enum Answer {
         coordinator: u64,
         tx: u64,
     },
+    Replayed {
+        number: u64,
+        coordinator: u64,
+    },
     Standing {
         value: Value,
         number: u64,
@@ -174,13 +178,6 @@ pub struct Taken {
     pub answer: Answer,
     pub words: usize,
     pub turn: Turn,
-}
-
-// The same with the site whole, as the rules speak of it.
-pub struct Out {
-    pub answer: Answer,
-    pub words: usize,
-    pub site: Site,
 }
 
 // A site's call: its answer, how many words it wrote to the outgoing buffer, and the core after it.

@@ -1,6 +1,6 @@
 -- A fresh core with words of zeros is a fresh site; what a start leaves.
 use Prim.Native.Nat.{ℕ, zero, suc, _+_, _*_}
-use mathlib.Core.Path.{_≡_, refl, sym, _∙_}
+use mathlib.Core.Path.{_≡_, refl, _∙_}
 use mathlib.Core.List.{List}
 use lib.ListN.{getD, length, replicate, getD-replicate}
 use lib.Dec.{eqb}
@@ -10,7 +10,6 @@ use borrow.Author.Tests.{ne-eqb, not-false}
 use Rattle.kinds.specs.Sizes as sizes
 use Rattle.kinds.specs.declared.Core.{Core}
 use Rattle.kinds.specs.declared.Reply.{Reply}
-use Rattle.kinds.specs.declared.Keys.{Keys}
 use Rattle.kinds.specs.State.{pastSeat, noKeys, noSub, noEntry}
 use Rattle.kinds.specs.declared.Answer.the-variants.{Done, Refused}
 use Rattle.rules.specs.House.{houseOk}

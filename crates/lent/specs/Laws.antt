@@ -1,30 +1,27 @@
 -- Tables read from words are these words again, and what a call leaves of a core and its words.
 use Prim.Native.Nat.{ℕ, zero, suc, _+_, _*_, _≤_, _<_}
-use mathlib.Core.Path.{_≡_, refl, sym, ap, _∙_}
-use mathlib.Core.List.{List, [], _∷_, _++_, append-assoc}
-use mathlib.Core.Bool.{Bool, true, false}
+use mathlib.Core.Path.{_≡_, sym, ap, _∙_}
+use mathlib.Core.List.{List, [], _∷_, _++_}
+use mathlib.Core.Bool.{Bool, true}
 use native.Mathlib.Omega.{arith}
-use borrow.Author.Tests.{eqb-true, eq-eqb}
+use borrow.Author.Tests.{eqb-true}
 use lib.ListN.{getD, set, length}
 use lib.Dec.{eqb}
-use Rattle.laws.specs.Choice.{pick, every, every-at, by-test}
+use Rattle.laws.specs.Choice.{every, every-at, by-test}
 use Rattle.laws.specs.Overlay.{putAt}
 use Rattle.kinds.specs.Sizes as sizes
 use Rattle.kinds.specs.Word as word
 use Rattle.kinds.specs.declared.House.{House}
 use Rattle.kinds.specs.declared.Seat.{Seat}
 use Rattle.kinds.specs.declared.Core.{Core}
-use Rattle.kinds.specs.declared.Site.{Site}
 use Rattle.kinds.specs.declared.Sub.{Sub}
 use Rattle.kinds.specs.declared.Entry.{Entry}
 use Rattle.kinds.specs.State.{pastSeat, pastSub, pastEntry}
 use Rattle.rules.specs.House.{houseOk}
-use Rattle.rules.specs.Valid.{siteOk, countersOk, liveOk, historyOk}
-use Rattle.lent.specs.Rows.{rows, rows-at, rows-length, rows-same, rows-read, rows-append, each, each-rows, each-set, flat, flat-rows}
-use Rattle.lent.specs.Rows.{flat-set}
-use Rattle.lent.specs.Layout.{wordsFrom, keysFrom, subFrom, entryFrom, liveOf, historyOf, keysWords, seatOf, placeWords, slotWords}
-use Rattle.lent.specs.Layout.{liveWords, historyWords}
-use Rattle.lent.specs.Lent.{lentHouse, siteOf, coreOf, liveLeft, historyLeft, Left}
+use Rattle.rules.specs.Valid.{siteOk}
+use Rattle.lent.specs.Rows.{rows, rows-at, rows-length, rows-same, rows-read, rows-append, flat-rows, flat-set}
+use Rattle.lent.specs.Layout.{wordsFrom, keysFrom, subFrom, entryFrom, liveOf, historyOf, keysWords, placeWords, slotWords, liveWords, historyWords}
+use Rattle.lent.specs.Lent.{lentHouse, siteOf}
 
 -- the part at a place, the install in a slot
 pub live-at : (seats : List Seat) (w : List ℕ) (i : ℕ) → i < sizes.live

@@ -1,7 +1,7 @@
 -- S7 to S9: where the words of a part and of a remembered install stand. A place of the live table has a seat by value; its other
 -- words are its snapshot, its course and its keys. A slot of the history is words alone.
 use Prim.Native.Nat.{ℕ, _+_, _*_}
-use mathlib.Core.List.{List, [], _∷_, _++_}
+use mathlib.Core.List.{List, _∷_, _++_}
 use lib.ListN.{getD}
 use Rattle.kinds.specs.Sizes as sizes
 use Rattle.kinds.specs.Word as word

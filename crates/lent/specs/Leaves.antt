@@ -1,13 +1,12 @@
 -- What a core and its words are left as: by a call that leaves them, by a step of a part, by an install.
 use Prim.Native.Nat.{ℕ, _+_, _*_, _≤_, _<_}
-use mathlib.Core.Path.{_≡_, refl, sym, ap, _∙_}
-use mathlib.Core.List.{List, [], _∷_}
-use mathlib.Core.Bool.{Bool, true, false}
+use mathlib.Core.Path.{_≡_, refl, sym, _∙_}
+use mathlib.Core.List.{List, _∷_}
 use native.Mathlib.Omega.{arith}
 use borrow.Author.Tests.{eqb-true, eq-eqb}
-use lib.ListN.{getD, set, length, length-set}
+use lib.ListN.{getD, set, length}
 use lib.Dec.{eqb}
-use Rattle.laws.specs.Choice.{pick, by-test}
+use Rattle.laws.specs.Choice.{by-test}
 use Rattle.laws.specs.Overlay.{putAt}
 use Rattle.kinds.specs.Sizes as sizes
 use Rattle.kinds.specs.declared.Channels.{Channels}
@@ -21,9 +20,9 @@ use Rattle.kinds.specs.declared.Turn.{Turn}
 use Rattle.kinds.specs.State.{pastSeat}
 use Rattle.rules.specs.Effect.{settle}
 use Rattle.rules.specs.MergerWords.{length-put}
-use Rattle.lent.specs.Rows.{rows, rows-read, each, each-rows, each-set}
+use Rattle.lent.specs.Rows.{rows-read, each, each-rows, each-set}
 use Rattle.lent.specs.Layout.{subFrom, liveOf, historyOf, seatOf, placeWords, slotWords}
-use Rattle.lent.specs.Lent.{lentHouse, siteOf, coreOf, liveLeft, historyLeft, Left}
+use Rattle.lent.specs.Lent.{lentHouse, siteOf, liveLeft, historyLeft, Left}
 use Rattle.lent.specs.Put.{put-inside, live-set, history-set}
 use Rattle.lent.specs.Shape.{Shaped, ShapedEntry}
 use Rattle.lent.specs.Laws.{Lengths, live-again, history-again, live-put, history-put}

@@ -9,7 +9,6 @@ use Rattle.kinds.specs.Sizes as sizes
 use Rattle.kinds.specs.declared.House.{House}
 use Rattle.kinds.specs.declared.Core.{Core}
 use Rattle.kinds.specs.declared.Reply.{Reply}
-use Rattle.kinds.specs.declared.Taken.{Taken}
 use Rattle.kinds.specs.declared.Site.{Site}
 use Rattle.rules.specs.Effect.{Effect}
 use Rattle.lent.specs.Rows.{each}

@@ -1,6 +1,6 @@
 -- Words laid into others, read by index; and what does not lie there stays.
 use Prim.Native.Nat.{ℕ, _+_, _-_, _*_, _≤_, _<_}
-use mathlib.Core.Path.{_≡_, refl, sym, ap, _∙_}
+use mathlib.Core.Path.{_≡_, _∙_}
 use mathlib.Core.List.{List, _++_}
 use native.Mathlib.Nat.{mul-le-mul-left}
 use native.Mathlib.Omega.{arith}
@@ -17,7 +17,7 @@ use Rattle.kinds.specs.declared.Sub.{Sub}
 use Rattle.kinds.specs.declared.Entry.{Entry}
 use Rattle.kinds.specs.State.{pastSeat}
 use Rattle.lent.specs.Rows.{rows, rows-same, rows-set}
-use Rattle.lent.specs.Layout.{wordsFrom, keysFrom, subFrom, entryFrom, liveOf, historyOf, seatOf, placeWords, slotWords}
+use Rattle.lent.specs.Layout.{wordsFrom, keysFrom, subFrom, entryFrom, liveOf, historyOf, seatOf}
 
 pub put-left : (a : ℕ) (d v : List ℕ) (j : ℕ) → a ≤ length d → j < a → getD (putAt a d v) j 0 ≡ getD d j 0
 unfolding putAt

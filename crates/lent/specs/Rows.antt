@@ -3,7 +3,7 @@ use Prim.Native.Nat.{ℕ, zero, suc, _+_, _*_, _≤_, _<_}
 use mathlib.Core.Path.{_≡_, refl, sym, ap, _∙_}
 use mathlib.Core.List.{List, [], _∷_, _++_, append-assoc}
 use native.Mathlib.Omega.{arith}
-use lib.ListN.{getD, set, length, take, drop, length-append}
+use lib.ListN.{getD, set, length, take}
 use lib.Seq.{drop-at, take-append-add, drop-append-add}
 use Rattle.laws.specs.Overlay.{putAt}
 

@@ -1,8 +1,7 @@
 -- Lines of the example H2, and some that are none.
 use mathlib.Core.Path.{_≡_, refl}
-use mathlib.Core.List.{List, [], _∷_}
+use mathlib.Core.List.{[], _∷_}
 use Rattle.laws.specs.Scan.{foldBelow}
-use Rattle.lines.specs.declared.Command.{Command}
 use Rattle.lines.specs.declared.Command.the-variants as command
 use Rattle.lines.specs.Line.{lineOf, readOn, stepped, took, grown, letter, digit, start, commandOf, noneOf, oneOf, twoOf, threeOf}
 use Rattle.lines.specs.Line.{fourOf}

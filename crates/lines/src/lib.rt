@@ -9,7 +9,7 @@ use verb::three;
 use verb::two;
 ghost use mathlib.Core.Path.{_≡_};
 ghost use Prim.Native.Nat.{_+_, _-_, _≤_, _<_};
-ghost use lib.ListN.{length, getD};
+ghost use lib.ListN.{length};
 ghost use Rattle.lines.specs.Line.{letter as letterOf, digit as digitOf, grown, start as startOf, stepped, commandOf, readOn, Ends};
 
 pub enum Command {

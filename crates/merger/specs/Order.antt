@@ -6,7 +6,6 @@ use borrow.Author.Tests.{eqb-true, eqb-false}
 use lib.Dec.{eqb}
 use Rattle.laws.specs.Choice.{pick, by-test}
 use Rattle.laws.specs.Scan.{foldBelow}
-use Rattle.kinds.specs.declared.RecordHead.{RecordHead}
 use Rattle.kinds.specs.declared.Merger.{Merger}
 use Rattle.rules.specs.Merger.{headsOf, headIn, noHead, leastHead, dueCode, popMergerAt, popMerger}
 use Rattle.rules.specs.MergerLaws.{pop-more}

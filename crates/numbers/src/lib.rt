@@ -8,6 +8,7 @@ ghost use Prim.Native.Nat.{_≤_, _<_};
 ghost use Rattle.laws.specs.Pair.{precedes as precedesOf};
 ghost use Rattle.rules.specs.House.{houseOk, isSite, siteOf, isKey, txOf, coordinatorOf, serialOf, isTx, maskOf, inMask, isMask};
 ghost use Rattle.rules.specs.House.{participants as participantsOf, repliesWanted};
+ghost use Rattle.kinds.specs.Sizes as sizes;
 
 pub fn house_ok(h: House) -> bool
     ensures { λ r. ⌜ r ≡ houseOk h ⌝ }
@@ -45,7 +46,7 @@ pub fn is_key(h: House, key: u64) -> bool
 }
 
 pub fn tx_of(coordinator: u64, serial: u64) -> u64
-    requires { ⌜ (coordinator ≤ 8) × (serial < 4294967296) ⌝ }
+    requires { ⌜ (coordinator ≤ sizes.sites) × (serial < sizes.serials) ⌝ }
     ensures { λ r. ⌜ r ≡ txOf coordinator serial ⌝ }
 {
     coordinator * SERIALS + serial
@@ -76,21 +77,21 @@ pub fn is_tx(h: House, tx: u64) -> bool
 
 // The mask of one site.
 pub fn mask_of(site: u64) -> u64
-    requires { ⌜ (1 ≤ site) × (site ≤ 8) ⌝ }
+    requires { ⌜ (1 ≤ site) × (site ≤ sizes.sites) ⌝ }
     ensures { λ r. ⌜ r ≡ maskOf site ⌝ }
 {
     1 << (site - 1)
 }
 
 pub fn in_mask(mask: u64, site: u64) -> bool
-    requires { ⌜ (1 ≤ site) × (site ≤ 8) ⌝ }
+    requires { ⌜ (1 ≤ site) × (site ≤ sizes.sites) ⌝ }
     ensures { λ r. ⌜ r ≡ inMask mask site ⌝ }
 {
     (mask >> (site - 1)) % 2 == 1
 }
 
 pub fn is_mask(h: House, mask: u64) -> bool
-    requires { ⌜ h .sites ≤ 8 ⌝ }
+    requires { ⌜ h .sites ≤ sizes.sites ⌝ }
     ensures { λ r. ⌜ r ≡ isMask h mask ⌝ }
 {
     let sites = h.sites;
@@ -105,7 +106,7 @@ pub fn participants(mask: u64) -> u64
 
 // One fewer than the participants, of whom this site is one.
 pub fn replies_wanted(own: u64, mask: u64) -> u64
-    requires { ⌜ (1 ≤ own) × (own ≤ 8) ⌝ }
+    requires { ⌜ (1 ≤ own) × (own ≤ sizes.sites) ⌝ }
     ensures { λ r. ⌜ r ≡ repliesWanted own mask ⌝ }
 {
     let n = participants(mask | mask_of(own));

@@ -1,5 +1,5 @@
 -- A text laid on a page.
-use Prim.Native.Nat.{ℕ, _+_, _≤_}
+use Prim.Native.Nat.{ℕ, _+_, _-_, _*_, _≤_}
 use mathlib.Core.Path.{_≡_}
 use mathlib.Core.List.{List}
 use lib.ListN.{length}
@@ -13,12 +13,32 @@ pub record Laid (before : List ℕ) (at : ℕ) (text after : List ℕ) (end : �
   pub ends : end ≡ at + length text
   pub within : at + length text ≤ length before
 
--- a page of 65,536 bytes with this much on it has room for a line, and for one with four numbers more
+-- the most digits of a number; a number with the space before it; n of these, and behind ` ok`
+abbrev pub digits : ℕ
+digits = 20
+
+abbrev pub field : ℕ
+field = 1 + digits
+
+abbrev pub fields : ℕ → ℕ
+fields n = n * field
+
+abbrev pub okWith : ℕ → ℕ
+okWith n = 3 + fields n
+
+-- bytes of a page, and of the longest line
+abbrev pub page : ℕ
+page = 65536
+
+abbrev pub longest : ℕ
+longest = 128
+
+-- a page with this much on it has room for a line, and for one with four numbers more
 abbrev pub full : ℕ
-full = 65408
+full = page - longest
 
 abbrev pub nearly : ℕ
-nearly = 65280
+nearly = page - 2 * longest
 
 -- where a line starts on a page with `used` bytes on it: behind them, or at 0 where they leave no room and are written out first
 abbrev pub lineStart : ℕ → ℕ → ℕ

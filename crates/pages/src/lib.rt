@@ -9,11 +9,11 @@ use text::told_more;
 use text::told_three;
 use text::told_two;
 ghost use mathlib.Core.Path.{_≡_};
-ghost use Prim.Native.Nat.{_+_, _≤_};
+ghost use Prim.Native.Nat.{_+_, _*_, _≤_};
 ghost use lib.ListN.{length};
 ghost use Rattle.rules.specs.Answers.{isRefused};
 ghost use Rattle.said.specs.Said.{saidOf};
-ghost use Rattle.pages.specs.Laid.{Laid, lineStart, full, nearly};
+ghost use Rattle.pages.specs.Laid.{Laid, lineStart, longest, full, nearly, okWith};
 ghost use Rattle.pages.specs.Line.{outcomeOf, lineOf, lineWith};
 
 // Bytes of a page, and of the longest line: four numbers, with at most nine other bytes before each.
@@ -38,9 +38,9 @@ pub fn is_refused(a: Answer) -> bool
 }
 
 fn outcome(page: &mut [u8], used: usize, a: Answer) -> usize
-    requires { ⌜ used + 66 ≤ length (now page) ⌝ }
+    requires { ⌜ used + (okWith 3) ≤ length (now page) ⌝ }
     ensures { λ r. ⌜ Laid (now (page .entry)) used (outcomeOf (saidOf a)) (now (page .exit)) r ⌝ }
-    ensures { λ r. ⌜ r ≤ used + 66 ⌝ }
+    ensures { λ r. ⌜ r ≤ used + (okWith 3) ⌝ }
 {
     match a {
         Answer::Refused(code) => told(page, used, b" refused", code),
@@ -59,6 +59,10 @@ fn outcome(page: &mut [u8], used: usize, a: Answer) -> usize
             coordinator,
             tx,
         } => told_three(page, used, number, coordinator, tx),
+        Answer::Replayed {
+            number,
+            coordinator,
+        } => told_two(page, used, number, coordinator),
         Answer::Standing {
             value,
             number,
@@ -68,7 +72,7 @@ fn outcome(page: &mut [u8], used: usize, a: Answer) -> usize
 }
 
 fn line(page: &mut [u8], used: usize, event: u64, a: Answer) -> usize
-    requires { ⌜ used + 128 ≤ length (now page) ⌝ }
+    requires { ⌜ used + longest ≤ length (now page) ⌝ }
     ensures { λ r. ⌜ Laid (now (page .entry)) used (lineOf event (saidOf a)) (now (page .exit)) r ⌝ }
 {
     let next = digits(page, used, event);
@@ -118,7 +122,7 @@ fn line_with(
     d: u64,
     e: u64,
 ) -> usize
-    requires { ⌜ used + 256 ≤ length (now page) ⌝ }
+    requires { ⌜ used + 2 * longest ≤ length (now page) ⌝ }
     ensures { λ r. ⌜ Laid (now (page .entry)) used (lineWith event (saidOf a) b c d e) (now (page .exit)) r ⌝ }
 {
     let next = digits(page, used, event);

@@ -2,7 +2,7 @@
 ghost use Prim.Native.Nat.{_+_, _≤_};
 ghost use mathlib.Core.List.{[], _∷_, _++_};
 ghost use lib.ListN.{length};
-ghost use Rattle.pages.specs.Laid.{Laid};
+ghost use Rattle.pages.specs.Laid.{Laid, digits as most, field, fields, okWith};
 ghost use Rattle.pages.specs.Line.{bytesOf, decimalOf, resultsOf};
 
 pub fn put(page: &mut [u8], used: usize, b: &[u8]) -> usize
@@ -18,9 +18,9 @@ pub fn put(page: &mut [u8], used: usize, b: &[u8]) -> usize
 }
 
 pub fn digits(page: &mut [u8], used: usize, n: u64) -> usize
-    requires { ⌜ used + 20 ≤ length (now page) ⌝ }
+    requires { ⌜ used + most ≤ length (now page) ⌝ }
     ensures { λ r. ⌜ Laid (now (page .entry)) used (decimalOf n) (now (page .exit)) r ⌝ }
-    ensures { λ r. ⌜ r ≤ used + 20 ⌝ }
+    ensures { λ r. ⌜ r ≤ used + most ⌝ }
 {
     let mut text = [0u8; 20];
     let k = io::decimal(n, &mut text);
@@ -28,36 +28,36 @@ pub fn digits(page: &mut [u8], used: usize, n: u64) -> usize
 }
 
 fn number(page: &mut [u8], used: usize, n: u64) -> usize
-    requires { ⌜ used + 21 ≤ length (now page) ⌝ }
+    requires { ⌜ used + field ≤ length (now page) ⌝ }
     ensures { λ r. ⌜ Laid (now (page .entry)) used (resultsOf (n ∷ [])) (now (page .exit)) r ⌝ }
-    ensures { λ r. ⌜ r ≤ used + 21 ⌝ }
+    ensures { λ r. ⌜ r ≤ used + field ⌝ }
 {
     let next = put(page, used, b" ");
     digits(page, next, n)
 }
 
 fn two_numbers(page: &mut [u8], used: usize, a: u64, b: u64) -> usize
-    requires { ⌜ used + 42 ≤ length (now page) ⌝ }
+    requires { ⌜ used + (fields 2) ≤ length (now page) ⌝ }
     ensures { λ r. ⌜ Laid (now (page .entry)) used (resultsOf (a ∷ b ∷ [])) (now (page .exit)) r ⌝ }
-    ensures { λ r. ⌜ r ≤ used + 42 ⌝ }
+    ensures { λ r. ⌜ r ≤ used + (fields 2) ⌝ }
 {
     let next = number(page, used, a);
     number(page, next, b)
 }
 
 fn three_numbers(page: &mut [u8], used: usize, a: u64, b: u64, c: u64) -> usize
-    requires { ⌜ used + 63 ≤ length (now page) ⌝ }
+    requires { ⌜ used + (fields 3) ≤ length (now page) ⌝ }
     ensures { λ r. ⌜ Laid (now (page .entry)) used (resultsOf (a ∷ b ∷ c ∷ [])) (now (page .exit)) r ⌝ }
-    ensures { λ r. ⌜ r ≤ used + 63 ⌝ }
+    ensures { λ r. ⌜ r ≤ used + (fields 3) ⌝ }
 {
     let next = number(page, used, a);
     two_numbers(page, next, b, c)
 }
 
 fn four_numbers(page: &mut [u8], used: usize, a: u64, b: u64, c: u64, d: u64) -> usize
-    requires { ⌜ used + 84 ≤ length (now page) ⌝ }
+    requires { ⌜ used + (fields 4) ≤ length (now page) ⌝ }
     ensures { λ r. ⌜ Laid (now (page .entry)) used (resultsOf (a ∷ b ∷ c ∷ d ∷ [])) (now (page .exit)) r ⌝ }
-    ensures { λ r. ⌜ r ≤ used + 84 ⌝ }
+    ensures { λ r. ⌜ r ≤ used + (fields 4) ⌝ }
 {
     let next = number(page, used, a);
     three_numbers(page, next, b, c, d)
@@ -65,27 +65,27 @@ fn four_numbers(page: &mut [u8], used: usize, a: u64, b: u64, c: u64, d: u64) ->
 
 // A word and the results behind it.
 pub fn told(page: &mut [u8], used: usize, word: &[u8], n: u64) -> usize
-    requires { ⌜ used + (length (now word) + 21) ≤ length (now page) ⌝ }
+    requires { ⌜ used + (length (now word) + field) ≤ length (now page) ⌝ }
     ensures { λ r. ⌜ Laid (now (page .entry)) used (now (word .entry) ++ resultsOf (n ∷ [])) (now (page .exit)) r ⌝ }
-    ensures { λ r. ⌜ r ≤ used + (length (now (word .entry)) + 21) ⌝ }
+    ensures { λ r. ⌜ r ≤ used + (length (now (word .entry)) + field) ⌝ }
 {
     let next = put(page, used, word);
     number(page, next, n)
 }
 
 pub fn told_two(page: &mut [u8], used: usize, a: u64, b: u64) -> usize
-    requires { ⌜ used + 45 ≤ length (now page) ⌝ }
+    requires { ⌜ used + (okWith 2) ≤ length (now page) ⌝ }
     ensures { λ r. ⌜ Laid (now (page .entry)) used (bytesOf " ok" ++ resultsOf (a ∷ b ∷ [])) (now (page .exit)) r ⌝ }
-    ensures { λ r. ⌜ r ≤ used + 45 ⌝ }
+    ensures { λ r. ⌜ r ≤ used + (okWith 2) ⌝ }
 {
     let next = put(page, used, b" ok");
     two_numbers(page, next, a, b)
 }
 
 pub fn told_three(page: &mut [u8], used: usize, a: u64, b: u64, c: u64) -> usize
-    requires { ⌜ used + 66 ≤ length (now page) ⌝ }
+    requires { ⌜ used + (okWith 3) ≤ length (now page) ⌝ }
     ensures { λ r. ⌜ Laid (now (page .entry)) used (bytesOf " ok" ++ resultsOf (a ∷ b ∷ c ∷ [])) (now (page .exit)) r ⌝ }
-    ensures { λ r. ⌜ r ≤ used + 66 ⌝ }
+    ensures { λ r. ⌜ r ≤ used + (okWith 3) ⌝ }
 {
     let next = put(page, used, b" ok");
     three_numbers(page, next, a, b, c)
@@ -93,9 +93,9 @@ pub fn told_three(page: &mut [u8], used: usize, a: u64, b: u64, c: u64) -> usize
 
 // Four numbers behind an outcome.
 pub fn told_more(page: &mut [u8], used: usize, a: u64, b: u64, c: u64, d: u64) -> usize
-    requires { ⌜ used + 86 ≤ length (now page) ⌝ }
+    requires { ⌜ used + (2 + fields 4) ≤ length (now page) ⌝ }
     ensures { λ r. ⌜ Laid (now (page .entry)) used (bytesOf " ;" ++ resultsOf (a ∷ b ∷ c ∷ d ∷ [])) (now (page .exit)) r ⌝ }
-    ensures { λ r. ⌜ r ≤ used + 86 ⌝ }
+    ensures { λ r. ⌜ r ≤ used + (2 + fields 4) ⌝ }
 {
     let next = put(page, used, b" ;");
     four_numbers(page, next, a, b, c, d)

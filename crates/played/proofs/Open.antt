@@ -46,7 +46,7 @@ unfolding scan.firstBelow scan.allBelow scan.anyBelow scan.foldBelow pair.preced
     history.backwards history.newer history.versionOf history.isNewer history.recallPlace history.forgetInto queue.queuedBefore
     queue.comesFirst queue.betterPlace queue.leastQueued queue.isDue queue.stateBound queue.stateNumber valid.courseOk valid.subOk
     valid.entryOk valid.countersOk valid.liveOk valid.historyOk valid.siteOk valid.heldOk valid.gatheredOk valid.listsOk valid.handedOk
-    effect.takenOf effect.outOf effect.turnAt effect.settle effect.settledOf course.newSub course.raise course.headOf course.channelSpent
+    effect.takenOf effect.turnAt effect.settle course.newSub course.raise course.headOf course.channelSpent
     course.sendTo course.sendAll course.quietly course.withParticipant course.enlistStep course.isOutstanding course.withReply
     course.abortStep course.withDecision course.commitStep course.decideStep course.withMark course.castStep course.withRequest
     course.prepareStep course.voteDecides course.voteStep course.withStage course.preparedStep course.certifiedStep send.isRecipient
@@ -57,7 +57,7 @@ unfolding scan.firstBelow scan.allBelow scan.anyBelow scan.foldBelow pair.preced
     certify.preparedWords certify.installedWords certify.preparedList certify.installedList certify.candidates certify.concurrent
     certify.conflictsAt certify.conflictsWith certify.isRecorded certify.uncertainOf certify.voteOf join.lesserAbove join.leastAbove
     join.withListed join.listedOf join.joinTx join.joinCount join.joinWords join.joined deliver.arrivalCode deliver.nextCode deliver.arrived
-    deliver.passed deliver.replyCode deliver.joinTurn deliver.spoken deliver.spokenOf deliver.joinAt deliver.takeJoin deliver.joinedInTurn
+    deliver.passed deliver.replyCode deliver.joinTurn deliver.spoken deliver.joinAt deliver.takeJoin deliver.joinedInTurn
     deliver.takeJoined deliver.takePrepare deliver.passPrepare deliver.concInTurn deliver.gatherChange deliver.gatherLists deliver.takeConc
     deliver.takeCert deliver.voteInTurn deliver.takeVote deliver.takeCommit deliver.takeAbort deliver.takeHeld deliver.takeOther
     deliver.takeKind deliver.messageAt deliver.messageOf install.installCode install.entryOf install.partHead install.partWords

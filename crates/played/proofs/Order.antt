@@ -33,4 +33,4 @@ apart-before f t {p = x ∷ p} q e d here j = rw (e, passes-behind t p d j)
 apart-before f t q e d (there i) j = rw (apart-before f t q e d i j, pick-same)
 
 pub before-passes : (f t : Fact → Bool) {x y : Fact} {b : List Fact} → f x ≡ true → t y ≡ true → Before x y b → passesBefore f t b ≡ true
-before-passes f t e d (p, q, h, i, j) = rw h (apart-before f t q e d i j)
+before-passes f t e d h = rw (h .split) (apart-before f t (h .rest) e d (h .first) (h .second))

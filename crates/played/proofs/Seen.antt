@@ -1,7 +1,6 @@
 -- Who saw `spanning` where, in the second script's book, and what demand 3 makes of it.
 use Prim.Native.Nat.{ℕ}
 use mathlib.Core.Path.{_≡_, refl}
-use mathlib.Core.Logic.{inl}
 use mathlib.Core.Bool.{Bool, true, false}
 use mathlib.Core.List.{List, [], _∷_}
 use native.Mathlib.Omega.{arith}
@@ -11,7 +10,7 @@ use lib.Dec.{ltb, eqb, lit<}
 use Rattle.laws.specs.Choice.{every}
 use Rattle.rules.specs.World.{Is}
 use Rattle.rules.specs.Book.{Fact, began, used, wrote, committed, installed, replayed}
-use Rattle.rules.specs.Claim.{Demand3, Committed, Dependent, Parts, Saw, NoneHalfSeen}
+use Rattle.rules.specs.Claim.{Demand3, Committed, Dependent, on-write-of-other, Parts, Saw, NoneHalfSeen}
 use Rattle.rules.proofs.Theorem.{demand3}
 use Rattle.played.specs.Second.{secondCalls, secondBook, spanning, halfSeeing, later}
 use Rattle.played.specs.Seen.{SawBoth, SawHalf}
@@ -37,29 +36,48 @@ spanning-committed = stands secondBook 6 refl
 -- `later` used keys 5 and 261
 later-touches : Dependent secondBook later spanning
 unfolding secondBook
-later-touches = (5, inl (stands secondBook 17 refl, (700, stands secondBook 3 refl)))
+later-touches = on-write-of-other 5 (stands secondBook 17 refl) (700, stands secondBook 3 refl)
 
 later-parts : (Parts secondBook 1 later spanning) × (Parts secondBook 2 later spanning)
 unfolding secondBook
-later-parts = ((stands secondBook 16 refl, stands secondBook 0 refl), (stands secondBook 15 refl, stands secondBook 1 refl))
+later-parts = (
+  record { one = stands secondBook 16 refl; other = stands secondBook 0 refl },
+  record { one = stands secondBook 15 refl; other = stands secondBook 1 refl },
+)
 
 later-saw-1 : Saw secondBook 1 later spanning
 unfolding secondBook
-later-saw-1 = (
-  1,
-  1,
-  spanning-committed,
-  (take 9 secondBook, drop 9 secondBook, refl, stands (take 9 secondBook) 8 refl, stands (drop 9 secondBook) 7 refl),
-)
+later-saw-1 =
+    record {
+      number = 1;
+      coordinator = 1;
+      committed = spanning-committed;
+      before =
+          record {
+            front = take 9 secondBook;
+            rest = drop 9 secondBook;
+            split = refl;
+            first = stands (take 9 secondBook) 8 refl;
+            second = stands (drop 9 secondBook) 7 refl;
+          };
+    }
 
 later-saw-2 : Saw secondBook 2 later spanning
 unfolding secondBook
-later-saw-2 = (
-  1,
-  1,
-  spanning-committed,
-  (take 15 secondBook, drop 15 secondBook, refl, stands (take 15 secondBook) 14 refl, stands (drop 15 secondBook) 0 refl),
-)
+later-saw-2 =
+    record {
+      number = 1;
+      coordinator = 1;
+      committed = spanning-committed;
+      before =
+          record {
+            front = take 15 secondBook;
+            rest = drop 15 secondBook;
+            split = refl;
+            first = stands (take 15 secondBook) 14 refl;
+            second = stands (drop 15 secondBook) 0 refl;
+          };
+    }
 
 pub saw-both : SawBoth secondBook later spanning 1 2
 saw-both = ((later-touches, later-parts .0, later-parts .1, later-saw-1), later-saw-2)
@@ -67,20 +85,31 @@ saw-both = ((later-touches, later-parts .0, later-parts .1, later-saw-1), later-
 -- `halfSeeing` used them too
 half-touches : Dependent secondBook halfSeeing spanning
 unfolding secondBook
-half-touches = (5, inl (stands secondBook 10 refl, (700, stands secondBook 3 refl)))
+half-touches = on-write-of-other 5 (stands secondBook 10 refl) (700, stands secondBook 3 refl)
 
 half-parts : (Parts secondBook 1 halfSeeing spanning) × (Parts secondBook 2 halfSeeing spanning)
 unfolding secondBook
-half-parts = ((stands secondBook 9 refl, stands secondBook 0 refl), (stands secondBook 7 refl, stands secondBook 1 refl))
+half-parts = (
+  record { one = stands secondBook 9 refl; other = stands secondBook 0 refl },
+  record { one = stands secondBook 7 refl; other = stands secondBook 1 refl },
+)
 
 half-saw-1 : Saw secondBook 1 halfSeeing spanning
 unfolding secondBook
-half-saw-1 = (
-  1,
-  1,
-  spanning-committed,
-  (take 9 secondBook, drop 9 secondBook, refl, stands (take 9 secondBook) 8 refl, stands (drop 9 secondBook) 0 refl),
-)
+half-saw-1 =
+    record {
+      number = 1;
+      coordinator = 1;
+      committed = spanning-committed;
+      before =
+          record {
+            front = take 9 secondBook;
+            rest = drop 9 secondBook;
+            split = refl;
+            first = stands (take 9 secondBook) 8 refl;
+            second = stands (drop 9 secondBook) 0 refl;
+          };
+    }
 
 -- no install at site 2 stands before its beginning there
 abbrev installAt : ℕ → Fact → Bool
@@ -104,8 +133,8 @@ unfolding passesBefore passes secondBook
 none-before = refl
 
 half-missed-2 : Saw secondBook 2 halfSeeing spanning → ⊥
-half-missed-2 (n, c, m, h) =
-    let e = before-passes (installAt 2) (beginning 2 halfSeeing) refl refl h in
+half-missed-2 saw =
+    let e = before-passes (installAt 2) (beginning 2 halfSeeing) refl refl (saw .before) in
     let d = none-before in
     let z : _≡_ {A = ℕ} 0 1 = cc in
     absurd (omega arith)

@@ -1,6 +1,6 @@
 -- The worked script H2: one site, one transaction, which ends in a copy. (Its merge before the install hands in no record.)
 use mathlib.Core.List.{List, [], _∷_}
-use Rattle.kinds.specs.declared.Answer.the-variants.{Done, Begun, Committed, Installed, Emitted, Standing}
+use Rattle.kinds.specs.declared.Answer.the-variants.{Done, Begun, Committed, Installed, Emitted, Replayed, Standing}
 use Rattle.rules.specs.World.{Call}
 use Rattle.played.specs.Script.{Told, _⟶_, begin, write, commit, install, merge, emit, replay, value, callsOf}
 
@@ -12,7 +12,7 @@ firstScript =
     ∷ install 1 ⟶ Installed 1 1
     ∷ merge 1 1 ⟶ Done
     ∷ emit ⟶ Emitted 1 1 4294967297
-    ∷ replay 1 1 ⟶ Installed 1 1
+    ∷ replay 1 1 ⟶ Replayed 1 1
     ∷ value 1 5 ⟶ Standing 700 1 1
     ∷ []
 

@@ -3,7 +3,7 @@
 use Prim.Native.Nat.{ℕ}
 use mathlib.Core.List.{List, [], _∷_}
 use Rattle.kinds.specs.declared.Answer.the-variants.{Refused, Done, Begun, Found, Committed, Aborted, Installed, Reported, Emitted}
-use Rattle.kinds.specs.declared.Answer.the-variants.{Standing}
+use Rattle.kinds.specs.declared.Answer.the-variants.{Replayed, Standing}
 use Rattle.kinds.specs.Kind as kind
 use Rattle.rules.specs.Message.{messageWords, entryCount}
 use Rattle.rules.specs.Course.{headOf}
@@ -95,7 +95,7 @@ secondScript =
     ∷ emit ⟶ Refused 17
     ∷ merge 2 1 ⟶ Done
     ∷ emit ⟶ Emitted 1 1 spanning
-    ∷ replay 1 1 ⟶ Installed 1 1
+    ∷ replay 1 1 ⟶ Replayed 1 1
     ∷ replay 1 1 ⟶ Refused 14
     ∷ value 1 5 ⟶ Standing 700 1 1
     ∷ value 1 261 ⟶ Standing 900 1 1
@@ -112,9 +112,9 @@ secondScript =
     ∷ merge 2 3 ⟶ Done
     ∷ emit ⟶ Emitted 3 2 later
     -- Copy 1 follows to the end, copy 2 only to `spanning`.
-    ∷ replay 1 2 ⟶ Installed 2 1
-    ∷ replay 1 3 ⟶ Installed 3 2
-    ∷ replay 2 1 ⟶ Installed 1 1
+    ∷ replay 1 2 ⟶ Replayed 2 1
+    ∷ replay 1 3 ⟶ Replayed 3 2
+    ∷ replay 2 1 ⟶ Replayed 1 1
     ∷ []
 
 unfoldable pub secondCalls : List Call

@@ -14,7 +14,7 @@ use Rattle.rules.specs.Keys.{wroteValue}
 use Rattle.rules.specs.Copy.{copyNumber, copyCoordinator}
 use Rattle.rules.specs.World.{World}
 use Rattle.rules.specs.Book.{Fact}
-use Rattle.rules.specs.Claim.{Committed, Wrote, LastWrite, UpTo, LeftBy, LastReplay, CopyHolds}
+use Rattle.rules.specs.Claim.{Committed, Wrote, LastWrite, UpTo, LeftBy, unwritten, written, LastReplay, Reaches, start, commit, CopyHolds}
 use Rattle.rules.proofs.Protocol.{Protocol}
 use Rattle.rules.proofs.StreamClaims.{rankIn, WroteIn, LeftUpTo}
 use Rattle.rules.proofs.RefineCopies.{CopyStands}
@@ -39,20 +39,20 @@ module _ {o : House} {b : List Fact} {p : Protocol} (i : BookIs o b p) (n c k : 
       (z, omega (arith, not-precedes-rank n c m d l (omega arith) u))
 
   pub left-by : LeftUpTo p o (rank n c) k v → LeftBy b n c k v
-  left-by (inl (f, e)) = inl ((λ t m d a u w. let (z, r) = ranked t m d a u in f t z r (i .wrote t k z w)), e)
+  left-by (inl (f, e)) = unwritten (λ t m d a u w. let (z, r) = ranked t m d a u in f t z r (i .wrote t k z w)) e
   left-by (inr (t, z, r, w, e, g)) =
-      inr (
-        t,
-        p .num t,
-        coordinatorOf t,
-        i .committed t z,
-        up-to n c (p .num t) (coordinatorOf t) l (i .low t z) r,
-        rw e at (i .last t k z w),
-        λ u m d a q s. let (y, h) = ranked u m d a q in
+      written (record {
+        tx = t;
+        number = p .num t;
+        coordinator = coordinatorOf t;
+        committed = i .committed t z;
+        up-to = up-to n c (p .num t) (coordinatorOf t) l (i .low t z) r;
+        wrote = rw e at (i .last t k z w);
+        greatest = λ u m d a q s. let (y, h) = ranked u m d a q in
             let (_, f, j) = i .commit u m d a in
             let x = i .low u y in
-            up-to (p .num t) (coordinatorOf t) m d (i .low t z) (omega arith) (omega (arith, g u y h (i .wrote u k y s))),
-      )
+            up-to (p .num t) (coordinatorOf t) m d (i .low t z) (omega arith) (omega (arith, g u y h (i .wrote u k y s)));
+      })
 
 -- what is claimed of a copy
 pub copy-holds : {sites : ℕ} {b : List Fact} {p : Protocol} {w : World} {c k : ℕ} → BookIs (record { sites = sites }) b p
@@ -65,10 +65,9 @@ copy-holds {b = b} {p = p} i s r =
       coordinator = s .coordinator;
       answers = s .answers;
       last = rw (s .pair .0, s .pair .1) at r;
-      up-to = ⊎-elim (λ a. inl a) (λ a. inr (committed-pair a)) (s .up-to);
+      up-to = ⊎-elim (λ a. start (a .0) (a .1)) committed-pair (s .up-to);
       left = left-by i (s .number) (s .coordinator) _ (s .value) (s .low) (s .left);
     }
   where
-    committed-pair : (t : ℕ) × (0 < p .num t) × (p .num t ≡ s .number) × (coordinatorOf t ≡ s .coordinator)
-        → (t : ℕ) × Committed b t (s .number) (s .coordinator)
-    committed-pair (t, z, e, f) = (t, rw (e, f) at (i .committed t z))
+    committed-pair : (t : ℕ) × (0 < p .num t) × (p .num t ≡ s .number) × (coordinatorOf t ≡ s .coordinator) → Reaches b (s .number) (s .coordinator)
+    committed-pair (t, z, e, f) = commit t (rw (e, f) at (i .committed t z))

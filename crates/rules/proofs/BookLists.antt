@@ -51,21 +51,30 @@ old b l a n i = ⊎-elim (λ j. j) (λ j. absurd (n (all-is a j))) (is-append b 
 
 -- Before.
 pub before-second : {f g : Fact} {b : List Fact} → Before f g b → Is g b
-before-second (p, q, e, i, j) = rw e (is-behind p j)
+before-second h = rw (h .split) (is-behind (h .front) (h .second))
 
 pub before-kept : {f g : Fact} {b : List Fact} (l : List Fact) → Before f g b → Before f g (b ++ l)
-before-kept l (p, q, e, i, j) = (p, q ++ l, rw e (append-assoc p q l), i, is-kept l j)
+before-kept l h =
+    record {
+      front = h .front;
+      rest = h .rest ++ l;
+      split = rw (h .split) (append-assoc (h .front) (h .rest) l);
+      first = h .first;
+      second = is-kept l (h .second);
+    }
 
 pub before-here : {f g : Fact} {b l : List Fact} → Is f b → Is g l → Before f g (b ++ l)
-before-here {b = b} {l = l} i j = (b, l, refl, i, j)
+before-here {b = b} {l = l} i j = record { front = b; rest = l; split = refl; first = i; second = j }
 
 -- where the first stands in a list, and the second behind it, each may stand in either part
-pub before-append : {f g : Fact} (b l : List Fact) → Before f g (b ++ l) → Before f g b ⊎ ((Is f b × Is g l) ⊎ Before f g l)
-before-append [] l h = inr (inr h)
-before-append (x ∷ b) l ([], q, e, i, j) = absurd (none-is i)
-before-append {f} {g} (x ∷ b) l (y ∷ p, q, e, i, j) =
-    ⊎-elim (λ z. first (z ∙ sym heads) (is-append b l (rw tails (is-behind p j)))) (λ m. later (before-append b l (p, q, tails, m, j)))
-    (is-cases i)
+abbrev Either : Fact → Fact → List Fact → List Fact → Type 0
+Either f g b l = Before f g b ⊎ ((Is f b × Is g l) ⊎ Before f g l)
+
+parted : {f g : Fact} (b l p q : List Fact) → b ++ l ≡ p ++ q → Is f p → Is g q → Either f g b l
+parted [] l p q e i j = inr (inr (record { front = p; rest = q; split = e; first = i; second = j }))
+parted (x ∷ b) l [] q e i j = absurd (none-is i)
+parted {f} {g} (x ∷ b) l (y ∷ p) q e i j =
+    ⊎-elim (λ z. first (z ∙ sym heads) (is-append b l (rw tails (is-behind p j)))) (λ m. later (parted b l p q tails m j)) (is-cases i)
   where
     heads : x ≡ y
     heads = cc
@@ -73,36 +82,55 @@ before-append {f} {g} (x ∷ b) l (y ∷ p, q, e, i, j) =
     tails : b ++ l ≡ p ++ q
     tails = cc
 
-    later : Before f g b ⊎ ((Is f b × Is g l) ⊎ Before f g l) → Before f g (x ∷ b) ⊎ ((Is f (x ∷ b) × Is g l) ⊎ Before f g l)
-    later (inl (u, v, d, m, n)) = inl (x ∷ u, v, ap (λ (z : List Fact). x ∷ z) d, there m, n)
+    one-more : Before f g b → Before f g (x ∷ b)
+    one-more h =
+        record {
+          front = x ∷ h .front;
+          rest = h .rest;
+          split = ap (λ (z : List Fact). x ∷ z) (h .split);
+          first = there (h .first);
+          second = h .second;
+        }
+
+    later : Either f g b l → Either f g (x ∷ b) l
+    later (inl h) = inl (one-more h)
     later (inr (inl (m, n))) = inr (inl (there m, n))
     later (inr (inr h)) = inr (inr h)
 
-    first : f ≡ x → Is g b ⊎ Is g l → Before f g (x ∷ b) ⊎ ((Is f (x ∷ b) × Is g l) ⊎ Before f g l)
-    first z (inl n) = rw z (inl (x ∷ [], b, refl, here, n))
+    first : f ≡ x → Is g b ⊎ Is g l → Either f g (x ∷ b) l
+    first z (inl n) = rw z (inl (before-here {b = x ∷ []} here n))
     first z (inr n) = rw z (inr (inl (here, n)))
 
+pub before-append : {f g : Fact} (b l : List Fact) → Before f g (b ++ l) → Either f g b l
+before-append b l h = parted b l (h .front) (h .rest) (h .split) (h .first) (h .second)
+
 pub not-alone : {f g x : Fact} → Before f g (x ∷ []) → ⊥
-not-alone ([], q, e, i, j) = none-is i
-not-alone (y ∷ [], [], e, i, j) = none-is j
-not-alone (y ∷ [], z ∷ q, e, i, j) = omega (arith, ap (λ (l : List Fact). length l) e)
-not-alone (y ∷ u ∷ p, q, e, i, j) = omega (arith, ap (λ (l : List Fact). length l) e)
+not-alone {f} {g} {x} h = go (h .front) (h .rest) (h .split) (h .first) (h .second)
+  where
+    go : (p q : List Fact) → x ∷ [] ≡ p ++ q → Is f p → Is g q → ⊥
+    go [] q e i j = none-is i
+    go (y ∷ []) [] e i j = none-is j
+    go (y ∷ []) (z ∷ q) e i j = omega (arith, ap (λ (l : List Fact). length l) e)
+    go (y ∷ u ∷ p) q e i j = omega (arith, ap (λ (l : List Fact). length l) e)
 
 -- where no second stands behind, it stood so before
 pub before-old : {f g : Fact} (b l : List Fact) → (Is g l → ⊥) → Before f g (b ++ l) → Before f g b
 before-old {f} {g} b l n h = go (before-append b l h)
   where
-    go : Before f g b ⊎ ((Is f b × Is g l) ⊎ Before f g l) → Before f g b
+    go : Either f g b l → Before f g b
     go (inl k) = k
     go (inr (inl (i, j))) = absurd (n j)
     go (inr (inr k)) = absurd (n (before-second k))
 
 -- The last write.
-pub last-kept : {t k : ℕ} {v : Value} {b : List Fact} (l : List Fact) → ((u : Value) → Is (book.wrote t k u) l → ⊥) → LastWrite b t k v
-    → LastWrite (b ++ l) t k v
-last-kept {t} {k} {v} l n (p, q, e, g) =
-    (p, q ++ l, rw e (append-assoc p (book.wrote t k v ∷ q) l), λ u i. ⊎-elim (λ j. g u j) (λ j. n u j) (is-append q l i))
+pub last-kept : {t k : ℕ} {v : Value} {b : List Fact} (l : List Fact) → ((u : Value) → Is (book.wrote t k u) l → ⊥) → LastWrite b t k v → LastWrite (b ++ l) t k v
+last-kept {t} {k} {v} l n h =
+    record {
+      front = h .front;
+      rest = h .rest ++ l;
+      split = rw (h .split) (append-assoc (h .front) (book.wrote t k v ∷ h .rest) l);
+      last = λ u i. ⊎-elim (λ j. h .last u j) (λ j. n u j) (is-append (h .rest) l i);
+    }
 
-pub last-fresh : {t k : ℕ} {v : Value} (b l : List Fact) → ((u : Value) → Is (book.wrote t k u) l → ⊥)
-    → LastWrite (b ++ (book.wrote t k v ∷ l)) t k v
-last-fresh b l n = (b, l, refl, n)
+pub last-fresh : {t k : ℕ} {v : Value} (b l : List Fact) → ((u : Value) → Is (book.wrote t k u) l → ⊥) → LastWrite (b ++ (book.wrote t k v ∷ l)) t k v
+last-fresh b l n = record { front = b; rest = l; split = refl; last = n }

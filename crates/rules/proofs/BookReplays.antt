@@ -16,8 +16,8 @@ use Rattle.kinds.specs.Reason as reason
 use Rattle.kinds.specs.State.{Value}
 use Rattle.kinds.specs.declared.Answer.{Answer}
 use Rattle.kinds.specs.declared.Answer.the-variants.{Refused, Done, Begun, Found, Committed, Aborted, Installed, Reported, Emitted}
-use Rattle.kinds.specs.declared.Answer.the-variants.{Standing}
-use Rattle.rules.specs.Answers.{onBegun, onFound, onDone, onCommitted, onInstalled, onAnswer}
+use Rattle.kinds.specs.declared.Answer.the-variants.{Replayed, Standing}
+use Rattle.rules.specs.Answers.{onBegun, onFound, onDone, onCommitted, onInstalled, onReplayed, onAnswer}
 use Rattle.rules.specs.Record.{recordHead, recordWrites}
 use Rattle.rules.specs.Message.{messageHead}
 use Rattle.rules.specs.Copy.{copyNumber, copyCoordinator, replayed, replayOf, copyStartOf}
@@ -26,41 +26,46 @@ use Rattle.rules.specs.World.{freshWorld}
 use Rattle.rules.specs.World as world
 use Rattle.rules.specs.Book as book
 use Rattle.rules.specs.Book.{Fact, factsOf, bookFrom}
-use Rattle.rules.specs.Claim.{LastReplay}
+use Rattle.rules.specs.Claim.{LastReplay, behind, none}
 use Rattle.rules.proofs.Tables.{All, a-nil, a-cons, all-append, all-one, upd-cases, all-is, is-append}
 use Rattle.rules.proofs.RefineLaid.{put-header}
 use Rattle.rules.proofs.RefineReplay.{Replays, replay-cases}
 
 -- What holds of the case, and of the rest, holds of an answer.
 module _ {A : Type 0} (P : A → Type 0) {other : A} (o : P other) where
-  on-answer : {done : A} {begun found committed : ℕ → A} {installed : ℕ → ℕ → A}
+  on-answer : {done : A} {begun found committed : ℕ → A} {installed replayed : ℕ → ℕ → A}
       → P done → ((n : ℕ) → P (begun n)) → ((n : ℕ) → P (found n)) → ((n : ℕ) → P (committed n)) → ((n c : ℕ) → P (installed n c))
-      → (a : Answer) → P (onAnswer other done begun found committed installed a)
-  on-answer d b f c i (Refused n) = o
-  on-answer d b f c i Done = d
-  on-answer d b f c i (Begun n) = b n
-  on-answer d b f c i (Found n) = f n
-  on-answer d b f c i (Committed n) = c n
-  on-answer d b f c i (Aborted n) = o
-  on-answer d b f c i (Installed n m) = i n m
-  on-answer d b f c i (Reported n) = o
-  on-answer d b f c i (Emitted n m t) = o
-  on-answer d b f c i (Standing n m t) = o
+      → ((n c : ℕ) → P (replayed n c))
+      → (a : Answer) → P (onAnswer other done begun found committed installed replayed a)
+  on-answer d b f c i r (Refused n) = o
+  on-answer d b f c i r Done = d
+  on-answer d b f c i r (Begun n) = b n
+  on-answer d b f c i r (Found n) = f n
+  on-answer d b f c i r (Committed n) = c n
+  on-answer d b f c i r (Aborted n) = o
+  on-answer d b f c i r (Installed n m) = i n m
+  on-answer d b f c i r (Reported n) = o
+  on-answer d b f c i r (Emitted n m t) = o
+  on-answer d b f c i r (Replayed n m) = r n m
+  on-answer d b f c i r (Standing n m t) = o
 
   pub on-done : {f : A} → P f → (a : Answer) → P (onDone other f a)
-  on-done g = on-answer g (λ n. o) (λ n. o) (λ n. o) (λ n c. o)
+  on-done g = on-answer g (λ n. o) (λ n. o) (λ n. o) (λ n c. o) (λ n c. o)
 
   pub on-begun : {f : ℕ → A} → ((n : ℕ) → P (f n)) → (a : Answer) → P (onBegun other f a)
-  on-begun g = on-answer o g (λ n. o) (λ n. o) (λ n c. o)
+  on-begun g = on-answer o g (λ n. o) (λ n. o) (λ n c. o) (λ n c. o)
 
   pub on-found : {f : ℕ → A} → ((n : ℕ) → P (f n)) → (a : Answer) → P (onFound other f a)
-  on-found g = on-answer o (λ n. o) g (λ n. o) (λ n c. o)
+  on-found g = on-answer o (λ n. o) g (λ n. o) (λ n c. o) (λ n c. o)
 
   pub on-committed : {f : ℕ → A} → ((n : ℕ) → P (f n)) → (a : Answer) → P (onCommitted other f a)
-  on-committed g = on-answer o (λ n. o) (λ n. o) g (λ n c. o)
+  on-committed g = on-answer o (λ n. o) (λ n. o) g (λ n c. o) (λ n c. o)
 
   pub on-installed : {f : ℕ → ℕ → A} → ((n c : ℕ) → P (f n c)) → (a : Answer) → P (onInstalled other f a)
-  on-installed g = on-answer o (λ n. o) (λ n. o) (λ n. o) g
+  on-installed g = on-answer o (λ n. o) (λ n. o) (λ n. o) g (λ n c. o)
+
+  pub on-replayed : {f : ℕ → ℕ → A} → ((n c : ℕ) → P (f n c)) → (a : Answer) → P (onReplayed other f a)
+  on-replayed g = on-answer o (λ n. o) (λ n. o) (λ n. o) (λ n c. o) g
 
 -- Facts that are no replay.
 abbrev isReplayed : Fact → Bool
@@ -101,11 +106,10 @@ installs-none s a = on-installed NoReplay a-nil (λ n c. all-one refl) a
 commits-none : (t : ℕ) (a : Answer) → NoReplay (book.commits t a)
 commits-none t a = on-committed NoReplay a-nil (λ n. all-one refl) a
 
-still-last : (c : ℕ) (b l : List Fact) (n d : ℕ) → ((m e : ℕ) → Is (book.replayed c m e) l → ⊥) → LastReplay c b n d
-    → LastReplay c (b ++ l) n d
-still-last c b l n d f (inl (p, q, e, g)) =
-    inl (p, q ++ l, rw e (append-assoc p (book.replayed c n d ∷ q) l), λ m r i. ⊎-elim (λ j. g m r j) (λ j. f m r j) (is-append q l i))
-still-last c b l n d f (inr (g, x, y)) = inr ((λ m r i. ⊎-elim (λ j. g m r j) (λ j. f m r j) (is-append b l i)), x, y)
+still-last : (c : ℕ) (b l : List Fact) (n d : ℕ) → ((m e : ℕ) → Is (book.replayed c m e) l → ⊥) → LastReplay c b n d → LastReplay c (b ++ l) n d
+still-last c b l n d f (behind p q e g) =
+    behind p (q ++ l) (rw e (append-assoc p (book.replayed c n d ∷ q) l)) (λ m r i. ⊎-elim (λ j. g m r j) (λ j. f m r j) (is-append q l i))
+still-last c b l n d f (none g x y) = none (λ m r i. ⊎-elim (λ j. g m r j) (λ j. f m r j) (is-append b l i)) x y
 
 -- The copy's pair after a replay.
 number-after : (copy ws : List ℕ) → length copy ≡ sizes.copy
@@ -149,7 +153,7 @@ module _ (w : World) (b : List Fact) (h : LastReplays b w) where
           let l = book.replayed c (r .number) (r .coordinator) ∷ [] in
           rw (t .is)
           (upd-cases (λ j z. LastReplay j (b ++ l) (copyNumber z) (copyCoordinator z)) (w .copy) c (replayed (w .copy c) ws)
-          (rw (x, y) (inl (b, [], refl, λ m d i. none-replayed a-nil c m d i)))
+          (rw (x, y) (behind b [] refl (λ m d i. none-replayed a-nil c m d i)))
           (λ j n. still-last j b l _ _ (λ m d i. other j (r .number) (r .coordinator) m d n i) (h j)))
         where
           other : (j n d m e : ℕ) → (j ≡ c → ⊥) → Is (book.replayed j m e) (book.replayed c n d ∷ []) → ⊥
@@ -184,7 +188,7 @@ run-replays (c ∷ calls) w b h =
 -- from a fresh house: no copy has a pair, and the book is empty
 replays-fresh : (sites : ℕ) → LastReplays [] (freshWorld sites)
 unfolding freshWorld copyStartOf
-replays-fresh sites c = inr ((λ m d i. none-replayed a-nil c m d i), refl, refl)
+replays-fresh sites c = none (λ m d i. none-replayed a-nil c m d i) refl refl
 
 pub book-replays : (sites : ℕ) (calls : List Call) → LastReplays (bookFrom (freshWorld sites) calls) (run (freshWorld sites) calls)
 book-replays sites calls = run-replays calls (freshWorld sites) [] (replays-fresh sites)

@@ -13,7 +13,7 @@ use Rattle.rules.specs.Keys.{dependent}
 use Rattle.rules.specs.KeysLaws.{conflict-dependent}
 use Rattle.rules.specs.World.{World}
 use Rattle.rules.specs.Book.{Fact}
-use Rattle.rules.specs.Claim.{Wrote, Used, Saw, Ordered, WritersInOrder, NoneHalfSeen, Holds}
+use Rattle.rules.specs.Claim.{Dependent, on-write-of-other, on-own-write, Saw, Ordered, WritersInOrder, NoneHalfSeen, Holds}
 use Rattle.rules.proofs.Protocol.{Protocol, inst}
 use Rattle.rules.proofs.Invariants.{at, Seen, Invariant}
 use Rattle.rules.proofs.Committed.{low-coordinator, coordinator-has}
@@ -72,42 +72,45 @@ module _ {sites : ℕ} {p : Protocol} {b : List Fact} (few : sites ≤ 8) (i : I
 
   -- what the book saw, the machine saw
   pub saw-seen : (s t u : ℕ) → p .has s t ≡ true → Saw b s t u → Seen p s t u
-  saw-seen s t u h (n, c, y, z) =
-      let (a, e, f) = x .commits .commit u n c y in
-      let (j, l, (g, k)) = x .sees .seen s t n c z in
+  saw-seen s t u h saw =
+      let (a, e, f) = x .commits .commit u (saw .number) (saw .coordinator) (saw .committed) in
+      let (j, l, (g, k)) = x .sees .seen s t (saw .number) (saw .coordinator) (saw .before) in
       let m : j < length (inst p s) = omega (arith, i .parts .low s t h) in
       let (o, q, _, _) = i .account .entry s j m in
       (j, (m, pair-once i (at p s j .tx) u q (sym o ∙ g ∙ sym e) (k ∙ sym f)), l)
 
   pub seen-saw : (s t u : ℕ) → p .has s t ≡ true → Seen p s t u → Saw b s t u
   seen-saw s t u h (j, (l, e), k) =
-      let z : 0 < p .num u = rw e at (i .account .entry s j l .1) in (
-        p .num u,
-        coordinatorOf u,
-        x .commits .committed u z,
-        x .sees .before s t j (p .num u) (coordinatorOf u) h k (pair-at s j u (p .num u) (coordinatorOf u) l e refl refl),
-      )
+      let z : 0 < p .num u = rw e at (i .account .entry s j l .1) in
+      record {
+        number = p .num u;
+        coordinator = coordinatorOf u;
+        committed = x .commits .committed u z;
+        before = x .sees .before s t j (p .num u) (coordinatorOf u) h k (pair-at s j u (p .num u) (coordinatorOf u) l e refl refl);
+      }
 
   -- one used a key that the other wrote: their parts at its site are dependent
-  dependent-at : (t u k : ℕ) → (Used b t k × Wrote b u k) ⊎ (Wrote b t k × Used b u k)
-      → (p .has (home sites k) t ≡ true) × (p .has (home sites k) u ≡ true)
-      × (dependent (p .keys (home sites k) t) (p .keys (home sites k) u) ≡ true)
-  dependent-at t u k (inl (y, (v, z))) =
+  abbrev DependentAt : ℕ → ℕ → ℕ → Type 0
+  DependentAt t u s = (p .has s t ≡ true) × (p .has s u ≡ true) × (dependent (p .keys s t) (p .keys s u) ≡ true)
+
+  dependent-at : (t u : ℕ) → Dependent b t u → (s : ℕ) × DependentAt t u s
+  dependent-at t u (on-write-of-other k y (v, z)) =
       let (h, a) = x .writes .used t k y in
       let (g, w) = x .writes .wrote u k v z in
-      (h, g, conflict-dependent _ _ (record { key = k; how = ⊎-elim (λ r. inr (inr (r, w))) (λ r. inl (r, w)) a }))
-  dependent-at t u k (inr ((v, y), z)) =
+      (home sites k, (h, g, conflict-dependent _ _ (record { key = k; how = ⊎-elim (λ r. inr (inr (r, w))) (λ r. inl (r, w)) a })))
+  dependent-at t u (on-own-write k (v, y) z) =
       let (h, w) = x .writes .wrote t k v y in
       let (g, a) = x .writes .used u k z in
-      (h, g, conflict-dependent _ _ (record { key = k; how = ⊎-elim (λ r. inr (inl (w, r))) (λ r. inl (w, r)) a }))
+      (home sites k, (h, g, conflict-dependent _ _ (record { key = k; how = ⊎-elim (λ r. inr (inl (w, r))) (λ r. inl (w, r)) a })))
 
   half-seen : NoneHalfSeen b
-  half-seen t u n c s r d y (k, z) (bs, _) saw (br, cr) missed =
+  half-seen t u n c s r d y touching at-s saw at-r missed =
       let (nt, _, _) = x .commits .commit t n c y in
-      let (ht, hu, e) = dependent-at t u k z in
+      let (home-site, (ht, hu, e)) = dependent-at t u touching in
       let has = x .begins .began in
-      let f = independent i s r t u nt d (saw-seen s t u (has s t bs) saw) (has r t br) (has r u cr)
-      (λ v. missed (seen-saw r t u (has r t br) v)) (home sites k) ht hu in
+      let first = saw-seen s t u (has s t (at-s .one)) saw in
+      let second : Seen p r t u → ⊥ = λ v. missed (seen-saw r t u (has r t (at-r .one)) v) in
+      let f = independent i s r t u nt d first (has r t (at-r .one)) (has r u (at-r .other)) second home-site ht hu in
       set-not _ e f
 
 pub holds : {sites : ℕ} {w : World} {v : Stream} {b : List Fact} → 1 ≤ sites → sites ≤ 8 → Standing sites v → StreamIs sites w v

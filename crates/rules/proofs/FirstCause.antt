@@ -14,7 +14,7 @@ use Rattle.kinds.specs.Sizes as sizes
 use Rattle.kinds.specs.Reason as reason
 use Rattle.kinds.specs.Kind as kind
 use Rattle.kinds.specs.declared.Answer.{Answer}
-use Rattle.kinds.specs.declared.Answer.the-variants.{Refused, Done, Installed, Emitted, Standing}
+use Rattle.kinds.specs.declared.Answer.the-variants.{Refused, Done, Emitted, Replayed, Standing}
 use Rattle.kinds.specs.declared.MessageHead.{MessageHead}
 use Rattle.kinds.specs.declared.Merger.{Merger}
 use Rattle.kinds.specs.declared.Site.{Site}
@@ -296,7 +296,7 @@ unfolding replayOf replayCode order
 replay-by copy m =
     let r = recordHead m in
     by-first _ (replayCauses copy m) refl
-    (alone-by (replayCauses copy m) (Installed (r .number) (r .coordinator)) _ refl (λ z. rw z) (λ n. rw (ne-eqb _ 0 n)))
+    (alone-by (replayCauses copy m) (Replayed (r .number) (r .coordinator)) _ refl (λ z. rw z) (λ n. rw (ne-eqb _ 0 n)))
 
 pub value-by : (copy : List ℕ) (k : ℕ) → ByFirst (valueOf copy k) (valueCauses copy k)
 unfolding valueOf valueCode order

@@ -3,9 +3,7 @@
 use Prim.Native.Nat.{ℕ, _-_, _≤_}
 use mathlib.Core.Path.{_≡_}
 use mathlib.Core.List.{List}
-use lib.Dec.{eqb}
 use lib.ListN.{length, getD}
-use Rattle.kinds.specs.Sizes as sizes
 use Rattle.kinds.specs.State.{Value}
 use Rattle.kinds.specs.declared.MessageHead.{MessageHead}
 use Rattle.kinds.specs.declared.Site.{Site}

@@ -28,7 +28,7 @@ use Rattle.rules.specs.World.{World, here, step, siteStep}
 use Rattle.rules.specs.World as world
 use Rattle.rules.specs.Book.{Fact}
 use Rattle.rules.specs.Claim.{Wrote, LastWrite, UpTo}
-use Rattle.rules.specs.Reads.{SawWriter, SeenLeft, ReadLeft}
+use Rattle.rules.specs.Reads.{SawWriter, SeenLeft, unwritten, written, ReadLeft, own as own-write, seen as seen-write}
 use Rattle.rules.proofs.Protocol.{Protocol, inst}
 use Rattle.rules.proofs.Invariants.{Held, at, Invariant}
 use Rattle.rules.proofs.MachineClaims.{seen-lower}
@@ -123,7 +123,7 @@ module _ {sites : ℕ} {w : World} {p : Protocol} (r : Refines sites w p) (i : I
 
 -- By the book.
 last-wrote : {b : List Fact} {t k : ℕ} {v : Value} → LastWrite b t k v → Wrote b t k
-last-wrote {v = v} (p, q, e, n) = (v, rw e (is-behind p here))
+last-wrote {v = v} h = (v, rw (h .split) (is-behind (h .front) here))
 
 module _ {sites : ℕ} {p : Protocol} {b : List Fact} (few : sites ≤ 8) (i : Invariant sites p) (x : Booked sites b p) (s t k : ℕ)
     (h : p .has s t ≡ true) (e : home sites k ≡ s) where
@@ -136,9 +136,9 @@ module _ {sites : ℕ} {p : Protocol} {b : List Fact} (few : sites ≤ 8) (i : I
 
   -- a writer that t saw is an install within its snapshot
   saw-at : (u n c : ℕ) → SawWriter b s t k u n c → (j : ℕ) × (j < p .snap s t) × (at p s j .tx ≡ u) × (wroteKey (at p s j .keys) k ≡ true)
-  saw-at u n c (y, z, o) =
-      let (j, (l, q), m) = saw-seen few i x s t u h (n, c, y, z) in
-      (j, m, q, rw (i .parts .entry-keys s j l, q) (wrote-here u o))
+  saw-at u n c z =
+      let (j, (l, q), m) = saw-seen few i x s t u h (record { number = n; coordinator = c; committed = z .committed; before = z .before }) in
+      (j, m, q, rw (i .parts .entry-keys s j l, q) (wrote-here u (z .wrote)))
 
   -- of two installed writers the later has the higher pair, since it saw the other
   higher : (j m : ℕ) → j ≤ m → m < length (inst p s) → wroteKey (at p s j .keys) k ≡ true → wroteKey (at p s m .keys) k ≡ true
@@ -169,7 +169,7 @@ module _ {sites : ℕ} {p : Protocol} {b : List Fact} (few : sites ≤ 8) (i : I
     greatest : (n c : ℕ) → p .num writer ≡ n → coordinatorOf writer ≡ c → (u m d : ℕ) → SawWriter b s t k u m d → UpTo n c m d
     greatest n c f g u m d z =
         let (o, a, y, r) = saw-at u m d z in
-        let (nu, eu, cu) = x .commits .commit u m d (z .0) in
+        let (nu, eu, cu) = x .commits .commit u m d (z .committed) in
         let nw = i .account .entry s j (inside j l) .1 in
         let first : o ≤ j = by-order j o (λ a′. absurd (set-not _ r (last o a′ a))) (λ a′. a′) in
         let rank = rw y at (higher o j first (inside j l) r w) in
@@ -178,21 +178,26 @@ module _ {sites : ℕ} {p : Protocol} {b : List Fact} (few : sites ≤ 8) (i : I
 
     left-last : SeenLeft b s t k v
     left-last =
-        let (n, c, y, z) = seen-saw few i x s t writer h (j, (inside j l, refl), l) in
-        let (_, f, g) = x .commits .commit writer n c y in
-        inr (writer, n, c, (y, z, last-wrote wrote-last), wrote-last, greatest n c f g)
+        let saw = seen-saw few i x s t writer h (j, (inside j l, refl), l) in
+        let (_, f, g) = x .commits .commit writer (saw .number) (saw .coordinator) (saw .committed) in
+        written (record {
+          writer = writer;
+          number = saw .number;
+          coordinator = saw .coordinator;
+          saw = record { committed = saw .committed; before = saw .before; wrote = last-wrote wrote-last };
+          wrote = wrote-last;
+          greatest = greatest (saw .number) (saw .coordinator) f g;
+        })
 
   seen-left : (v : Value) → LastSince (at p s) k 0 (p .snap s t) v → SeenLeft b s t k v
   seen-left v (inl (none, q)) =
-      inl ((λ u n c z. let (j, l, y, w) = saw-at u n c z in set-not _ w (none j (omega arith) l)), q ∙ left-none (at p s) k)
+      unwritten (λ u n c z. let (j, l, y, w) = saw-at u n c z in set-not _ w (none j (omega arith) l)) (q ∙ left-none (at p s) k)
   seen-left v (inr (j, z, l, w, q, last)) = left-last v j l w q last
 
 pub read-left : {sites : ℕ} {p : Protocol} {b : List Fact} → sites ≤ 8 → Invariant sites p → Booked sites b p → (s t k : ℕ) (v : Value)
     → ReadIs sites p s t k v → ReadLeft b s t k v
 read-left {p = p} {b = b} few i x s t k v r = go (r .value)
   where
-    go : ((wroteKey (p .keys s t) k ≡ true) × (wroteValue (p .keys s t) k ≡ v))
-        ⊎ ((wroteKey (p .keys s t) k ≡ false) × LastSince (at p s) k 0 (p .snap s t) v) → ReadLeft b s t k v
-    go (inl (w, e)) = inl (rw e at (x .writes .last s t k (r .has) w .1))
-    go (inr (f, l)) =
-        inr ((λ w. set-not _ (wrote-here few i x s t k (r .has) (r .lives) t w) f), seen-left few i x s t k (r .has) (r .lives) v l)
+    go : ((wroteKey (p .keys s t) k ≡ true) × (wroteValue (p .keys s t) k ≡ v)) ⊎ ((wroteKey (p .keys s t) k ≡ false) × LastSince (at p s) k 0 (p .snap s t) v) → ReadLeft b s t k v
+    go (inl (w, e)) = own-write (rw e at (x .writes .last s t k (r .has) w .1))
+    go (inr (f, l)) = seen-write (λ w. set-not _ (wrote-here few i x s t k (r .has) (r .lives) t w) f) (seen-left few i x s t k (r .has) (r .lives) v l)

@@ -5,10 +5,8 @@ use mathlib.Core.Bool.{true}
 use mathlib.Core.Logic.{inl, inr}
 use mathlib.Core.List.{List, [], _∷_, map}
 use native.Mathlib.Omega.{arith}
-use lib.Dec.{eqb}
 use lib.ListN.{length, getD}
 use Rattle.laws.specs.Choice.{set-not}
-use Rattle.kinds.specs.Sizes as sizes
 use Rattle.kinds.specs.Kind as kind
 use Rattle.kinds.specs.declared.Site.{Site}
 use Rattle.kinds.specs.declared.MessageHead.{MessageHead}

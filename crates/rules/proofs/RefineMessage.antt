@@ -20,7 +20,7 @@ use Rattle.kinds.specs.declared.Site.{Site}
 use Rattle.kinds.specs.declared.MessageHead.{MessageHead}
 use Rattle.kinds.specs.declared.Answer.{Answer}
 use Rattle.kinds.specs.declared.Answer.the-variants.{Refused, Done, Begun, Found, Committed, Aborted, Installed, Reported, Emitted}
-use Rattle.kinds.specs.declared.Answer.the-variants.{Standing}
+use Rattle.kinds.specs.declared.Answer.the-variants.{Replayed, Standing}
 use Rattle.kinds.specs.State.{noSub, subAt}
 use Rattle.rules.specs.House.{isTx, isMask}
 use Rattle.rules.specs.Message.{messageWords, entryTx, entryMask, entryMark, entryBefore, entryCount, entryOk, entryPossible}
@@ -80,6 +80,7 @@ no-join s k t words (Aborted v) e = refl
 no-join s k t words (Installed n c) e = refl
 no-join s k t words (Reported n) e = refl
 no-join s k t words (Emitted n c u) e = refl
+no-join s k t words (Replayed n c) e = refl
 no-join s k t words (Standing v n c) e = refl
 
 -- marks of good entries

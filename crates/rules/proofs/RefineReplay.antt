@@ -19,7 +19,7 @@ use Rattle.kinds.specs.Kind as kind
 use Rattle.kinds.specs.Reason as reason
 use Rattle.kinds.specs.Word as word
 use Rattle.kinds.specs.State.{fresh}
-use Rattle.kinds.specs.declared.Answer.the-variants.{Refused, Installed}
+use Rattle.kinds.specs.declared.Answer.the-variants.{Refused, Replayed}
 use Rattle.rules.specs.House.{coordinatorOf}
 use Rattle.rules.specs.Record.{recordHead, recordWrites, mergedTests, mergedOk}
 use Rattle.rules.specs.RecordLaws.{writes-back, merged-clear, merged-passed-good}
@@ -59,7 +59,7 @@ pub record Replays (copy ws : List ℕ) : Type 0 where
   pub size : length copy ≡ sizes.copy
   pub ok : mergedOk ws ≡ true
   pub above : precedes (copyNumber copy) (copyCoordinator copy) (recordHead ws .number) (recordHead ws .coordinator) ≡ true
-  pub is : replayOf copy ws ≡ record { answer = Installed (recordHead ws .number) (recordHead ws .coordinator); copy = replayed copy ws }
+  pub is : replayOf copy ws ≡ record { answer = Replayed (recordHead ws .number) (recordHead ws .coordinator); copy = replayed copy ws }
 
 pub replay-cases : (copy ws : List ℕ) → ((n : ℕ) × (replayOf copy ws ≡ record { answer = Refused n; copy = copy })) ⊎ Replays copy ws
 unfolding replayOf replayCode
@@ -180,7 +180,7 @@ module _ {sites : ℕ} {w : World} {v : Stream} (x : StreamIs sites w v) (z : St
         omega (arith, above, q .low (f .place) h, item-rank (z .invariant) (z .streamed) (f .place) (f .below))))
         (eq-or-lt-of-le (f .reached))
 
-    counted : stepTaken (Installed (recordHead ws .number) (recordHead ws .coordinator)) (w .stream) (w .replayed c) ws ≡ v .replayed c + 1
+    counted : stepTaken (Replayed (recordHead ws .number) (recordHead ws .coordinator)) (w .stream) (w .replayed c) ws ≡ v .replayed c + 1
     unfolding stepTaken
     counted =
         let n : w .replayed c ≡ f .place = x .replayed c ∙ sym is-next in

@@ -18,7 +18,7 @@ use Rattle.rules.proofs.RefineCalls.{call-onward}
 use Rattle.rules.proofs.Booked.{Booked}
 use Rattle.rules.proofs.BookKept.{booked-replayed}
 use Rattle.rules.proofs.BookMove.{booked-steps, booked-fresh}
-use Rattle.rules.proofs.BookReplays.{on-installed}
+use Rattle.rules.proofs.BookReplays.{on-replayed}
 
 -- a replay tells the book, and nothing of the sites
 told-facts : {sites : ℕ} {p : Protocol} (b : List Fact) (c : Call) (a : Answer) (ws : List ℕ) → Booked sites (b ++ toldBy c a ws) p
@@ -35,7 +35,7 @@ told-facts b (world.report s out) a ws x = x
 told-facts b (world.merge m) a ws x = x
 told-facts b (world.emit out) a ws x = x
 told-facts {sites} {p} b (world.replay c m) a ws x =
-    on-installed (λ l. Booked sites (b ++ l) p) x (λ n d. booked-replayed (rw append-nil at x) c n d) a
+    on-replayed (λ l. Booked sites (b ++ l) p) x (λ n d. booked-replayed (rw append-nil at x) c n d) a
 told-facts b (world.value c k) a ws x = x
 
 -- The machine of a house after some calls, the book, and what more is said of both.

@@ -11,7 +11,7 @@ use Rattle.kinds.specs.State.{Value}
 use Rattle.kinds.specs.declared.Answer.{Answer}
 use Rattle.rules.specs.House.{coordinatorOf}
 use Rattle.rules.specs.Message.{messageHead}
-use Rattle.rules.specs.Answers.{onBegun, onFound, onDone, onCommitted, onInstalled}
+use Rattle.rules.specs.Answers.{onBegun, onFound, onDone, onCommitted, onInstalled, onReplayed}
 use Rattle.rules.specs.World as world
 use Rattle.rules.specs.World.{Call, World, step}
 
@@ -50,7 +50,7 @@ abbrev pub installs : ℕ → Answer → List Fact
 installs s = onInstalled [] (λ n c. installed s n c ∷ [])
 
 abbrev pub replays : ℕ → Answer → List Fact
-replays copy = onInstalled [] (λ n c. replayed copy n c ∷ [])
+replays copy = onReplayed [] (λ n c. replayed copy n c ∷ [])
 
 -- what one call adds; refused calls leave it
 abbrev pub factsOf : Call → Answer → List ℕ → List Fact

@@ -16,13 +16,19 @@ use Rattle.rules.specs.Book as book
 use Rattle.rules.specs.Book.{Fact, began, used, wrote, committed, installed, replayed, bookFrom}
 
 -- f stands in the book before g
-abbrev pub Before : Fact → Fact → List Fact → Type 0
-Before f g b = (p : List Fact) × (q : List Fact) × (b ≡ p ++ q) × Is f p × Is g q
+pub record Before (f g : Fact) (b : List Fact) : Type 0 where
+  pub front : List Fact
+  pub rest : List Fact
+  pub split : b ≡ front ++ rest
+  pub first : Is f front
+  pub second : Is g rest
 
 -- the last value that tx wrote to a key: none is written behind it
-abbrev pub LastWrite : List Fact → ℕ → ℕ → Value → Type 0
-LastWrite b tx key v =
-    (p : List Fact) × (q : List Fact) × (b ≡ p ++ (wrote tx key v ∷ q)) × ((u : Value) → Is (wrote tx key u) q → ⊥)
+pub record LastWrite (b : List Fact) (tx key : ℕ) (v : Value) : Type 0 where
+  pub front : List Fact
+  pub rest : List Fact
+  pub split : b ≡ front ++ (wrote tx key v ∷ rest)
+  pub last : (u : Value) → Is (wrote tx key u) rest → ⊥
 
 abbrev pub Wrote : List Fact → ℕ → ℕ → Type 0
 Wrote b tx key = (v : Value) × Is (wrote tx key v) b
@@ -34,21 +40,34 @@ abbrev pub Committed : List Fact → ℕ → ℕ → ℕ → Type 0
 Committed b tx n c = Is (committed tx n c) b
 
 -- the pair of a copy's last replay, (0, 0) before the first
-abbrev pub LastReplay : ℕ → List Fact → ℕ → ℕ → Type 0
-LastReplay copy b n c =
-    (((p : List Fact) × (q : List Fact) × (b ≡ p ++ (replayed copy n c ∷ q)) × ((m d : ℕ) → Is (replayed copy m d) q → ⊥))
-    ⊎ (((m d : ℕ) → Is (replayed copy m d) b → ⊥) × (n ≡ 0) × (c ≡ 0)))
+pub data LastReplay (copy : ℕ) (b : List Fact) (n c : ℕ) : Type 0 where
+  behind : (front rest : List Fact) (split : b ≡ front ++ (replayed copy n c ∷ rest))
+      (last : (m d : ℕ) → Is (replayed copy m d) rest → ⊥) → LastReplay copy b n c
+  none : (never : (m d : ℕ) → Is (replayed copy m d) b → ⊥) (number : n ≡ 0) (coordinator : c ≡ 0) → LastReplay copy b n c
 
 -- (m, d) is not above (n, c)
 abbrev pub UpTo : ℕ → ℕ → ℕ → ℕ → Type 0
 UpTo n c m d = precedes n c m d ≡ false
 
+-- the greatest by pair of the committed up to (n, c) that wrote a key, whose last write is v
+pub record LastWriter (b : List Fact) (n c key : ℕ) (v : Value) : Type 0 where
+  pub tx : ℕ
+  pub number : ℕ
+  pub coordinator : ℕ
+  pub committed : Committed b tx number coordinator
+  pub up-to : UpTo n c number coordinator
+  pub wrote : LastWrite b tx key v
+  pub greatest : (ux m d : ℕ) → Committed b ux m d → UpTo n c m d → Wrote b ux key → UpTo number coordinator m d
+
 -- v is what the writes of the committed up to (n, c), by pair, leave at a key, over zeros
-abbrev pub LeftBy : List Fact → ℕ → ℕ → ℕ → Value → Type 0
-LeftBy b n c key v =
-    ((((tx m d : ℕ) → Committed b tx m d → UpTo n c m d → Wrote b tx key → ⊥) × (v ≡ fresh))
-    ⊎ ((tx : ℕ) × (m : ℕ) × (d : ℕ) × Committed b tx m d × UpTo n c m d × LastWrite b tx key v
-    × ((ux k e : ℕ) → Committed b ux k e → UpTo n c k e → Wrote b ux key → UpTo m d k e)))
+pub data LeftBy (b : List Fact) (n c key : ℕ) (v : Value) : Type 0 where
+  unwritten : (none : (tx m d : ℕ) → Committed b tx m d → UpTo n c m d → Wrote b tx key → ⊥) (zero : v ≡ fresh) → LeftBy b n c key v
+  written : LastWriter b n c key v → LeftBy b n c key v
+
+-- (n, c) is (0, 0), or the pair of a committed transaction
+pub data Reaches (b : List Fact) (n c : ℕ) : Type 0 where
+  start : (number : n ≡ 0) (coordinator : c ≡ 0) → Reaches b n c
+  commit : (tx : ℕ) → Committed b tx n c → Reaches b n c
 
 -- (A) each copy holds the values left by the writes of the first so many committed transactions, each whole
 pub record CopyHolds (b : List Fact) (w : World) (copy key : ℕ) : Type 0 where
@@ -57,7 +76,7 @@ pub record CopyHolds (b : List Fact) (w : World) (copy key : ℕ) : Type 0 where
   pub coordinator : ℕ
   pub answers : valueOf (w .copy copy) key ≡ Standing value number coordinator
   pub last : LastReplay copy b number coordinator
-  pub up-to : ((number ≡ 0) × (coordinator ≡ 0)) ⊎ ((tx : ℕ) × Committed b tx number coordinator)
+  pub up-to : Reaches b number coordinator
   pub left : LeftBy b number coordinator key value
 
 -- a part begins once at a site, and a pair is installed once there, so that before and after have one meaning
@@ -77,16 +96,21 @@ WritersInOrder o b =
     → Before (installed (siteOf o key) n c) (began (siteOf o key) ux) b
 
 -- both have parts at site s
-abbrev pub Parts : List Fact → ℕ → ℕ → ℕ → Type 0
-Parts b s tx ux = Is (began s tx) b × Is (began s ux) b
+pub record Parts (b : List Fact) (s tx ux : ℕ) : Type 0 where
+  pub one : Is (began s tx) b
+  pub other : Is (began s ux) b
 
 -- tx saw ux at s if ux was installed there before tx's part began; where both have parts, it else missed it
-abbrev pub Saw : List Fact → ℕ → ℕ → ℕ → Type 0
-Saw b s tx ux = (n : ℕ) × (c : ℕ) × Committed b ux n c × Before (installed s n c) (began s tx) b
+pub record Saw (b : List Fact) (s tx ux : ℕ) : Type 0 where
+  pub number : ℕ
+  pub coordinator : ℕ
+  pub committed : Committed b ux number coordinator
+  pub before : Before (installed s number coordinator) (began s tx) b
 
 -- one of them wrote a key that the other used
-abbrev pub Dependent : List Fact → ℕ → ℕ → Type 0
-Dependent b tx ux = (key : ℕ) × ((Used b tx key × Wrote b ux key) ⊎ (Wrote b tx key × Used b ux key))
+pub data Dependent (b : List Fact) (tx ux : ℕ) : Type 0 where
+  on-write-of-other : (key : ℕ) → Used b tx key → Wrote b ux key → Dependent b tx ux
+  on-own-write : (key : ℕ) → Wrote b tx key → Used b ux key → Dependent b tx ux
 
 -- (C) no committed transaction saw, at one site, another that wrote a key it used, or used a key it wrote, and missed it at a second
 abbrev pub NoneHalfSeen : List Fact → Type 0

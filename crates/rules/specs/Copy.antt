@@ -13,7 +13,7 @@ use Rattle.kinds.specs.Reason as reason
 use Rattle.kinds.specs.Word as word
 use Rattle.kinds.specs.State.{Value}
 use Rattle.kinds.specs.declared.Answer.{Answer}
-use Rattle.kinds.specs.declared.Answer.the-variants.{Refused, Done, Installed, Standing}
+use Rattle.kinds.specs.declared.Answer.the-variants.{Refused, Done, Replayed, Standing}
 use Rattle.rules.specs.Record.{recordHead, recordWrites, writeKey, writeValue, mergedOk}
 
 -- the answer, and the copy's words after it
@@ -54,7 +54,7 @@ unfoldable pub replayOf : List ℕ → List ℕ → Copying
 replayOf copy m =
     let code = replayCode copy m in
     pick (eqb code 0)
-    (record { answer = Installed (recordHead m .number) (recordHead m .coordinator); copy = replayed copy m })
+    (record { answer = Replayed (recordHead m .number) (recordHead m .coordinator); copy = replayed copy m })
     (record { answer = Refused code; copy = copy })
 
 -- Value: with the copy's pair.

@@ -15,8 +15,6 @@ use Rattle.kinds.specs.declared.Course.{Course}
 use Rattle.kinds.specs.declared.MessageHead.{MessageHead}
 use Rattle.kinds.specs.declared.Site.{Site}
 use Rattle.kinds.specs.declared.Turn.{Turn}
-use Rattle.kinds.specs.declared.Taken.{Taken}
-use Rattle.kinds.specs.declared.Out.{Out}
 use Rattle.kinds.specs.declared.Answer.the-variants.{Done}
 use Rattle.kinds.specs.State.{noSub, subAt, withChannels}
 use Rattle.rules.specs.Message.{messageOk, messageHead, messageEntries, entryCount}
@@ -92,14 +90,6 @@ spoken s c =
       words = c .words;
       site = record { house = s .house; counters = c .turn .counters; channels = c .turn .channels; live = s .live; history = s .history };
       lent = [];
-    }
-
-unfoldable pub spokenOf : Site → Taken → Out
-spokenOf s a =
-    record {
-      answer = a .answer;
-      words = a .words;
-      site = record { house = s .house; counters = a .turn .counters; channels = a .turn .channels; live = s .live; history = s .history };
     }
 
 unfoldable pub joinAt : Site → MessageHead → ℕ → Effect

@@ -4,7 +4,7 @@ use mathlib.Core.Path.{_≡_}
 use mathlib.Core.Bool.{true, false, not}
 use mathlib.Core.List.{List, [], _∷_}
 use native.Mathlib.Omega.{arith}
-use borrow.Author.Tests.{ltb-true, ltb-false, ne-eqb, not-true}
+use borrow.Author.Tests.{ltb-true, ltb-false, not-true}
 use lib.Dec.{ltb, eqb}
 use lib.ListN.{drop}
 use Rattle.laws.specs.Choice.{every, every-at, by-test}
@@ -21,15 +21,8 @@ use Rattle.rules.specs.Join.{joined}
 use Rattle.rules.specs.Certify.{voteOf}
 use Rattle.rules.specs.House.{inMask, participants}
 use Rattle.rules.specs.ValidLaws.{ValidHouse, ValidCourse, participants-lack-two}
-use Rattle.rules.specs.Effect.{Change, Effect, changed, refused, unless}
 use Rattle.rules.specs.Course.{withCourseOf, withReply, quietly, castStep, isOutstanding}
-use Rattle.rules.specs.Deliver.{stepUnless, arrived, concInTurn, gatherChange}
-
-pub step-past : (code : ℕ) (s : Site) (place : ℕ) (c : Change) → code ≡ 0 → stepUnless code s place c ≡ changed s place c []
-step-past code s place c e = rw e
-
-pub unless-past : (code : ℕ) (s : Site) (lent : List ℕ) (e : Effect) → code ≡ 0 → unless code s lent e ≡ e
-unless-past code s lent e q = rw q
+use Rattle.rules.specs.Deliver.{arrived, concInTurn, gatherChange}
 
 -- a list more: not the last, or the last
 module _ (s : Site) (h : MessageHead) (place : ℕ) (lists : List ℕ) where
@@ -49,9 +42,6 @@ module _ (s : Site) (h : MessageHead) (place : ℕ) (lists : List ℕ) where
       (joined (drop (sizes.gathered * place) lists) (heardAfter .listed))
   unfolding gatherChange
   gather-last e = rw e
-
-pub unless-refused : (code : ℕ) (s : Site) (lent : List ℕ) (e : Effect) → (code ≡ 0 → ⊥) → unless code s lent e ≡ refused code s lent
-unless-refused code s lent e n = rw (ne-eqb code 0 n)
 
 -- a list more has room: its sender and the own site are not among those heard, so at most six are
 lacking : (mask a b : ℕ) → mask < 256 → 1 ≤ a → a ≤ 8 → 1 ≤ b → b ≤ 8 → (a ≡ b → ⊥) → inMask mask a ≡ false → inMask mask b ≡ false

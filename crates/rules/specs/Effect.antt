@@ -9,7 +9,6 @@ use Rattle.laws.specs.Choice.{pick}
 use Rattle.kinds.specs.declared.Turn.{Turn}
 use Rattle.kinds.specs.declared.Taken.{Taken}
 use Rattle.kinds.specs.declared.Site.{Site}
-use Rattle.kinds.specs.declared.Out.{Out}
 use Rattle.kinds.specs.declared.Answer.{Answer}
 use Rattle.kinds.specs.declared.Answer.the-variants.{Refused}
 use Rattle.kinds.specs.State.{subAt}
@@ -29,9 +28,6 @@ pub record Effect : Type 0 where
 unfoldable pub takenOf : Change → Taken
 takenOf c = record { answer = c .answer; words = length (c .words); turn = c .turn }
 
-unfoldable pub outOf : Effect → Out
-outOf e = record { answer = e .answer; words = length (e .words); site = e .site }
-
 -- the part at a place with its surroundings, and the site with them put back
 unfoldable pub turnAt : Site → ℕ → Turn
 turnAt s place = record { counters = s .counters; channels = s .channels; sub = subAt s place }
@@ -39,11 +35,6 @@ turnAt s place = record { counters = s .counters; channels = s .channels; sub = 
 unfoldable pub settle : Site → ℕ → Turn → Site
 settle s place t =
     record { house = s .house; counters = t .counters; channels = t .channels; live = set (s .live) place (t .sub); history = s .history }
-
--- what a step taken leaves of the site
-unfoldable pub settledOf : Site → ℕ → Taken → Out
-unfolding settle
-settledOf s place a = record { answer = a .answer; words = a .words; site = settle s place (a .turn) }
 
 abbrev pub changed : Site → ℕ → Change → List ℕ → Effect
 changed s place c lent = record { answer = c .answer; words = c .words; site = settle s place (c .turn); lent = lent }

@@ -13,8 +13,7 @@ use Rattle.kinds.specs.declared.Sub.{Sub}
 use Rattle.kinds.specs.declared.Entry.{Entry}
 use Rattle.kinds.specs.declared.RecordHead.{RecordHead}
 use Rattle.kinds.specs.declared.Site.{Site}
-use Rattle.kinds.specs.declared.Out.{Out}
-use Rattle.kinds.specs.declared.Answer.the-variants.{Refused, Done, Installed, Reported}
+use Rattle.kinds.specs.declared.Answer.the-variants.{Done, Installed, Reported}
 use Rattle.kinds.specs.State.{Value, noSub, noEntry, subAt, entryAt, withInstalls}
 use Rattle.rules.specs.House.{houseOk, isSite, coordinatorOf}
 use Rattle.rules.specs.Record.{recordWords}
@@ -22,7 +21,7 @@ use Rattle.rules.specs.Keys.{sortedCount, sortedWords}
 use Rattle.rules.specs.History.{slotOf, forgetInto}
 use Rattle.rules.specs.Queue.{leastQueued, isDue, stateNumber}
 use Rattle.rules.specs.Valid.{siteOk}
-use Rattle.rules.specs.Effect.{Effect, unless}
+use Rattle.rules.specs.Effect.{Effect, refused, unless}
 
 -- Install: the queue's least, if decided.
 abbrev pub installCauses : Bool → ℕ → ℕ → Bool → ℕ → List Cause
@@ -123,12 +122,12 @@ startCauses sites own base lists =
 unfoldable pub startCode : ℕ → ℕ → ℕ → ℕ → ℕ
 startCode sites own base lists = codeOf (startCauses sites own base lists)
 
-unfoldable pub startOf : ℕ → ℕ → ℕ → ℕ → Out
+unfoldable pub startOf : ℕ → ℕ → ℕ → ℕ → Effect
 startOf sites own base lists =
     let code = startCode sites own base lists in
     pick (eqb code 0)
-    (record { answer = Done; words = 0; site = freshSite sites own })
-    (record { answer = Refused code; words = 0; site = freshSite 0 0 })
+    (record { answer = Done; words = []; site = freshSite sites own; lent = [] })
+    (refused code (freshSite 0 0) [])
 
 -- a lent table after it: 0 everywhere, or as it was
 unfoldable pub startTable : ℕ → List ℕ → List ℕ

@@ -36,7 +36,6 @@ pub mod MessageLaws
 pub mod RecordLaws
 pub mod SendLaws
 pub mod KeysLaws
-pub mod LiveLaws
 pub mod MaskLaws
 pub mod HistoryLaws
 pub mod QueueLaws

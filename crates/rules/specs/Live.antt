@@ -2,7 +2,7 @@
 use Prim.Native.Nat.{ℕ}
 use mathlib.Core.List.{List, [], _∷_}
 use mathlib.Core.Bool.{Bool, true, not}
-use lib.ListN.{length, getD}
+use lib.ListN.{getD}
 use lib.Dec.{ltb, leb, eqb}
 use lib.Bits.{bitAnd}
 use Rattle.laws.specs.Choice.{pick, every}
@@ -24,10 +24,6 @@ stageAt live i = partAt live i .course .stage
 unfoldable pub freePlace : List Sub → ℕ
 freePlace live = firstBelow (λ i. eqb (stageAt live i) stage.free) sizes.live
 
--- the first free place of a table of any length, or its length
-unfoldable pub freeIn : List Sub → ℕ
-freeIn live = firstBelow (λ i. eqb (stageAt live i) stage.free) (length live)
-
 -- a part of transaction tx
 unfoldable pub isPartOf : Sub → ℕ → Bool
 isPartOf b tx = every (not (eqb (b .course .stage) stage.free) ∷ eqb (b .tx) tx ∷ [])
@@ -35,10 +31,6 @@ isPartOf b tx = every (not (eqb (b .course .stage) stage.free) ∷ eqb (b .tx) t
 -- the place of tx, or 16 where it is not held here
 unfoldable pub placeOf : List Sub → ℕ → ℕ
 placeOf live tx = firstBelow (λ i. isPartOf (partAt live i) tx) sizes.live
-
--- the place of tx in a table of any length, or its length where it is not held there
-unfoldable pub placeIn : List Sub → ℕ → ℕ
-placeIn live tx = firstBelow (λ i. isPartOf (partAt live i) tx) (length live)
 
 unfoldable pub isHeld : List Sub → ℕ → Bool
 isHeld live tx = ltb (placeOf live tx) sizes.live

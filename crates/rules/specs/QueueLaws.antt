@@ -65,15 +65,6 @@ pub queued-more : (live : List Sub) (i : ℕ) → leastQueued live (i + 1) ≡ b
 unfolding leastQueued
 queued-more live i = fold-more (betterPlace live) i sizes.live
 
--- whatever stands for the best while there is none
-pub comes-first-at : (live : List Sub) (b : Sub) (best : ℕ) (first : Sub) → (best < sizes.live → first ≡ partAt live best)
-    → comesFirst b best first ≡ comesFirst b best (partAt live best)
-unfolding comesFirst
-comes-first-at live b best first e =
-    by-order best sizes.live
-    (λ h. rw (e h))
-    (λ h. rw (le-leb sizes.live best h))
-
 -- what it means to come first, and not to
 first-true : (b : Sub) (best : ℕ) (first : Sub) → comesFirst b best first ≡ true
     → (isQueued b ≡ true) × (best < sizes.live → queuedBefore b first ≡ true)

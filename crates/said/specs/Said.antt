@@ -7,7 +7,7 @@ use Rattle.laws.specs.Cause.{Cause, firstIn}
 use Rattle.rules.specs.Refusals.{order}
 use Rattle.kinds.specs.declared.Answer.{Answer}
 use Rattle.kinds.specs.declared.Answer.the-variants.{Refused, Done, Begun, Found, Committed, Aborted, Installed, Reported, Emitted}
-use Rattle.kinds.specs.declared.Answer.the-variants.{Standing}
+use Rattle.kinds.specs.declared.Answer.the-variants.{Replayed, Standing}
 
 pub data Said : Type 0 where
   ok : List ℕ → Said
@@ -24,6 +24,7 @@ saidOf (Aborted r) = abort r
 saidOf (Installed n c) = ok (n ∷ c ∷ [])
 saidOf (Reported n) = ok (n ∷ [])
 saidOf (Emitted n c tx) = ok (n ∷ c ∷ tx ∷ [])
+saidOf (Replayed n c) = ok (n ∷ c ∷ [])
 saidOf (Standing v n c) = ok (v ∷ n ∷ c ∷ [])
 
 -- a call of these causes says the number of the first that holds, and where none holds what it says once it is taken

@@ -28,7 +28,7 @@ ghost use Rattle.kinds.specs.Sizes as sizes;
 ghost use mathlib.Core.List.{List, []};
 ghost use Prim.Native.Nat.{ℕ, _<_};
 ghost use Rattle.kinds.specs.State.{withKeys};
-ghost use Rattle.rules.specs.Effect.{Change, takenOf, turnAt};
+ghost use Rattle.rules.specs.Effect.{takenOf, turnAt};
 ghost use Rattle.rules.specs.Course.{withSubOf};
 ghost use Rattle.site.specs.Accessed.{Accessed, Writable};
 ghost use Rattle.rules.specs.Live.{stageAt};

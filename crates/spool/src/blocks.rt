@@ -11,6 +11,7 @@ use crate::file::load;
 use crate::file::save;
 ghost use mathlib.Core.Path.{_≡_};
 ghost use Prim.Native.Nat.{_+_, _*_, _%_, _≤_, _<_};
+ghost use Rattle.spool.specs.Sizes as sizes;
 
 // Addresses and block numbers stay below.
 pub const LIMIT: u64 = 1125899906842624;
@@ -18,20 +19,20 @@ pub const LIMIT: u64 = 1125899906842624;
 pub const LAST_BLOCK: u64 = LIMIT / BLOCK as u64 - 1;
 
 pub fn slot_of(b: u64) -> usize
-    ensures { λ r. ⌜ (r ≡ b % 256) × (r < 256) ⌝ }
+    ensures { λ r. ⌜ (r ≡ b % sizes.slots) × (r < sizes.slots) ⌝ }
 {
     (b % SLOTS as u64) as usize
 }
 
 // Where the words of block b lie, while it is in memory.
 pub fn place_of(b: u64) -> usize
-    ensures { λ r. ⌜ (r ≡ 501 + b % 256 * 256) × (r + 256 ≤ 66037) ⌝ }
+    ensures { λ r. ⌜ (r ≡ sizes.cells + b % sizes.slots * sizes.block) × (r + sizes.block ≤ sizes.store) ⌝ }
 {
     CELLS + slot_of(b) * BLOCK
 }
 
 pub fn offset_of(at: u64) -> usize
-    ensures { λ r. ⌜ (r ≡ at % 256) × (r < 256) ⌝ }
+    ensures { λ r. ⌜ (r ≡ at % sizes.block) × (r < sizes.block) ⌝ }
 {
     (at % BLOCK as u64) as usize
 }
@@ -66,7 +67,7 @@ fn address_of(b: u64) -> u64
     b * BLOCK as u64
 }
 
-// The address of the word at `at`: behind a block's last word comes the first of the next. 0: lost.
+// The address of the word at `at`: behind a block's last word comes the first of the next. 0: the file fails.
 pub fn follow(fd: i32, store: &mut [u64; STORE], at: u64) -> u64
     ensures { λ r. ⌜ r < 1125899906842624 ⌝ }
 {
@@ -83,7 +84,7 @@ pub fn follow(fd: i32, store: &mut [u64; STORE], at: u64) -> u64
     address_of(store[place_of(b) + LINK])
 }
 
-// A block that no queue has. 0: lost.
+// A block that no queue has. 0: the file fails.
 pub fn new_block(fd: i32, store: &mut [u64; STORE]) -> u64
     ensures { λ r. ⌜ r ≤ 4398046511103 ⌝ }
 {
@@ -109,7 +110,7 @@ pub fn new_block(fd: i32, store: &mut [u64; STORE]) -> u64
     made + 1
 }
 
-// The address to write at: where a block is full, the first of a new one that is linked behind it. 0: lost.
+// The address to write at: where a block is full, the first of a new one that is linked behind it. 0: the file fails.
 pub fn room(fd: i32, store: &mut [u64; STORE], at: u64) -> u64
     ensures { λ r. ⌜ r < 1125899906842624 ⌝ }
 {
@@ -131,7 +132,7 @@ pub fn room(fd: i32, store: &mut [u64; STORE], at: u64) -> u64
     address_of(b)
 }
 
-// Lets block b go, and answers the one that it was linked to. 0: lost.
+// Lets block b go, and answers the one that it was linked to. 0: the file fails.
 pub fn release(fd: i32, store: &mut [u64; STORE], b: u64) -> u64 {
     if !bring(fd, store, b, false) {
         return 0;

@@ -1,8 +1,9 @@
 // Words as bytes, the lowest first.
 ghost use Prim.Native.Nat.{_+_, _≤_, _<_};
+ghost use Rattle.spool.specs.Sizes as sizes;
 
 pub fn put_word(bytes: &mut [u8; 2048], at: usize, x: u64)
-    requires { ⌜ at + 8 ≤ 2048 ⌝ }
+    requires { ⌜ at + 8 ≤ sizes.bytes ⌝ }
 {
     bytes[at] = (x % 256) as u8;
     bytes[at + 1] = (x / 256 % 256) as u8;
@@ -15,14 +16,14 @@ pub fn put_word(bytes: &mut [u8; 2048], at: usize, x: u64)
 }
 
 fn two(low: u8, high: u8) -> u64
-    ensures { λ r. ⌜ r < 65536 ⌝ }
+    ensures { λ r. ⌜ r < sizes.two ⌝ }
 {
     low as u64 + high as u64 * 256
 }
 
 fn four(low: u64, high: u64) -> u64
-    requires { ⌜ (low < 65536) × (high < 65536) ⌝ }
-    ensures { λ r. ⌜ r < 4294967296 ⌝ }
+    requires { ⌜ (low < sizes.two) × (high < sizes.two) ⌝ }
+    ensures { λ r. ⌜ r < sizes.four ⌝ }
 {
     low + high * 65536
 }
@@ -34,7 +35,7 @@ fn eight(low: u64, high: u64) -> u64
 }
 
 pub fn get_word(bytes: &[u8; 2048], at: usize) -> u64
-    requires { ⌜ at + 8 ≤ 2048 ⌝ }
+    requires { ⌜ at + 8 ≤ sizes.bytes ⌝ }
 {
     let a = two(bytes[at], bytes[at + 1]);
     let b = two(bytes[at + 2], bytes[at + 3]);

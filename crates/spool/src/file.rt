@@ -5,6 +5,7 @@ use crate::blocks::LAST_BLOCK;
 use crate::bytes::get_word;
 use crate::bytes::put_word;
 ghost use Prim.Native.Nat.{_+_, _≤_};
+ghost use Rattle.spool.specs.Sizes as sizes;
 
 const BYTES: usize = 8 * BLOCK;
 
@@ -30,7 +31,7 @@ pub fn open() -> i32 {
 }
 
 fn to_bytes(store: &[u64; STORE], at: usize, bytes: &mut [u8; BYTES])
-    requires { ⌜ at + 256 ≤ 66037 ⌝ }
+    requires { ⌜ at + sizes.block ≤ sizes.store ⌝ }
 {
     let mut i: usize = 0;
     while i < BLOCK {
@@ -40,7 +41,7 @@ fn to_bytes(store: &[u64; STORE], at: usize, bytes: &mut [u8; BYTES])
 }
 
 fn from_bytes(bytes: &[u8; BYTES], store: &mut [u64; STORE], at: usize)
-    requires { ⌜ at + 256 ≤ 66037 ⌝ }
+    requires { ⌜ at + sizes.block ≤ sizes.store ⌝ }
 {
     let mut i: usize = 0;
     while i < BLOCK {
@@ -56,7 +57,7 @@ fn write_block(fd: i32, bytes: &[u8; BYTES], at: i64) -> bool {
 
 // Writes the words from `at` on as block b.
 pub fn save(fd: i32, store: &[u64; STORE], at: usize, b: u64) -> bool
-    requires { ⌜ at + 256 ≤ 66037 ⌝ }
+    requires { ⌜ at + sizes.block ≤ sizes.store ⌝ }
 {
     if LAST_BLOCK < b {
         return false;
@@ -68,7 +69,7 @@ pub fn save(fd: i32, store: &[u64; STORE], at: usize, b: u64) -> bool
 
 // Reads block b to the words from `at` on.
 pub fn load(fd: i32, store: &mut [u64; STORE], at: usize, b: u64) -> bool
-    requires { ⌜ at + 256 ≤ 66037 ⌝ }
+    requires { ⌜ at + sizes.block ≤ sizes.store ⌝ }
 {
     if LAST_BLOCK < b {
         return false;

@@ -17,6 +17,7 @@ pub use file::open;
 ghost use mathlib.Core.Path.{_≡_};
 ghost use Prim.Native.Nat.{_+_, _*_, _≤_, _<_};
 ghost use lib.ListN.{length};
+ghost use Rattle.spool.specs.Sizes as sizes;
 
 // Words of a block, and the position of its link: the number of the next block, from 1; 0 for none.
 pub const BLOCK: usize = 256;
@@ -55,10 +56,10 @@ pub const CELLS: usize = TAGS + SLOTS;
 
 pub const STORE: usize = CELLS + SLOTS * BLOCK;
 
-// The first item of a queue: none, or its words and the address behind it. Lost: the file fails.
+// The first item of a queue: none, or its words and the address behind it. Failed: the file fails.
 pub enum First {
     Nothing,
-    Lost,
+    Failed,
     Found(usize, u64),
 }
 
@@ -70,8 +71,8 @@ struct Run {
 
 // Where a word of a queue's row lies.
 fn row(queue: usize, word: usize) -> usize
-    requires { ⌜ (queue < 81) × (word < 3) ⌝ }
-    ensures { λ r. ⌜ (r ≡ 2 + 3 * queue + word) × (r < 245) ⌝ }
+    requires { ⌜ (queue < sizes.queues) × (word < sizes.row) ⌝ }
+    ensures { λ r. ⌜ (r ≡ sizes.table + sizes.row * queue + word) × (r < sizes.tags) ⌝ }
 {
     TABLE + ROW * queue + word
 }
@@ -83,7 +84,7 @@ fn least(a: usize, b: usize) -> usize
 }
 
 fn copy_out(store: &[u64; STORE], from: usize, item: &mut [u64; ITEM], to: usize, n: usize)
-    requires { ⌜ (from + n ≤ 66037) × (to + n ≤ 1138) ⌝ }
+    requires { ⌜ (from + n ≤ sizes.store) × (to + n ≤ sizes.item) ⌝ }
 {
     let mut i: usize = 0;
     while i < n {
@@ -93,7 +94,7 @@ fn copy_out(store: &[u64; STORE], from: usize, item: &mut [u64; ITEM], to: usize
 }
 
 fn copy_in(words: &[u64], from: usize, store: &mut [u64; STORE], to: usize, n: usize)
-    requires { ⌜ (from + n ≤ length (now words)) × (to + n ≤ 66037) ⌝ }
+    requires { ⌜ (from + n ≤ length (now words)) × (to + n ≤ sizes.store) ⌝ }
 {
     let mut i: usize = 0;
     while i < n {
@@ -102,9 +103,9 @@ fn copy_in(words: &[u64], from: usize, store: &mut [u64; STORE], to: usize, n: u
     }
 }
 
-// Copies on, to the end of the block or to n words. No progress: lost.
+// Copies on, to the end of the block or to n words. No progress: the file fails.
 fn read_run(fd: i32, store: &mut [u64; STORE], r: Run, item: &mut [u64; ITEM], n: usize) -> Run
-    requires { ⌜ (r .done ≤ n) × (n ≤ 1138) ⌝ }
+    requires { ⌜ (r .done ≤ n) × (n ≤ sizes.item) ⌝ }
     ensures { λ s. ⌜ s .done ≤ n ⌝ }
 {
     let at = follow(fd, store, r.at);
@@ -125,13 +126,13 @@ fn read_run(fd: i32, store: &mut [u64; STORE], r: Run, item: &mut [u64; ITEM], n
 }
 
 fn read_words(fd: i32, store: &mut [u64; STORE], at: u64, item: &mut [u64; ITEM], n: usize) -> First
-    requires { ⌜ n ≤ 1138 ⌝ }
+    requires { ⌜ n ≤ sizes.item ⌝ }
 {
     let mut r = Run { at, done: 0 };
     while r.done < n {
         let next = read_run(fd, store, r, item, n);
         if next.done <= r.done {
-            return First::Lost;
+            return First::Failed;
         }
         r = next;
     }
@@ -142,22 +143,22 @@ fn read_words(fd: i32, store: &mut [u64; STORE], at: u64, item: &mut [u64; ITEM]
 fn item_at(fd: i32, store: &mut [u64; STORE], at: u64, item: &mut [u64; ITEM]) -> First {
     let first = follow(fd, store, at);
     if first == 0 {
-        return First::Lost;
+        return First::Failed;
     }
     let b = first / BLOCK as u64;
     if !bring(fd, store, b, false) {
-        return First::Lost;
+        return First::Failed;
     }
     let n = store[place_of(b) + offset_of(first)];
     if n > ITEM as u64 {
-        return First::Lost;
+        return First::Failed;
     }
     read_words(fd, store, first, item, n as usize)
 }
 
 // Copies the first item of a queue to the start of `item`. It stays the first.
 pub fn front(fd: i32, store: &mut [u64; STORE], queue: usize, item: &mut [u64; ITEM]) -> First
-    requires { ⌜ queue < 81 ⌝ }
+    requires { ⌜ queue < sizes.queues ⌝ }
 {
     if store[row(queue, WORDS)] == 0 {
         return First::Nothing;
@@ -174,7 +175,7 @@ pub fn next(
     cursor: usize,
     item: &mut [u64; ITEM],
 ) -> First
-    requires { ⌜ (queue < 81) × (cursor < 81) ⌝ }
+    requires { ⌜ (queue < sizes.queues) × (cursor < sizes.queues) ⌝ }
 {
     let read = store[row(cursor, WORDS)];
     if store[row(queue, WORDS)] <= read {
@@ -189,7 +190,7 @@ pub fn next(
 
 // Moves a cursor on past its next item, as `next` found it.
 pub fn step(store: &mut [u64; STORE], cursor: usize, n: usize, next: u64)
-    requires { ⌜ cursor < 81 ⌝ }
+    requires { ⌜ cursor < sizes.queues ⌝ }
 {
     let read = store[row(cursor, WORDS)];
     store[row(cursor, HEAD)] = next;
@@ -213,7 +214,7 @@ fn release_to(fd: i32, store: &mut [u64; STORE], b: u64, last: u64) -> bool {
 
 // Takes the first item of a queue away, as `front` found it.
 pub fn drop_front(fd: i32, store: &mut [u64; STORE], queue: usize, n: usize, next: u64) -> bool
-    requires { ⌜ queue < 81 ⌝ }
+    requires { ⌜ queue < sizes.queues ⌝ }
 {
     let words = store[row(queue, WORDS)];
     if words < n as u64 {
@@ -225,7 +226,7 @@ pub fn drop_front(fd: i32, store: &mut [u64; STORE], queue: usize, n: usize, nex
     release_to(fd, store, b, next / BLOCK as u64)
 }
 
-// Copies on, to the end of the block or of the words. No progress: lost.
+// Copies on, to the end of the block or of the words. No progress: the file fails.
 fn write_run(fd: i32, store: &mut [u64; STORE], r: Run, words: &[u64]) -> Run
     requires { ⌜ r .done ≤ length (now words) ⌝ }
     ensures { λ s. ⌜ s .done ≤ length (now (words .entry)) ⌝ }
@@ -249,7 +250,7 @@ fn write_run(fd: i32, store: &mut [u64; STORE], r: Run, words: &[u64]) -> Run
 
 // Gives a queue its first block.
 fn first_block(fd: i32, store: &mut [u64; STORE], queue: usize) -> bool
-    requires { ⌜ queue < 81 ⌝ }
+    requires { ⌜ queue < sizes.queues ⌝ }
 {
     if store[row(queue, TAIL)] != 0 {
         return true;
@@ -265,7 +266,7 @@ fn first_block(fd: i32, store: &mut [u64; STORE], queue: usize) -> bool
 
 // Puts an item at the end of a queue. False: the file fails.
 pub fn push(fd: i32, store: &mut [u64; STORE], queue: usize, words: &[u64]) -> bool
-    requires { ⌜ queue < 81 ⌝ }
+    requires { ⌜ queue < sizes.queues ⌝ }
 {
     if !first_block(fd, store, queue) {
         return false;

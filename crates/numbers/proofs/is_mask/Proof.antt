@@ -1,9 +1,7 @@
 -- Below the house's sites.
 use native.Mathlib.Omega.{arith}
 use Rattle.laws.specs.Digits.{one-shifted}
-use borrow.Author.Tests.{lt-ltb, le-ltb, le-leb, lt-leb, eq-eqb, ne-eqb}
 use Rattle.rules.specs.House.{isMask}
-use Rattle.laws.specs.Choice.{pick-self}
 use borrow.Author.Needs.{needs}
 use Rattle.numbers.proofs.is_mask.Statement.{statement}
 use Rattle.numbers.proofs.is_mask.Tie as tie

@@ -2,7 +2,6 @@
 use Prim.Native.Nat.{_-_}
 use native.Mathlib.Omega.{arith}
 use Rattle.laws.specs.Digits.{one-shifted}
-use borrow.Author.Tests.{lt-ltb, le-ltb, le-leb, lt-leb, eq-eqb, ne-eqb}
 use Rattle.rules.specs.House.{maskOf}
 use borrow.Author.Needs.{needs}
 use Rattle.numbers.proofs.mask_of.Statement.{statement}

@@ -9,13 +9,13 @@ use types.Run.{OneOf, miss}
 use Rattle.kinds.proofs.Answer.{the-type}
 use Rattle.kinds.specs.declared.Answer.{Answer}
 use Rattle.kinds.specs.declared.Answer.the-variants.{Refused, Done, Begun, Found, Committed, Aborted, Installed, Reported, Emitted}
-use Rattle.kinds.specs.declared.Answer.the-variants.{Standing}
+use Rattle.kinds.specs.declared.Answer.the-variants.{Replayed, Standing}
 use Rattle.rules.specs.Answers.{isRefused}
 use Rattle.pages.proofs.is_refused.Statement.{statement}
 use Rattle.pages.proofs.is_refused.Tie as tie
 
 abbrev others : List ℕ
-others = 1 ∷ 2 ∷ 3 ∷ 4 ∷ 5 ∷ 6 ∷ 7 ∷ 8 ∷ 9 ∷ []
+others = 1 ∷ 2 ∷ 3 ∷ 4 ∷ 5 ∷ 6 ∷ 7 ∷ 8 ∷ 9 ∷ 10 ∷ []
 
 accepted : (a : Answer) → OneOf others (tagOf the-type a) → false ≡ isRefused a
 accepted (Refused n) h = absurd (miss others 0 tt h)
@@ -27,6 +27,7 @@ accepted (Aborted r) h = refl
 accepted (Installed n c) h = refl
 accepted (Reported n) h = refl
 accepted (Emitted n c tx) h = refl
+accepted (Replayed n c) h = refl
 accepted (Standing v n c) h = refl
 
 enum-told : tie.Need-enum-told

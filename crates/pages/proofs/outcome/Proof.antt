@@ -83,6 +83,12 @@ told-three-requires c κs = search needs
 enum-known-a-9 : tie.Need-enum-known-a-9
 enum-known-a-9 c = search needs
 
+told-two-requires-2 : tie.Need-told-two-requires-2
+told-two-requires-2 c κs = search needs
+
+enum-known-a-10 : tie.Need-enum-known-a-10
+enum-known-a-10 c = search needs
+
 told-three-requires-2 : tie.Need-told-three-requires-2
 told-three-requires-2 c κs = search needs
 
@@ -156,6 +162,13 @@ returns-10 : tie.Need-returns-10
 unfolding saidOf outcomeOf
 returns-10 c = let arm = c .before .before .before in rw (arm .before .before .a9 .given .1) (search needs)
 
+same-length-11 : tie.Need-same-length-11
+same-length-11 c = search needs
+
+returns-11 : tie.Need-returns-11
+unfolding saidOf outcomeOf
+returns-11 c = let arm = c .before .before .before in rw (arm .before .before .a10 .given .1) (search needs)
+
 pub outcome-spec : {M : Type 1} → statement M
 outcome-spec =
     tie.close
@@ -186,6 +199,8 @@ outcome-spec =
     enum-known-a-8
     told-three-requires
     enum-known-a-9
+    told-two-requires-2
+    enum-known-a-10
     told-three-requires-2
     same-length
     returns
@@ -206,4 +221,6 @@ outcome-spec =
     same-length-9
     returns-9
     same-length-10
-    returns-10)
+    returns-10
+    same-length-11
+    returns-11)

@@ -1,5 +1,5 @@
 -- The causes against a key that the part has not written, in their order.
-use mathlib.Core.Path.{_≡_, sym, _∙_}
+use mathlib.Core.Path.{_≡_, _∙_}
 use Prim.Native.Nat.{ℕ}
 use mathlib.Core.Bool.{Bool}
 use borrow.Author.Needs.{needs}

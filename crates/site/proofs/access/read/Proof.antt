@@ -6,9 +6,8 @@ use native.Mathlib.Omega.{arith}
 use borrow.Author.Needs.{needs}
 use borrow.Author.Tests.{eq-eqb, ne-eqb}
 use lib.ListN.{length}
-use Rattle.kinds.specs.Sizes as sizes
 use Rattle.kinds.specs.declared.Site.{Site}
-use Rattle.rules.specs.Access.{accessCode, readAt, readOf}
+use Rattle.rules.specs.Access.{accessCode, readOf}
 use Rattle.rules.specs.CallLaws.{AccessClear, access-clear}
 use Rattle.rules.specs.Live.{placeOf, stageAt}
 use Rattle.rules.specs.Valid.{siteOk}

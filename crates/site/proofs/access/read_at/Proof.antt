@@ -1,21 +1,20 @@
 -- The own write, refused, or the version of the snapshot with the key among those read.
-use mathlib.Core.Path.{_≡_, sym, ap, _∙_, refl}
+use mathlib.Core.Path.{_≡_, sym, _∙_, refl}
 use mathlib.Core.Bool.{Bool, true, false}
 use mathlib.Core.List.{List, []}
 use Prim.Native.Nat.{ℕ, _≤_, _<_}
 use borrow.Author.Needs.{needs}
-use borrow.Author.Tests.{eq-eqb, ne-eqb}
+use borrow.Author.Tests.{ne-eqb}
 use Rattle.kinds.specs.Sizes as sizes
-use Rattle.kinds.specs.State.{Value, subAt, withKeys}
+use Rattle.kinds.specs.State.{Value, withKeys}
 use Rattle.kinds.specs.declared.Keys.{Keys}
 use Rattle.kinds.specs.declared.Site.{Site}
-use Rattle.kinds.specs.declared.Taken.{Taken}
 use Rattle.kinds.specs.declared.Turn.{Turn}
 use Rattle.kinds.specs.declared.Answer.the-variants.{Found}
 use Rattle.rules.specs.Access.{readAt, readCode, readVersion}
 use Rattle.rules.specs.CallLaws.{read-clear}
 use Rattle.rules.specs.Course.{withSubOf}
-use Rattle.rules.specs.Effect.{Change, Effect, changed, refused, takenOf, turnAt}
+use Rattle.rules.specs.Effect.{Change, changed, refused, turnAt}
 use Rattle.rules.specs.History.{isForgotten, versionOf}
 use Rattle.rules.specs.Keys.{readKey, withRead, wroteKey, wroteValue}
 use Rattle.rules.specs.ValidLaws.{ValidKeys, ValidSite, valid-site}

@@ -1,6 +1,5 @@
 -- The part has the keys, and nothing is sent.
 use borrow.Author.Needs.{needs}
-use Rattle.rules.specs.Course.{withSubOf}
 use Rattle.rules.specs.Effect.{takenOf}
 use Rattle.site.proofs.access.with_keys.Statement.{statement}
 use Rattle.site.proofs.access.with_keys.Tie as tie

@@ -6,7 +6,7 @@ use borrow.Author.Needs.{needs}
 use borrow.Author.Tests.{eq-eqb, ne-eqb}
 use Rattle.kinds.specs.Sizes as sizes
 use Rattle.kinds.specs.declared.Site.{Site}
-use Rattle.rules.specs.Access.{accessCode, writeAt, writeOf}
+use Rattle.rules.specs.Access.{accessCode, writeOf}
 use Rattle.rules.specs.CallLaws.{AccessClear, access-clear}
 use Rattle.rules.specs.Live.{placeOf, stageAt}
 use Rattle.rules.specs.Valid.{siteOk}

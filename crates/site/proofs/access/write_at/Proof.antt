@@ -1,12 +1,12 @@
 -- Written over the own write, refused, or written first.
-use mathlib.Core.Path.{_≡_, sym, ap, _∙_}
+use mathlib.Core.Path.{_≡_, sym, _∙_}
 use mathlib.Core.Bool.{true, false, true≢false}
 use mathlib.Core.List.{[]}
 use Prim.Native.Nat.{ℕ, _≤_, _<_}
 use borrow.Author.Needs.{needs}
-use borrow.Author.Tests.{eq-eqb, ne-eqb}
+use borrow.Author.Tests.{ne-eqb}
 use Rattle.kinds.specs.Sizes as sizes
-use Rattle.kinds.specs.State.{Value, subAt}
+use Rattle.kinds.specs.State.{Value}
 use Rattle.kinds.specs.declared.Site.{Site}
 use Rattle.kinds.specs.declared.Turn.{Turn}
 use Rattle.rules.specs.Access.{writeAt, writeCodeAt, written}
@@ -16,7 +16,6 @@ use Rattle.rules.specs.Keys.{wroteKey}
 use Rattle.rules.specs.ValidLaws.{ValidSite, valid-site}
 use Rattle.lent.specs.Laws.{Lengths, lent-lengths}
 use Rattle.lent.specs.Lent.{siteOf}
-use Rattle.site.specs.Accessed.{Writable}
 use Rattle.site.proofs.access.write_at.Statement.{statement}
 use Rattle.site.proofs.access.write_at.Tie as tie
 

@@ -1,19 +1,19 @@
 -- Refused, or JOIN sent and the part settled.
-use mathlib.Core.Path.{_≡_, sym, ap, _∙_}
+use mathlib.Core.Path.{_≡_, sym, _∙_}
 use mathlib.Core.Bool.{Bool}
-use mathlib.Core.List.{List, []}
+use mathlib.Core.List.{[]}
 use Prim.Native.Nat.{ℕ, _-_, _<_}
 use borrow.Author.Needs.{needs}
-use borrow.Author.Tests.{eq-eqb, leb-false, ne-eqb}
+use borrow.Author.Tests.{leb-false, ne-eqb}
 use lib.Dec.{eqb}
 use lib.ListN.{getD}
-use Rattle.laws.specs.Overlay.{overlay, overlay-none}
+use Rattle.laws.specs.Overlay.{overlay-none}
 use Rattle.kinds.specs.Sizes as sizes
 use Rattle.kinds.specs.declared.Site.{Site}
 use Rattle.kinds.specs.declared.Turn.{Turn}
 use Rattle.rules.specs.CallLaws.{joiner-clear}
 use Rattle.rules.specs.Course.{channelSpent, enlistStep}
-use Rattle.rules.specs.Effect.{changed, refused, takenOf, turnAt}
+use Rattle.rules.specs.Effect.{changed, refused, turnAt}
 use Rattle.rules.specs.Enlist.{enlistAt, joinerCode}
 use Rattle.rules.specs.House.{inMask}
 use Rattle.lent.specs.Laws.{Lengths, lent-lengths}

@@ -1,17 +1,15 @@
 -- Refused, or a fresh core and every lent word 0.
-use mathlib.Core.Path.{_≡_, refl, sym, ap, _∙_}
+use mathlib.Core.Path.{_≡_, sym, _∙_}
 use mathlib.Core.List.{List}
 use Prim.Native.Nat.{ℕ}
 use borrow.Author.Needs.{needs}
-use borrow.Author.Tests.{eq-eqb, ne-eqb}
+use borrow.Author.Tests.{ne-eqb}
 use lib.ListN.{length, replicate}
-use Rattle.kinds.specs.Sizes as sizes
 use Rattle.kinds.specs.declared.House.{House}
 use Rattle.kinds.specs.declared.Core.{Core}
 use Rattle.kinds.specs.declared.Answer.the-variants.{Done}
-use Rattle.rules.specs.Install.{startCode, startOf, startTable}
+use Rattle.rules.specs.Install.{startCode, startTable}
 use Rattle.lent.specs.Fresh.{Started, freshCore, startedCode, started-fresh, started-refused}
-use Rattle.lent.specs.Lent.{lentHouse, siteOf}
 use Rattle.site.proofs.start.start.Statement.{statement}
 use Rattle.site.proofs.start.start.Tie as tie
 
