@@ -20,7 +20,8 @@ use Rattle.kinds.specs.State.{pastSeat, pastSub, pastEntry}
 use Rattle.rules.specs.House.{houseOk}
 use Rattle.rules.specs.Valid.{siteOk}
 use Rattle.lent.specs.Rows.{rows, rows-at, rows-length, rows-same, rows-read, rows-append, flat-rows, flat-set}
-use Rattle.lent.specs.Layout.{wordsFrom, keysFrom, subFrom, entryFrom, liveOf, historyOf, keysWords, placeWords, slotWords, liveWords, historyWords}
+use Rattle.lent.specs.Layout.{wordsFrom, keysFrom, subFrom, entryFrom, liveOf, historyOf, keysWords, placeWords, slotWords}
+use Rattle.lent.specs.Layout.{liveWords, historyWords}
 use Rattle.lent.specs.Lent.{lentHouse, siteOf}
 
 -- the part at a place, the install in a slot

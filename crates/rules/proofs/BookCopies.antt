@@ -14,7 +14,8 @@ use Rattle.rules.specs.Keys.{wroteValue}
 use Rattle.rules.specs.Copy.{copyNumber, copyCoordinator}
 use Rattle.rules.specs.World.{World}
 use Rattle.rules.specs.Book.{Fact}
-use Rattle.rules.specs.Claim.{Committed, Wrote, LastWrite, UpTo, LeftBy, unwritten, written, LastReplay, Reaches, start, commit, CopyHolds}
+use Rattle.rules.specs.Claim.{Committed, Wrote, LastWrite, UpTo, LeftBy, unwritten, written, LastReplay, Reaches, start, commit}
+use Rattle.rules.specs.Claim.{CopyHolds}
 use Rattle.rules.proofs.Protocol.{Protocol}
 use Rattle.rules.proofs.StreamClaims.{rankIn, WroteIn, LeftUpTo}
 use Rattle.rules.proofs.RefineCopies.{CopyStands}
@@ -69,5 +70,6 @@ copy-holds {b = b} {p = p} i s r =
       left = left-by i (s .number) (s .coordinator) _ (s .value) (s .low) (s .left);
     }
   where
-    committed-pair : (t : ℕ) × (0 < p .num t) × (p .num t ≡ s .number) × (coordinatorOf t ≡ s .coordinator) → Reaches b (s .number) (s .coordinator)
+    committed-pair : (t : ℕ) × (0 < p .num t) × (p .num t ≡ s .number) × (coordinatorOf t ≡ s .coordinator)
+        → Reaches b (s .number) (s .coordinator)
     committed-pair (t, z, e, f) = commit t (rw (e, f) at (i .committed t z))

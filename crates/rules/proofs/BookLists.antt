@@ -123,7 +123,8 @@ before-old {f} {g} b l n h = go (before-append b l h)
     go (inr (inr k)) = absurd (n (before-second k))
 
 -- The last write.
-pub last-kept : {t k : ℕ} {v : Value} {b : List Fact} (l : List Fact) → ((u : Value) → Is (book.wrote t k u) l → ⊥) → LastWrite b t k v → LastWrite (b ++ l) t k v
+pub last-kept : {t k : ℕ} {v : Value} {b : List Fact} (l : List Fact) → ((u : Value) → Is (book.wrote t k u) l → ⊥) → LastWrite b t k v
+    → LastWrite (b ++ l) t k v
 last-kept {t} {k} {v} l n h =
     record {
       front = h .front;
@@ -132,5 +133,6 @@ last-kept {t} {k} {v} l n h =
       last = λ u i. ⊎-elim (λ j. h .last u j) (λ j. n u j) (is-append (h .rest) l i);
     }
 
-pub last-fresh : {t k : ℕ} {v : Value} (b l : List Fact) → ((u : Value) → Is (book.wrote t k u) l → ⊥) → LastWrite (b ++ (book.wrote t k v ∷ l)) t k v
+pub last-fresh : {t k : ℕ} {v : Value} (b l : List Fact) → ((u : Value) → Is (book.wrote t k u) l → ⊥)
+    → LastWrite (b ++ (book.wrote t k v ∷ l)) t k v
 last-fresh b l n = record { front = b; rest = l; split = refl; last = n }

@@ -106,7 +106,8 @@ installs-none s a = on-installed NoReplay a-nil (λ n c. all-one refl) a
 commits-none : (t : ℕ) (a : Answer) → NoReplay (book.commits t a)
 commits-none t a = on-committed NoReplay a-nil (λ n. all-one refl) a
 
-still-last : (c : ℕ) (b l : List Fact) (n d : ℕ) → ((m e : ℕ) → Is (book.replayed c m e) l → ⊥) → LastReplay c b n d → LastReplay c (b ++ l) n d
+still-last : (c : ℕ) (b l : List Fact) (n d : ℕ) → ((m e : ℕ) → Is (book.replayed c m e) l → ⊥) → LastReplay c b n d
+    → LastReplay c (b ++ l) n d
 still-last c b l n d f (behind p q e g) =
     behind p (q ++ l) (rw e (append-assoc p (book.replayed c n d ∷ q) l)) (λ m r i. ⊎-elim (λ j. g m r j) (λ j. f m r j) (is-append q l i))
 still-last c b l n d f (none g x y) = none (λ m r i. ⊎-elim (λ j. g m r j) (λ j. f m r j) (is-append b l i)) x y

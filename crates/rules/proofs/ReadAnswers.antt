@@ -27,7 +27,7 @@ use Rattle.rules.specs.CallLaws.{read-clear}
 use Rattle.rules.specs.World.{World, here, step, siteStep}
 use Rattle.rules.specs.World as world
 use Rattle.rules.specs.Book.{Fact}
-use Rattle.rules.specs.Claim.{Wrote, LastWrite, UpTo}
+use Rattle.rules.specs.Claim.{Wrote, LastWrite, UpTo, Saw}
 use Rattle.rules.specs.Reads.{SawWriter, SeenLeft, unwritten, written, ReadLeft, own as own-write, seen as seen-write}
 use Rattle.rules.proofs.Protocol.{Protocol, inst}
 use Rattle.rules.proofs.Invariants.{Held, at, Invariant}
@@ -137,7 +137,8 @@ module _ {sites : ℕ} {p : Protocol} {b : List Fact} (few : sites ≤ 8) (i : I
   -- a writer that t saw is an install within its snapshot
   saw-at : (u n c : ℕ) → SawWriter b s t k u n c → (j : ℕ) × (j < p .snap s t) × (at p s j .tx ≡ u) × (wroteKey (at p s j .keys) k ≡ true)
   saw-at u n c z =
-      let (j, (l, q), m) = saw-seen few i x s t u h (record { number = n; coordinator = c; committed = z .committed; before = z .before }) in
+      let saw : Saw b s t u = record { number = n; coordinator = c; committed = z .committed; before = z .before } in
+      let (j, (l, q), m) = saw-seen few i x s t u h saw in
       (j, m, q, rw (i .parts .entry-keys s j l, q) (wrote-here u (z .wrote)))
 
   -- of two installed writers the later has the higher pair, since it saw the other
@@ -198,6 +199,9 @@ pub read-left : {sites : ℕ} {p : Protocol} {b : List Fact} → sites ≤ 8 →
     → ReadIs sites p s t k v → ReadLeft b s t k v
 read-left {p = p} {b = b} few i x s t k v r = go (r .value)
   where
-    go : ((wroteKey (p .keys s t) k ≡ true) × (wroteValue (p .keys s t) k ≡ v)) ⊎ ((wroteKey (p .keys s t) k ≡ false) × LastSince (at p s) k 0 (p .snap s t) v) → ReadLeft b s t k v
+    go : ((wroteKey (p .keys s t) k ≡ true) × (wroteValue (p .keys s t) k ≡ v))
+        ⊎ ((wroteKey (p .keys s t) k ≡ false) × LastSince (at p s) k 0 (p .snap s t) v) → ReadLeft b s t k v
     go (inl (w, e)) = own-write (rw e at (x .writes .last s t k (r .has) w .1))
-    go (inr (f, l)) = seen-write (λ w. set-not _ (wrote-here few i x s t k (r .has) (r .lives) t w) f) (seen-left few i x s t k (r .has) (r .lives) v l)
+    go (inr (f, l)) =
+        seen-write (λ w. set-not _ (wrote-here few i x s t k (r .has) (r .lives) t w) f)
+        (seen-left few i x s t k (r .has) (r .lives) v l)

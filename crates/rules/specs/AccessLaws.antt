@@ -16,6 +16,7 @@ module _ (s : Site) (base : List Value) (tx k place : ℕ) (p : place ≡ placeO
   unfolding readOf
   read-past a = rw (← p, a)
 
-  pub write-past : (v : Value) → accessCode (siteOk s) sizes.keys (s .house) (s .counters .own) k place (stageAt (s .live) place) ≡ 0 → writeOf s tx k v ≡ writeAt s place k v
+  pub write-past : (v : Value) → accessCode (siteOk s) sizes.keys (s .house) (s .counters .own) k place (stageAt (s .live) place) ≡ 0
+      → writeOf s tx k v ≡ writeAt s place k v
   unfolding writeOf
   write-past v a = rw (← p, a)

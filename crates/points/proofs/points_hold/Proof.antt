@@ -41,7 +41,23 @@ use Rattle.points.proofs.points_hold.Statement.{statement}
 use Rattle.points.proofs.points_hold.Tie as tie
 
 returns : tie.Need-returns
-unfolding firstBelow allBelow anyBelow foldBelow precedes onesBelow overlay putAt noKeys noSub noEntry houseOk isSite siteOf isKey txOf coordinatorOf serialOf isTx maskOf inMask isMask participants repliesWanted wholeHouse entryOffset messageWords entryCount messageHead messageEntries toCoordinator coordinatorEnd carriesClock argumentOk mostEntries endsOk headOk entryBefore entryOk messageShape messageOk writeOffset recordWords recordHead recordWrites pairOk partHeadOk stateHeadOk mergedHeadOk keyAscends partWriteOk mergedWriteOk recordShape partOk stateOk mergedOk keyPlace wroteKey readKey wroteValue withRead withWrite commonKey dependent lesserKey leastKey keyFrom sortedKey sortedCount sortedWords keysAt keysOk freePlace isPartOf placeOf isHeld otherHolds keyHeld isPrepared isQueued allHeard remembered forgotten isForgotten within backwards newer versionOf isNewer recallPlace forgetInto queuedBefore comesFirst betterPlace leastQueued isDue stateBound stateNumber courseOk subOk countersOk liveOk heldOk historyOk siteOk valids.entryOk takenOf turnAt settle saidOf newSub raise headOf channelSpent sendTo sendAll quietly withParticipant enlistStep isOutstanding withReply abortStep withDecision commitStep decideStep withMark castStep withRequest prepareStep voteDecides voteStep withStage preparedStep certifiedStep nextTx beginCode begun beginOf accessCode readCode readVersion readAt readOf writeCode writeCodeAt written writeAt writeOf installCode entryOf partHead partWords baseAfter installedAt installOf reportCode stateWords reportOf freshSite startCode startOf startTable mergerOutOf placeWords queuedPart queuedOk sourceOk mergerOk mergePartCode mergePart mergeStateCode mergeState mergeCode mergeOf headAt headsOf hasHead betterHead leastHead isDueAt hasPart isWholeAt isWhole dueCode partWrites joinedWrites mergedWords siteWords popQueue popQueueAt popQueues popMergerAt popMerger emitDue emitCode emitOf freshMerger mergerStartCode mergerStartOf mergers.isDue HeadFits HeadsFit isRecipient headTo wordsTo messagesTo stepRecipients countsLow queued queueOf queueing wrote read installed versions merging headWords numbersOf points PointsHold ones onesIn
+unfolding firstBelow allBelow anyBelow foldBelow precedes onesBelow overlay putAt noKeys noSub noEntry houseOk isSite siteOf isKey txOf
+    coordinatorOf serialOf isTx maskOf inMask isMask participants repliesWanted wholeHouse entryOffset messageWords entryCount messageHead
+    messageEntries toCoordinator coordinatorEnd carriesClock argumentOk mostEntries endsOk headOk entryBefore entryOk messageShape messageOk
+    writeOffset recordWords recordHead recordWrites pairOk partHeadOk stateHeadOk mergedHeadOk keyAscends partWriteOk mergedWriteOk
+    recordShape partOk stateOk mergedOk keyPlace wroteKey readKey wroteValue withRead withWrite commonKey dependent lesserKey leastKey
+    keyFrom sortedKey sortedCount sortedWords keysAt keysOk freePlace isPartOf placeOf isHeld otherHolds keyHeld isPrepared isQueued
+    allHeard remembered forgotten isForgotten within backwards newer versionOf isNewer recallPlace forgetInto queuedBefore comesFirst
+    betterPlace leastQueued isDue stateBound stateNumber courseOk subOk countersOk liveOk heldOk historyOk siteOk valids.entryOk takenOf
+    turnAt settle saidOf newSub raise headOf channelSpent sendTo sendAll quietly withParticipant enlistStep isOutstanding
+    withReply abortStep withDecision commitStep decideStep withMark castStep withRequest prepareStep voteDecides voteStep withStage
+    preparedStep certifiedStep nextTx beginCode begun beginOf accessCode readCode readVersion readAt readOf writeCode writeCodeAt written
+    writeAt writeOf installCode entryOf partHead partWords baseAfter installedAt installOf reportCode stateWords reportOf freshSite
+    startCode startOf startTable mergerOutOf placeWords queuedPart queuedOk sourceOk mergerOk mergePartCode mergePart mergeStateCode
+    mergeState mergeCode mergeOf headAt headsOf hasHead betterHead leastHead isDueAt hasPart isWholeAt isWhole dueCode partWrites
+    joinedWrites mergedWords siteWords popQueue popQueueAt popQueues popMergerAt popMerger emitDue emitCode emitOf freshMerger
+    mergerStartCode mergerStartOf mergers.isDue HeadFits HeadsFit isRecipient headTo wordsTo messagesTo stepRecipients countsLow queued
+    queueOf queueing wrote read installed versions merging headWords numbersOf points PointsHold ones onesIn
 returns c = refl
 
 pub points-hold-spec : {M : Type 1} → statement M
