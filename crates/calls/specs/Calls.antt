@@ -82,15 +82,15 @@ listsLeft (command.Value copy key) e lists = lists
 listsLeft command.Bad e lists = lists
 
 -- The call of a site's line in a list of calls, at site s with the outgoing buffer out.
-pub data Is : Command → ℕ → List ℕ → Call → Type 0 where
-  begin : (site s : ℕ) (out : List ℕ) → Is (command.Begin site) s out (world.begin s)
-  enlist : (tx site s : ℕ) (out : List ℕ) → Is (command.Enlist tx site) s out (world.enlist s out tx site)
-  read : (site tx key s : ℕ) (out : List ℕ) → Is (command.Read site tx key) s out (world.read s tx key)
-  write : (site tx key value s : ℕ) (out : List ℕ) → Is (command.Write site tx key value) s out (world.write s tx key value)
-  commit : (tx s : ℕ) (out : List ℕ) → Is (command.Commit tx) s out (world.commit s out tx)
-  abandon : (tx s : ℕ) (out : List ℕ) → Is (command.Abandon tx) s out (world.abandon s out tx)
-  install : (site s : ℕ) (out : List ℕ) → Is (command.Install site) s out (world.install s out)
-  report : (site s : ℕ) (out : List ℕ) → Is (command.Report site) s out (world.report s out)
+pub data Makes : Command → ℕ → List ℕ → Call → Type 0 where
+  begin : (site s : ℕ) (out : List ℕ) → Makes (command.Begin site) s out (world.begin s)
+  enlist : (tx site s : ℕ) (out : List ℕ) → Makes (command.Enlist tx site) s out (world.enlist s out tx site)
+  read : (site tx key s : ℕ) (out : List ℕ) → Makes (command.Read site tx key) s out (world.read s tx key)
+  write : (site tx key value s : ℕ) (out : List ℕ) → Makes (command.Write site tx key value) s out (world.write s tx key value)
+  commit : (tx s : ℕ) (out : List ℕ) → Makes (command.Commit tx) s out (world.commit s out tx)
+  abandon : (tx s : ℕ) (out : List ℕ) → Makes (command.Abandon tx) s out (world.abandon s out tx)
+  install : (site s : ℕ) (out : List ℕ) → Makes (command.Install site) s out (world.install s out)
+  report : (site s : ℕ) (out : List ℕ) → Makes (command.Report site) s out (world.report s out)
 
 -- What the line's effect leaves is what the list's step leaves at that site.
 pub record Steps (w : World) (c : Command) (s : ℕ) (out : List ℕ) (k : Call) : Type 0 where
@@ -104,7 +104,7 @@ at-own : {A : Type 0} (f : ℕ → A) (s : ℕ) (a : A) → upd f s a s ≡ a
 unfolding upd
 at-own f s a = rw (eq-eqb s s refl)
 
-pub steps : (w : World) (c : Command) (s : ℕ) (out : List ℕ) (k : Call) → Is c s out k → Steps w c s out k
+pub steps : (w : World) (c : Command) (s : ℕ) (out : List ℕ) (k : Call) → Makes c s out k → Steps w c s out k
 unfolding step siteStep logStep effectOf baseLeft listsLeft
 steps w c s out k (begin site _ _) =
     record { answer = refl; words = refl; site = at-own (w .site) s _; base = at-own (w .base) s _; lists = at-own (w .lists) s _ }

@@ -12,9 +12,9 @@ use kinds::sizes::OUTGOING;
 use kinds::sizes::SITES;
 use lines::Command;
 use own::own_call;
-use parts::front;
-use parts::part;
-use parts::part_mut;
+use pieces::front;
+use pieces::piece;
+use pieces::piece_mut;
 use spool::ITEM;
 ghost use mathlib.Core.Path.{_≡_};
 ghost use Prim.Native.Nat.{_+_, _<_};
@@ -48,10 +48,10 @@ fn in_place(
 ) -> Reply
     requires { ⌜ place < sizes.sites ⌝ }
 {
-    let w = part_mut(live, place * LIVE_WORDS, LIVE_WORDS);
-    let h = part_mut(history, place * HISTORY_WORDS, HISTORY_WORDS);
-    let b = part_mut(base, place * KEYS, KEYS);
-    let l = part_mut(lists, place * LISTS, LISTS);
+    let w = piece_mut(live, place * LIVE_WORDS, LIVE_WORDS);
+    let h = piece_mut(history, place * HISTORY_WORDS, HISTORY_WORDS);
+    let b = piece_mut(base, place * KEYS, KEYS);
+    let l = piece_mut(lists, place * LISTS, LISTS);
     own_call(p, c, w, h, b, l, out)
 }
 
@@ -84,10 +84,10 @@ fn take_in_place(
 {
     message(
         p,
-        part_mut(live, place * LIVE_WORDS, LIVE_WORDS),
-        part(history, place * HISTORY_WORDS, HISTORY_WORDS),
+        piece_mut(live, place * LIVE_WORDS, LIVE_WORDS),
+        piece(history, place * HISTORY_WORDS, HISTORY_WORDS),
         m,
-        part_mut(lists, place * LISTS, LISTS),
+        piece_mut(lists, place * LISTS, LISTS),
         out,
     )
 }

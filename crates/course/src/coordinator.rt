@@ -6,7 +6,7 @@ use crate::turn::quietly;
 use crate::turn::with_course;
 use crate::turn::with_decision;
 use crate::turn::with_heard;
-use crate::turn::with_mark;
+use crate::turn::with_queue_mark;
 use crate::turn::with_participant;
 use kinds::Answer;
 use kinds::Taken;
@@ -93,7 +93,7 @@ fn cast_yes(t: Turn, es: &[u64], out: &mut [u64]) -> Taken
     let mask = t.sub.course.mask;
     let own = t.counters.own;
     let clock = t.counters.clock;
-    let c = with_mark(t.sub.course, clock);
+    let c = with_queue_mark(t.sub.course, clock);
     let u = with_course(t, c);
     if live::all_heard(own, 0, mask) {
         return decide_step(u, out);

@@ -1,7 +1,7 @@
 // A participant's steps.
 use crate::send::send_to;
 use crate::turn::with_course;
-use crate::turn::with_mark;
+use crate::turn::with_queue_mark;
 use crate::turn::with_stage;
 use kinds::Taken;
 use kinds::Turn;
@@ -41,7 +41,7 @@ pub fn certified_step(t: Turn, to: u64, vote: u64, out: &mut [u64]) -> Taken
 {
     let clock = t.counters.clock;
     if vote == 0 {
-        let c = with_mark(t.sub.course, clock);
+        let c = with_queue_mark(t.sub.course, clock);
         let u = with_course(t, c);
         return send_to(u, VOTE, to, clock, 0, &[], out);
     }

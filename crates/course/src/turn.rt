@@ -23,7 +23,7 @@ ghost use Rattle.kinds.specs.Sizes as sizes;
 ghost use Rattle.kinds.specs.State.{noKeys, noSub};
 ghost use Rattle.rules.specs.Effect.{takenOf};
 ghost use Rattle.rules.specs.Course.{newSub, raise as raiseOf, takenFrom, channelSpent, isOutstanding, quietly as quietlyOf, withSubOf};
-ghost use Rattle.rules.specs.Course.{withCourseOf, withParticipant, withReply, withDecision, withMark, withRequest, withStage};
+ghost use Rattle.rules.specs.Course.{withCourseOf, withParticipant, withReply, withDecision, withQueueMark, withRequest, withStage};
 
 pub fn no_keys() -> Keys
     ensures { λ r. ⌜ r ≡ noKeys ⌝ }
@@ -198,8 +198,8 @@ pub fn with_decision(c: Course, number: u64) -> Course
     d
 }
 
-pub fn with_mark(c: Course, clock: u64) -> Course
-    ensures { λ r. ⌜ r ≡ withMark c clock ⌝ }
+pub fn with_queue_mark(c: Course, clock: u64) -> Course
+    ensures { λ r. ⌜ r ≡ withQueueMark c clock ⌝ }
 {
     let mut d = c;
     d.stage = QUEUED;

@@ -4,7 +4,7 @@ mod streams;
 
 use kinds::Answer;
 use kinds::reason::MALFORMED;
-use parts::put;
+use pieces::put;
 pub use sites::SiteDone;
 pub use sites::at_site;
 pub use streams::COPIES;

@@ -9,9 +9,9 @@ use kinds::Merger;
 use kinds::MergerOut;
 use kinds::sizes::COPY;
 use pages::is_refused;
-use parts::front;
-use parts::front_mut;
-use parts::part_mut;
+use pieces::front;
+use pieces::front_mut;
+use pieces::piece_mut;
 use pokes::poke_copy;
 use pokes::poke_merger;
 use verbs::Line;
@@ -121,5 +121,5 @@ pub fn at_copy(l: Line, lent: Lent, m: &[u64], copies: &mut [u64]) -> Done {
         return absent();
     }
     let at = (c - 1) as usize * COPY_PLACE;
-    copy_done(l, lent.copy, m, part_mut(copies, at, COPY_PLACE))
+    copy_done(l, lent.copy, m, piece_mut(copies, at, COPY_PLACE))
 }

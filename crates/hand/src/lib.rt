@@ -9,10 +9,10 @@ use kinds::sizes::RECORD_HEADER;
 use kinds::sizes::WRITE;
 use kinds::word;
 use numbers::coordinator_of;
-use parts::front;
-use parts::front_mut;
-use parts::part;
-use parts::put;
+use pieces::front;
+use pieces::front_mut;
+use pieces::piece;
+use pieces::put;
 use slices::copy_words;
 use slices::fill_words;
 use std::num::wrapping_add_u64;
@@ -52,12 +52,12 @@ fn load(hand: &mut [u64], now: usize, store: &[u64], at: usize) -> Held {
             found: false,
         };
     }
-    let n = parts::word(part(store, at, LABEL), 1);
+    let n = pieces::word(piece(store, at, LABEL), 1);
     if n > HAND as u64 {
         return has(now);
     }
-    let label = part(store, at, LABEL + n as usize);
-    let item = part(label, LABEL, n as usize);
+    let label = piece(store, at, LABEL + n as usize);
+    let item = piece(label, LABEL, n as usize);
     if hand.len() < item.len() {
         return has(now);
     }

@@ -3,9 +3,9 @@ use kinds::word::CHANNEL;
 use kinds::word::FROM;
 use kinds::word::SITE;
 use kinds::word::TO;
-use parts::part;
-use parts::put;
-use parts::word;
+use pieces::piece;
+use pieces::put;
+use pieces::word;
 use slices::copy_words;
 ghost use Prim.Native.Nat.{_+_, _≤_, _<_};
 ghost use lib.ListN.{length};
@@ -76,7 +76,7 @@ pub fn keep_letters(store: &mut [u64], used: usize, ws: &[u64]) -> usize {
         if n == 0 {
             break;
         }
-        last = keep(store, last, LETTER, part(ws, at, n));
+        last = keep(store, last, LETTER, piece(ws, at, n));
         at += n;
     }
     last

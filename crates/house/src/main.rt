@@ -1,8 +1,8 @@
 // The program `house` (H1 to H20): plays the script on standard input, or each file that is named as a house of its own.
 mod run;
 
-use desk::LOST;
-use desk::UNWRITTEN;
+use routing::LOST;
+use routing::UNWRITTEN;
 use libc::STDERR_FILENO;
 use pages::PAGE;
 use pages::flush;

@@ -6,13 +6,13 @@ use calls::LIVES;
 use calls::at_site;
 use calls::start_sites;
 use calls::take_at;
-use desk::Desk;
-use desk::answered;
-use desk::ended;
-use desk::next_ask;
-use desk::route::MERGER;
-use desk::settled;
-use desk::shown;
+use routing::Play;
+use routing::answered;
+use routing::ended;
+use routing::next_ask;
+use routing::route::MERGER;
+use routing::settled;
+use routing::shown;
 use kinds::Answer;
 use kinds::Core;
 use kinds::House;
@@ -39,7 +39,7 @@ ghost use lib.ListN.{length};
 ghost use Rattle.kinds.specs.Sizes as sizes;
 
 // What a line before an accepted `sites` leaves: the house, once it is accepted.
-fn opened(d: Desk, c: Command, page: &mut [u8; PAGE]) -> Desk {
+fn opened(d: Play, c: Command, page: &mut [u8; PAGE]) -> Play {
     if let Command::Sites(n) = c {
         let house = House { sites: n };
         if numbers::house_ok(house) {
@@ -51,7 +51,7 @@ fn opened(d: Desk, c: Command, page: &mut [u8; PAGE]) -> Desk {
     answered(d, page, Answer::Refused(MALFORMED))
 }
 
-fn opening(d: Desk, text: &mut [u8; TEXT], page: &mut [u8; PAGE]) -> Desk {
+fn opening(d: Play, text: &mut [u8; TEXT], page: &mut [u8; PAGE]) -> Play {
     let s = shown(d, page);
     if s.state != LINE {
         return s;
@@ -70,8 +70,8 @@ fn opening(d: Desk, text: &mut [u8; TEXT], page: &mut [u8; PAGE]) -> Desk {
 }
 
 // Reads up to an accepted `sites`.
-fn until_sites(fd: i32, text: &mut [u8; TEXT], page: &mut [u8; PAGE]) -> Desk {
-    let mut d = Desk {
+fn until_sites(fd: i32, text: &mut [u8; TEXT], page: &mut [u8; PAGE]) -> Play {
+    let mut d = Play {
         house: House { sites: 0 },
         input: Input { fd, at: 0, end: 0 },
         event: 0,
@@ -95,7 +95,7 @@ fn until_sites(fd: i32, text: &mut [u8; TEXT], page: &mut [u8; PAGE]) -> Desk {
 
 // Every line behind the accepted `sites`, with the house's sites and merger as they start.
 fn turns(
-    d: Desk,
+    d: Play,
     started: [Core; SITES],
     first: Merger,
     fd: i32,
@@ -108,18 +108,18 @@ fn turns(
     lists: &mut [u64; GATHERINGS],
     queues: &mut [u64; QUEUES],
     held: &mut [u64; HELD],
-) -> Desk
+) -> Play
     requires { ⌜ length started ≡ sizes.sites ⌝ }
 {
     let mut out = [0u64; OUTGOING];
     let mut item = [0u64; ITEM];
     let mut sites = started;
     let mut g = first;
-    let mut desk = d;
+    let mut play = d;
     let mut left = u64::MAX;
     while left > 0 {
         left -= 1;
-        let a = next_ask(desk, text, fd, store, &mut item, page);
+        let a = next_ask(play, text, fd, store, &mut item, page);
         let i = a.place;
         let c = a.command;
         if i < SITES {
@@ -132,32 +132,32 @@ fn turns(
             let p = o.core;
             sites[i] = p;
             let answer = o.answer;
-            desk = settled(a, answer, o.words, &out, fd, store, page);
+            play = settled(a, answer, o.words, &out, fd, store, page);
             continue;
         }
         if i == MERGER {
             let o = merged(a, g, fd, store, &item, queues, &mut out, page);
             let h = o.merger;
             g = h;
-            desk = o.desk;
+            play = o.play;
             continue;
         }
-        desk = copied(a, fd, store, &item, held, &out, page);
-        if desk.state != LINE {
+        play = copied(a, fd, store, &item, held, &out, page);
+        if play.state != LINE {
             break;
         }
     }
-    desk
+    play
 }
 
 // Everything behind the accepted `sites`.
 fn rest(
-    d: Desk,
+    d: Play,
     fd: i32,
     text: &mut [u8; TEXT],
     store: &mut [u64; STORE],
     page: &mut [u8; PAGE],
-) -> Desk {
+) -> Play {
     let mut live = [0u64; LIVES];
     let mut history = [0u64; HISTORIES];
     let mut base = [0u64; BASES];
@@ -186,7 +186,7 @@ fn rest(
 }
 
 // Plays the script that fd reads, with what is under way beyond memory in the file of `spare`.
-pub fn play(fd: i32, spare: i32, text: &mut [u8; TEXT], page: &mut [u8; PAGE]) -> Desk {
+pub fn play(fd: i32, spare: i32, text: &mut [u8; TEXT], page: &mut [u8; PAGE]) -> Play {
     let d = until_sites(fd, text, page);
     if d.state != LINE {
         return d;

@@ -208,7 +208,7 @@ pub fn install(
     let ok = valid::site_ok(p, live, history);
     let seats = p.seats;
     let place = least_place(ok, seats, live);
-    let due = queue::is_due(seats, place);
+    let due = queue::is_installable(seats, place);
     let code = install_code(ok, out.len(), base.len(), due, p.counters.installs);
     if code != 0 {
         return shell::refused(p, code);

@@ -5,7 +5,7 @@ use kinds::Value;
 use kinds::sizes::READS;
 use kinds::sizes::WRITES;
 use kinds::word;
-use numbers::site_of;
+use numbers::home_of;
 ghost use mathlib.Core.Path.{_≡_};
 ghost use Prim.Native.Nat.{_+_, _≤_};
 ghost use lib.ListN.{length};
@@ -55,7 +55,7 @@ fn keys_at_in(o: House, own: u64, w: &[u64], at: usize, n: usize) -> bool
 {
     let mut i: usize = 0;
     while i < n {
-        let site = site_of(o, w[at + i]);
+        let site = home_of(o, w[at + i]);
         if site != own {
             return false;
         }

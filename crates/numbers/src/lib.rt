@@ -6,7 +6,7 @@ use kinds::sizes::SITES;
 ghost use mathlib.Core.Path.{_≡_};
 ghost use Prim.Native.Nat.{_≤_, _<_};
 ghost use Rattle.laws.specs.Pair.{precedes as precedesOf};
-ghost use Rattle.rules.specs.House.{houseOk, isSite, siteOf, isKey, txOf, coordinatorOf, serialOf, isTx, maskOf, inMask, isMask};
+ghost use Rattle.rules.specs.House.{houseOk, isSite, homeOf, isKey, txOf, coordinatorOf, serialOf, isTx, maskOf, inMask, isMask};
 ghost use Rattle.rules.specs.House.{participants as participantsOf, repliesWanted};
 ghost use Rattle.kinds.specs.Sizes as sizes;
 
@@ -31,8 +31,8 @@ pub fn is_site(h: House, s: u64) -> bool
 }
 
 // The site where a key lives.
-pub fn site_of(h: House, key: u64) -> u64
-    ensures { λ r. ⌜ r ≡ siteOf h key ⌝ }
+pub fn home_of(h: House, key: u64) -> u64
+    ensures { λ r. ⌜ r ≡ homeOf h key ⌝ }
 {
     key / SITE_KEYS + 1
 }
@@ -40,7 +40,7 @@ pub fn site_of(h: House, key: u64) -> u64
 pub fn is_key(h: House, key: u64) -> bool
     ensures { λ r. ⌜ r ≡ isKey h key ⌝ }
 {
-    let site = site_of(h, key);
+    let site = home_of(h, key);
     let sites = h.sites;
     site <= sites
 }

@@ -19,7 +19,7 @@ use pages::PAGE;
 use pages::is_refused;
 use pages::say;
 use pages::say_with;
-use parts::front;
+use pieces::front;
 use script::Input;
 use script::LINE;
 use script::TEXT;

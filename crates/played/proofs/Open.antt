@@ -33,7 +33,7 @@ use Rattle.played.proofs.Playable.{reachable, playable, allPlayable}
 
 unfoldable pub Open : Type 0
 unfolding scan.firstBelow scan.allBelow scan.anyBelow scan.foldBelow pair.precedes digits.onesBelow overlay.overlay overlay.putAt
-    state.noKeys state.noSub state.noEntry house.houseOk house.isSite house.siteOf house.isKey house.txOf house.coordinatorOf house.serialOf
+    state.noKeys state.noSub state.noEntry house.houseOk house.isSite house.homeOf house.isKey house.txOf house.coordinatorOf house.serialOf
     house.isTx house.maskOf house.inMask house.isMask house.participants house.repliesWanted house.wholeHouse message.entryOffset
     message.messageWords message.entryCount message.messageHead message.messageEntries message.toCoordinator message.coordinatorEnd
     message.carriesClock message.argumentOk message.mostEntries message.endsOk message.headOk message.entryBefore message.entryOk
@@ -44,11 +44,11 @@ unfolding scan.firstBelow scan.allBelow scan.anyBelow scan.foldBelow pair.preced
     keys.sortedCount keys.sortedWords keys.keysAt keys.keysOk live.freePlace live.isPartOf live.placeOf live.isHeld live.otherHolds
     live.keyHeld live.isPrepared live.isQueued live.allHeard history.remembered history.forgotten history.isForgotten history.within
     history.backwards history.newer history.versionOf history.isNewer history.recallPlace history.forgetInto queue.queuedBefore
-    queue.comesFirst queue.betterPlace queue.leastQueued queue.isDue queue.stateBound queue.stateNumber valid.courseOk valid.subOk
-    valid.entryOk valid.countersOk valid.liveOk valid.historyOk valid.siteOk valid.heldOk valid.gatheredOk valid.listsOk valid.handedOk
+    queue.comesFirst queue.betterPlace queue.leastQueued queue.isInstallable queue.stateBound queue.stateNumber valid.courseOk valid.subOk
+    valid.slotOk valid.countersOk valid.liveOk valid.historyOk valid.siteOk valid.heldOk valid.gatheredOk valid.listsOk valid.handedOk
     effect.takenOf effect.turnAt effect.settle course.newSub course.raise course.headOf course.channelSpent
     course.sendTo course.sendAll course.quietly course.withParticipant course.enlistStep course.isOutstanding course.withReply
-    course.abortStep course.withDecision course.commitStep course.decideStep course.withMark course.castStep course.withRequest
+    course.abortStep course.withDecision course.commitStep course.decideStep course.withQueueMark course.castStep course.withRequest
     course.prepareStep course.voteDecides course.voteStep course.withStage course.preparedStep course.certifiedStep send.isRecipient
     send.headTo send.wordsTo send.messagesTo send.stepRecipients send.countsLow begin.nextTx begin.beginCode begin.begun begin.beginOf
     access.accessCode access.readCode access.readVersion access.readAt access.readOf access.writeCode access.writeCodeAt access.written

@@ -3,7 +3,7 @@ use mathlib.Core.Path.{_≡_}
 use mathlib.Core.Bool.{Bool, true, false}
 use mathlib.Core.List.{List, [], _∷_, _++_}
 use Rattle.laws.specs.Choice.{pick, pick-same}
-use Rattle.rules.specs.World.{Is, here, there}
+use Rattle.rules.specs.World.{Member, here, there}
 use Rattle.rules.specs.Claim.{Before}
 use Rattle.rules.specs.Book.{Fact}
 
@@ -16,17 +16,17 @@ unfoldable pub passesBefore : (Fact → Bool) → (Fact → Bool) → List Fact 
 passesBefore f t [] = false
 passesBefore f t (x ∷ l) = pick (pick (f x) (passes t l) false) true (passesBefore f t l)
 
-passes-is : (t : Fact → Bool) {y : Fact} {l : List Fact} → t y ≡ true → Is y l → passes t l ≡ true
+passes-is : (t : Fact → Bool) {y : Fact} {l : List Fact} → t y ≡ true → Member y l → passes t l ≡ true
 unfolding passes
 passes-is t e here = rw e
 passes-is t e (there i) = rw (passes-is t e i, pick-same)
 
-passes-behind : (t : Fact → Bool) {y : Fact} (p : List Fact) {q : List Fact} → t y ≡ true → Is y q → passes t (p ++ q) ≡ true
+passes-behind : (t : Fact → Bool) {y : Fact} (p : List Fact) {q : List Fact} → t y ≡ true → Member y q → passes t (p ++ q) ≡ true
 unfolding passes
 passes-behind t [] e j = passes-is t e j
 passes-behind t (x ∷ p) e j = rw (passes-behind t p e j, pick-same)
 
-apart-before : (f t : Fact → Bool) {x y : Fact} {p : List Fact} (q : List Fact) → f x ≡ true → t y ≡ true → Is x p → Is y q
+apart-before : (f t : Fact → Bool) {x y : Fact} {p : List Fact} (q : List Fact) → f x ≡ true → t y ≡ true → Member x p → Member y q
     → passesBefore f t (p ++ q) ≡ true
 unfolding passesBefore
 apart-before f t {p = x ∷ p} q e d here j = rw (e, passes-behind t p d j)

@@ -9,7 +9,7 @@ use borrow.Author.Tests.{ltb-true, leb-true}
 use lib.ListN.{length, getD}
 use lib.Dec.{ltb, leb}
 use Rattle.laws.specs.Choice.{pick, picked-left, picked-right}
-use Rattle.rules.specs.World.{World, Is, here, there, Reached, Handed, Lawful, step}
+use Rattle.rules.specs.World.{World, Member, here, there, Reached, Handed, Lawful, step}
 use Rattle.played.specs.Script.{Line, begin, enlist, read, write, commit, abandon, take, install, report, merge, emit, replay, value}
 use Rattle.played.specs.Script.{sentAt, callOf, callsFrom}
 
@@ -37,7 +37,7 @@ unfoldable pub allPlayable : World → List Line → Bool
 allPlayable w [] = true
 allPlayable w (l ∷ ls) = pick (playable w l) (allPlayable (step w (callOf w l) .world) ls) false
 
-pub is-at : {A : Type 0} (l : List A) (i : ℕ) (d : A) → i < length l → Is (getD l i d) l
+pub is-at : {A : Type 0} (l : List A) (i : ℕ) (d : A) → i < length l → Member (getD l i d) l
 is-at [] i d h = absurd (omega arith)
 is-at (a ∷ l) zero d h = here
 is-at (a ∷ l) (suc i) d h = there (is-at l i d (omega arith))

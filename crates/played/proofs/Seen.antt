@@ -8,7 +8,7 @@ use borrow.Author.Tests.{ltb-true}
 use lib.ListN.{length, getD, take, drop}
 use lib.Dec.{ltb, eqb, lit<}
 use Rattle.laws.specs.Choice.{every}
-use Rattle.rules.specs.World.{Is}
+use Rattle.rules.specs.World.{Member}
 use Rattle.rules.specs.Book.{Fact, began, used, wrote, committed, installed, replayed}
 use Rattle.rules.specs.Claim.{Demand3, Committed, Dependent, on-write-of-other, Parts, Saw, NoneHalfSeen}
 use Rattle.rules.proofs.Theorem.{demand3}
@@ -22,7 +22,7 @@ use Rattle.played.proofs.Order.{passes, passesBefore, before-passes}
 abbrev fact : List Fact → ℕ → Fact
 fact b i = getD b i (replayed 0 0 0)
 
-stands : (b : List Fact) (i : ℕ) → ltb i (length b) ≡ true → Is (fact b i) b
+stands : (b : List Fact) (i : ℕ) → ltb i (length b) ≡ true → Member (fact b i) b
 stands b i e = is-at b i (replayed 0 0 0) (ltb-true i (length b) e)
 
 pub later-committed : Committed secondBook later 3 2

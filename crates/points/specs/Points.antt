@@ -12,7 +12,7 @@ use Rattle.kinds.specs.Stage as stage
 use Rattle.kinds.specs.declared.Answer.{Answer}
 use Rattle.kinds.specs.declared.Sub.{Sub}
 use Rattle.kinds.specs.State.{noSub}
-use Rattle.rules.specs.House.{siteOf, maskOf, wholeHouse}
+use Rattle.rules.specs.House.{homeOf, maskOf, wholeHouse}
 use Rattle.rules.specs.Keys.{dependent}
 use Rattle.rules.specs.Begin.{beginOf}
 use Rattle.rules.specs.Access.{readOf, writeOf}
@@ -46,7 +46,7 @@ installs live = said (installOf (queueing live) sizes.part (replicate sizes.keys
 
 unfoldable pub points : List Point
 points =
-    point (siteOf wholeHouse 255 ∷ siteOf wholeHouse 256 ∷ siteOf wholeHouse 2047 ∷ []) (1 ∷ 2 ∷ 8 ∷ [])
+    point (homeOf wholeHouse 255 ∷ homeOf wholeHouse 256 ∷ homeOf wholeHouse 2047 ∷ []) (1 ∷ 2 ∷ 8 ∷ [])
     ∷ point (said (readOf (freshSite 8 8) (replicate sizes.keys 0) 34359738369 2048 .answer)) (2 ∷ 2 ∷ [])
     ∷ point (said (beginOf (freshSite 2 1) .answer)) (0 ∷ 4294967297 ∷ [])
     ∷ point (said (beginOf (freshSite 2 2) .answer)) (0 ∷ 8589934593 ∷ [])

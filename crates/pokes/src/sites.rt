@@ -16,7 +16,7 @@ use kinds::sizes::SITES;
 use kinds::sizes::SLOT;
 use kinds::sizes::WRITES;
 use kinds::word;
-use parts::put;
+use pieces::put;
 use verbs::Line;
 use verbs::verb;
 ghost use Prim.Native.Nat.{_+_, _≤_, _<_};

@@ -6,7 +6,7 @@ use kinds::Source;
 use kinds::sizes::COPY;
 use kinds::sizes::SITE_QUEUE;
 use kinds::sizes::SITES;
-use parts::put;
+use pieces::put;
 use verbs::Line;
 use verbs::verb;
 

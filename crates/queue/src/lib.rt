@@ -12,7 +12,7 @@ ghost use mathlib.Core.List.{List};
 ghost use Prim.Native.Nat.{ℕ, _-_, min};
 ghost use lib.ListN.{length};
 ghost use Rattle.kinds.specs.Sizes as sizes;
-ghost use Rattle.rules.specs.Queue.{comesFirst, leastQueued, isDue, stateBound, stateNumber};
+ghost use Rattle.rules.specs.Queue.{comesFirst, leastQueued, isInstallable, stateBound, stateNumber};
 ghost use Rattle.lent.specs.Layout.{liveOf};
 ghost use Rattle.queue.specs.Asked.{asked};
 
@@ -54,8 +54,8 @@ pub fn least_queued(seats: [Seat; LIVE], live: &[u64]) -> usize
 }
 
 // Whether the part at `place` installs: it is decided.
-pub fn is_due(seats: [Seat; LIVE], place: usize) -> bool
-    ensures { λ r. ⌜ ((w : List ℕ) → r ≡ isDue (liveOf seats w) place) ⌝ }
+pub fn is_installable(seats: [Seat; LIVE], place: usize) -> bool
+    ensures { λ r. ⌜ ((w : List ℕ) → r ≡ isInstallable (liveOf seats w) place) ⌝ }
 {
     if LIVE <= place {
         return false;

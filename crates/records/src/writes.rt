@@ -3,7 +3,7 @@ use kinds::House;
 use kinds::sizes::KEYS;
 use kinds::sizes::WRITE;
 use kinds::word;
-use numbers::site_of;
+use numbers::home_of;
 ghost use mathlib.Core.Path.{_≡_};
 ghost use Prim.Native.Nat.{_+_, _*_, _≤_, _<_};
 ghost use lib.ListN.{length};
@@ -30,7 +30,7 @@ fn part_write_ok(o: House, site: u64, ws: &[u64], i: usize) -> bool
         return false;
     }
     let key = ws[WRITE * i + word::WRITE_KEY];
-    let home = site_of(o, key);
+    let home = home_of(o, key);
     home == site
 }
 

@@ -15,7 +15,7 @@ use kinds::sizes::LISTS;
 use kinds::sizes::LIVE_WORDS;
 use kinds::sizes::OUTGOING;
 use kinds::sizes::QUEUES;
-use parts::front;
+use pieces::front;
 
 pub const PAIR: usize = 2;
 

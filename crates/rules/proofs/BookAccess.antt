@@ -11,7 +11,7 @@ use Rattle.laws.specs.Choice.{by-test}
 use Rattle.kinds.specs.State.{Value}
 use Rattle.kinds.specs.declared.Keys.{Keys}
 use Rattle.rules.specs.Keys.{wroteKey, wroteValue, readKey}
-use Rattle.rules.specs.World.{Is, here, there}
+use Rattle.rules.specs.World.{Member, here, there}
 use Rattle.rules.specs.Book as book
 use Rattle.rules.specs.Book.{Fact}
 use Rattle.rules.specs.Claim.{LastWrite}
@@ -24,23 +24,23 @@ use Rattle.rules.proofs.BookKept.{commits-kept, begins-kept, installs-k
 -- What an access tells: uses and writes of t at keys of s, which its keys have; and they keep what they had, but for a key written now.
 pub record Tells (sites s t : ℕ) (old new : Keys) (fs : List Fact) : Type 0 where
   pub kind : OfKind 1 fs
-  pub used : (u k : ℕ) → Is (book.used u k) fs → (u ≡ t) × (home sites k ≡ s) × UsedIn new k
-  pub wrote : (u k : ℕ) (v : Value) → Is (book.wrote u k v) fs → (u ≡ t) × (home sites k ≡ s) × (wroteKey new k ≡ true)
+  pub used : (u k : ℕ) → Member (book.used u k) fs → (u ≡ t) × (home sites k ≡ s) × UsedIn new k
+  pub wrote : (u k : ℕ) (v : Value) → Member (book.wrote u k v) fs → (u ≡ t) × (home sites k ≡ s) × (wroteKey new k ≡ true)
   pub read : (k : ℕ) → readKey old k ≡ true → readKey new k ≡ true
   pub last : (b : List Fact) (k : ℕ) → wroteKey new k ≡ true
       → (wroteKey old k ≡ true → (home sites k ≡ s) × LastWrite b t k (wroteValue old k))
       → (home sites k ≡ s) × LastWrite (b ++ fs) t k (wroteValue new k)
 
-is-wrote : {u t k j n : ℕ} {x v : Value} → Is (book.wrote u k x) (book.used t n ∷ book.wrote t j v ∷ []) → (u ≡ t) × (k ≡ j)
+is-wrote : {u t k j n : ℕ} {x v : Value} → Member (book.wrote u k x) (book.used t n ∷ book.wrote t j v ∷ []) → (u ≡ t) × (k ≡ j)
 is-wrote (there here) = (refl, refl)
 
-none-wrote : {u t k n : ℕ} {x : Value} → Is (book.wrote u k x) (book.used t n ∷ []) → ⊥
+none-wrote : {u t k n : ℕ} {x : Value} → Member (book.wrote u k x) (book.used t n ∷ []) → ⊥
 none-wrote (there i) = none-is i
 
-is-used : {u t k j : ℕ} → Is (book.used u k) (book.used t j ∷ []) → (u ≡ t) × (k ≡ j)
+is-used : {u t k j : ℕ} → Member (book.used u k) (book.used t j ∷ []) → (u ≡ t) × (k ≡ j)
 is-used here = (refl, refl)
 
-is-used-wrote : {u t k j n : ℕ} {v : Value} → Is (book.used u k) (book.used t j ∷ book.wrote t n v ∷ []) → (u ≡ t) × (k ≡ j)
+is-used-wrote : {u t k j n : ℕ} {v : Value} → Member (book.used u k) (book.used t j ∷ book.wrote t n v ∷ []) → (u ≡ t) × (k ≡ j)
 is-used-wrote here = (refl, refl)
 is-used-wrote (there (there i)) = absurd (none-is i)
 
@@ -96,14 +96,14 @@ module _ {sites : ℕ} {b fs : List Fact} {p q : Protocol} {s t : ℕ} {new : Ke
       → (q .has (home sites k) u ≡ true) × P (q .keys (home sites k) u)
   now P k u (e, h, x) = rw (c .has, c .keys, e, h) (c .begun, rw (upd₂-same (p .keys) s t new) x)
 
-  wrote : (u k : ℕ) (v : Value) → Is (book.wrote u k v) b ⊎ Is (book.wrote u k v) fs
+  wrote : (u k : ℕ) (v : Value) → Member (book.wrote u k v) b ⊎ Member (book.wrote u k v) fs
       → (q .has (home sites k) u ≡ true) × (wroteKey (q .keys (home sites k) u) k ≡ true)
   wrote u k v (inl x) =
       let (h, y) = i .writes .wrote u k v x in
       (rw (c .has) h, still (λ z. wroteKey z k ≡ true) (w k) (home sites k) u y)
   wrote u k v (inr x) = now (λ z. wroteKey z k ≡ true) k u (a .wrote u k v x)
 
-  used : (u k : ℕ) → Is (book.used u k) b ⊎ Is (book.used u k) fs → (q .has (home sites k) u ≡ true) × UsedIn (q .keys (home sites k) u) k
+  used : (u k : ℕ) → Member (book.used u k) b ⊎ Member (book.used u k) fs → (q .has (home sites k) u ≡ true) × UsedIn (q .keys (home sites k) u) k
   used u k (inl x) =
       let (h, y) = i .writes .used u k x in
       (rw (c .has) h, still (λ z. UsedIn z k) (⊎-elim (λ e. inl (a .read k e)) (λ e. inr (w k e))) (home sites k) u y)

@@ -10,7 +10,7 @@ use Rattle.kinds.specs.declared.Keys.{Keys}
 use Rattle.kinds.specs.State.{noKeys}
 use Rattle.rules.specs.KeysLaws.{none-written}
 use Rattle.rules.specs.Keys.{wroteKey, wroteValue}
-use Rattle.rules.specs.World.{Is, here}
+use Rattle.rules.specs.World.{Member, here}
 use Rattle.rules.specs.Book as book
 use Rattle.rules.specs.Book.{Fact}
 use Rattle.rules.specs.Claim.{Before, LastWrite}
@@ -23,7 +23,7 @@ use Rattle.rules.proofs.Booked.{home, PairAt, UsedIn, Begins, Writes, B
 use Rattle.rules.proofs.BookKept.{commits-kept, installs-kept}
 
 -- the one fact told
-is-began : {j u s t : ℕ} → Is (book.began j u) (book.began s t ∷ []) → (j ≡ s) × (u ≡ t)
+is-began : {j u s t : ℕ} → Member (book.began j u) (book.began s t ∷ []) → (j ≡ s) × (u ≡ t)
 is-began here = (refl, refl)
 
 -- t's part begins at s, where none had begun
@@ -45,7 +45,7 @@ module _ {sites : ℕ} {b : List Fact} {p q : Protocol} {s t : ℕ} (c : BeganAs
   -- it had not begun before
   once : (j u : ℕ)
       → Before (book.began j u) (book.began j u) b
-      ⊎ ((Is (book.began j u) b × Is (book.began j u) l) ⊎ Before (book.began j u) (book.began j u) l) → ⊥
+      ⊎ ((Member (book.began j u) b × Member (book.began j u) l) ⊎ Before (book.began j u) (book.began j u) l) → ⊥
   once j u (inl x) = i .begins .once j u x
   once j u (inr (inl (x, y))) = let (d, e) = is-began y in c .none (rw (d, e) at (i .begins .began j u x))
   once j u (inr (inr x)) = not-alone x
@@ -115,7 +115,7 @@ module _ {sites : ℕ} {b : List Fact} {p q : Protocol} {s t : ℕ} (c : BeganAs
 
   seen : (j u n e : ℕ)
       → Before (book.installed j n e) (book.began j u) b
-      ⊎ ((Is (book.installed j n e) b × Is (book.began j u) l) ⊎ Before (book.installed j n e) (book.began j u) l)
+      ⊎ ((Member (book.installed j n e) b × Member (book.began j u) l) ⊎ Before (book.installed j n e) (book.began j u) l)
       → Sight j u n e
   seen j u n e (inl x) = let (m, d, z) = i .sees .seen j u n e x in sight j u n e m (i .begins .began j u (before-second x)) d z
   seen j u n e (inr (inl (x, y))) =

@@ -9,7 +9,7 @@ use Rattle.laws.specs.Choice.{unset}
 use Rattle.laws.specs.Pair.{rank, precedes, precedes-rank, not-precedes-rank}
 use Rattle.kinds.specs.State.{Value}
 use Rattle.kinds.specs.declared.House.{House}
-use Rattle.rules.specs.House.{coordinatorOf, siteOf}
+use Rattle.rules.specs.House.{coordinatorOf, homeOf}
 use Rattle.rules.specs.Keys.{wroteValue}
 use Rattle.rules.specs.Copy.{copyNumber, copyCoordinator}
 use Rattle.rules.specs.World.{World}
@@ -25,7 +25,7 @@ pub record BookIs (o : House) (b : List Fact) (p : Protocol) : Type 0 where
   pub commit : (t n c : ℕ) → Committed b t n c → (0 < p .num t) × (p .num t ≡ n) × (coordinatorOf t ≡ c)
   pub committed : (t : ℕ) → 0 < p .num t → Committed b t (p .num t) (coordinatorOf t)
   pub wrote : (t k : ℕ) → 0 < p .num t → Wrote b t k → WroteIn p o t k
-  pub last : (t k : ℕ) → 0 < p .num t → WroteIn p o t k → LastWrite b t k (wroteValue (p .keys (siteOf o k) t) k)
+  pub last : (t k : ℕ) → 0 < p .num t → WroteIn p o t k → LastWrite b t k (wroteValue (p .keys (homeOf o k) t) k)
   pub low : (t : ℕ) → 0 < p .num t → coordinatorOf t < 16
 
 pub up-to : (n c m d : ℕ) → c < 16 → d < 16 → rank m d ≤ rank n c → UpTo n c m d

@@ -10,7 +10,7 @@ use lib.Seq.{getD-append-seam}
 use Rattle.kinds.specs.declared.Entry.{Entry}
 use Rattle.kinds.specs.State.{pastEntry}
 use Rattle.rules.specs.House.{coordinatorOf}
-use Rattle.rules.specs.World.{Is, here, upd}
+use Rattle.rules.specs.World.{Member, here, upd}
 use Rattle.rules.specs.Book as book
 use Rattle.rules.specs.Book.{Fact}
 use Rattle.rules.specs.Claim.{Before}
@@ -32,7 +32,7 @@ pub record DecidedAs (p q : Protocol) (t n : ℕ) : Type 0 where
   pub num : q .num ≡ upd (p .num) t n
   pub parts : (j : ℕ) → inst q j ≡ inst p j
 
-is-committed : {u m d t n c : ℕ} → Is (book.committed u m d) (book.committed t n c ∷ []) → (u ≡ t) × (m ≡ n) × (d ≡ c)
+is-committed : {u m d t n c : ℕ} → Member (book.committed u m d) (book.committed t n c ∷ []) → (u ≡ t) × (m ≡ n) × (d ≡ c)
 is-committed here = (refl, refl, refl)
 
 module _ {sites : ℕ} {b : List Fact} {p q : Protocol} {t n : ℕ} (c : DecidedAs p q t n) (i : Booked sites b p) where
@@ -42,7 +42,7 @@ module _ {sites : ℕ} {b : List Fact} {p q : Protocol} {t n : ℕ} (c : Decided
   decided-kind : OfKind 2 told
   decided-kind = all-one refl
 
-  commit : (u m d : ℕ) → Is (book.committed u m d) b ⊎ Is (book.committed u m d) told
+  commit : (u m d : ℕ) → Member (book.committed u m d) b ⊎ Member (book.committed u m d) told
       → (0 < q .num u) × (q .num u ≡ m) × (coordinatorOf u ≡ d)
   commit u m d (inl x) =
       let (z, e, f) = i .commits .commit u m d x in
@@ -55,9 +55,9 @@ module _ {sites : ℕ} {b : List Fact} {p q : Protocol} {t n : ℕ} (c : Decided
       let y : q .num u ≡ n = rw (c .num, e) (upd-same (p .num) t n) in
       (rw y (c .positive), y ∙ sym f, rw (e, g))
 
-  committed : (u : ℕ) → 0 < q .num u → Is (book.committed u (q .num u) (coordinatorOf u)) (b ++ told)
+  committed : (u : ℕ) → 0 < q .num u → Member (book.committed u (q .num u) (coordinatorOf u)) (b ++ told)
   committed = rw (c .num)
-      (upd-cases (λ u k. 0 < k → Is (book.committed u k (coordinatorOf u)) (b ++ told)) (p .num) t n (λ z. is-last b)
+      (upd-cases (λ u k. 0 < k → Member (book.committed u k (coordinatorOf u)) (b ++ told)) (p .num) t n (λ z. is-last b)
       (λ u o z. is-kept told (i .commits .committed u z)))
 
   pub booked-decided : Booked sites (b ++ (book.committed t n (coordinatorOf t) ∷ [])) q
@@ -80,7 +80,7 @@ pub record InstalledAs (p q : Protocol) (s : ℕ) (e : Entry) : Type 0 where
   pub num : q .num ≡ p .num
   pub log : q .log ≡ upd (p .log) s (p .log s ++ (rPart e ∷ []))
 
-is-installed : {j m d s n c : ℕ} → Is (book.installed j m d) (book.installed s n c ∷ []) → (j ≡ s) × (m ≡ n) × (d ≡ c)
+is-installed : {j m d s n c : ℕ} → Member (book.installed j m d) (book.installed s n c ∷ []) → (j ≡ s) × (m ≡ n) × (d ≡ c)
 is-installed here = (refl, refl, refl)
 
 -- the m-th of a list of installs has this pair
@@ -107,7 +107,7 @@ module _ {sites : ℕ} {b : List Fact} {p q : Protocol} {s : ℕ} {e : Entry} (c
   new : inst q s ≡ inst p s ++ (e ∷ [])
   new = rw (c .log, upd-same (p .log) s (p .log s ++ (rPart e ∷ []))) (parts-append (p .log s) (rPart e ∷ []))
 
-  installed : (j n d : ℕ) → Is (book.installed j n d) b ⊎ Is (book.installed j n d) fact
+  installed : (j n d : ℕ) → Member (book.installed j n d) b ⊎ Member (book.installed j n d) fact
       → (m : ℕ) × (m < length (inst q j)) × PairAt q j m n d
   installed j n d (inl x) =
       let (m, h, y) = i .installs .installed j n d x in
@@ -120,17 +120,17 @@ module _ {sites : ℕ} {b : List Fact} {p q : Protocol} {s : ℕ} {e : Entry} (c
         rw (getD-append-seam (inst p s) e [] pastEntry) (sym g, sym h),
       )
 
-  installs : (n d j m : ℕ) → m < length (inst q j) → PairAt q j m n d → Is (book.installed j n d) (b ++ fact)
+  installs : (n d j m : ℕ) → m < length (inst q j) → PairAt q j m n d → Member (book.installed j n d) (b ++ fact)
   installs n d = rw (c .log)
-      (inst-cases p (λ j l. (m : ℕ) → m < length l → PairIn l m n d → Is (book.installed j n d) (b ++ fact)) s e
-      (last-cases (λ m a. (a .number ≡ n) × (coordinatorOf (a .tx) ≡ d) → Is (book.installed s n d) (b ++ fact)) (inst p s) e pastEntry
+      (inst-cases p (λ j l. (m : ℕ) → m < length l → PairIn l m n d → Member (book.installed j n d) (b ++ fact)) s e
+      (last-cases (λ m a. (a .number ≡ n) × (coordinatorOf (a .tx) ≡ d) → Member (book.installed s n d) (b ++ fact)) (inst p s) e pastEntry
       (λ m h y. is-kept fact (i .installs .installs s m n d h y)) (λ y. rw (← y .0, ← y .1) (is-last b)))
       (λ j m h y. is-kept fact (i .installs .installs j m n d h y)))
 
   -- its pair was not installed here before
   once : (j n d : ℕ)
       → Before (book.installed j n d) (book.installed j n d) b
-      ⊎ ((Is (book.installed j n d) b × Is (book.installed j n d) fact) ⊎ Before (book.installed j n d) (book.installed j n d) fact) → ⊥
+      ⊎ ((Member (book.installed j n d) b × Member (book.installed j n d) fact) ⊎ Before (book.installed j n d) (book.installed j n d) fact) → ⊥
   once j n d (inl x) = i .installs .once j n d x
   once j n d (inr (inl (x, y))) =
       let (f, g, h) = is-installed y in

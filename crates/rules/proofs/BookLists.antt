@@ -6,31 +6,31 @@ use mathlib.Core.List.{List, [], _∷_, _++_, append-assoc}
 use native.Mathlib.Omega.{arith}
 use lib.ListN.{length}
 use Rattle.kinds.specs.State.{Value}
-use Rattle.rules.specs.World.{Is, here, there}
+use Rattle.rules.specs.World.{Member, here, there}
 use Rattle.rules.specs.Book as book
 use Rattle.rules.specs.Book.{Fact}
 use Rattle.rules.specs.Claim.{Before, LastWrite}
 use Rattle.rules.proofs.Tables.{All, all-is, is-append}
 
 -- What stands in a list.
-pub none-is : {A : Type 0} {a : A} → Is a [] → ⊥
+pub none-is : {A : Type 0} {a : A} → Member a [] → ⊥
 none-is = elim [ ]
 
-pub is-cases : {A : Type 0} {a x : A} {l : List A} → Is a (x ∷ l) → (a ≡ x) ⊎ Is a l
+pub is-cases : {A : Type 0} {a x : A} {l : List A} → Member a (x ∷ l) → (a ≡ x) ⊎ Member a l
 is-cases here = inl refl
 is-cases (there i) = inr i
 
 -- in one with another before or behind it
-pub is-kept : {A : Type 0} {a : A} {b : List A} (l : List A) → Is a b → Is a (b ++ l)
+pub is-kept : {A : Type 0} {a : A} {b : List A} (l : List A) → Member a b → Member a (b ++ l)
 is-kept l here = here
 is-kept l (there i) = there (is-kept l i)
 
-pub is-behind : {A : Type 0} {a : A} (b : List A) {l : List A} → Is a l → Is a (b ++ l)
+pub is-behind : {A : Type 0} {a : A} (b : List A) {l : List A} → Member a l → Member a (b ++ l)
 is-behind [] i = i
 is-behind (x ∷ b) i = there (is-behind b i)
 
 -- the last of a list with one more
-pub is-last : {A : Type 0} {a : A} (b : List A) → Is a (b ++ (a ∷ []))
+pub is-last : {A : Type 0} {a : A} (b : List A) → Member a (b ++ (a ∷ []))
 is-last b = is-behind b here
 
 -- Facts by kind: a read or a write tells those of one kind, and so does every other move.
@@ -46,11 +46,11 @@ abbrev pub OfKind : ℕ → List Fact → Type 0
 OfKind k = All (λ f. factKind f ≡ k)
 
 -- behind the book there are only facts of another kind
-pub old : {f : Fact} {k : ℕ} (b l : List Fact) → OfKind k l → (factKind f ≡ k → ⊥) → Is f (b ++ l) → Is f b
+pub old : {f : Fact} {k : ℕ} (b l : List Fact) → OfKind k l → (factKind f ≡ k → ⊥) → Member f (b ++ l) → Member f b
 old b l a n i = ⊎-elim (λ j. j) (λ j. absurd (n (all-is a j))) (is-append b l i)
 
 -- Before.
-pub before-second : {f g : Fact} {b : List Fact} → Before f g b → Is g b
+pub before-second : {f g : Fact} {b : List Fact} → Before f g b → Member g b
 before-second h = rw (h .split) (is-behind (h .front) (h .second))
 
 pub before-kept : {f g : Fact} {b : List Fact} (l : List Fact) → Before f g b → Before f g (b ++ l)
@@ -63,14 +63,14 @@ before-kept l h =
       second = is-kept l (h .second);
     }
 
-pub before-here : {f g : Fact} {b l : List Fact} → Is f b → Is g l → Before f g (b ++ l)
+pub before-here : {f g : Fact} {b l : List Fact} → Member f b → Member g l → Before f g (b ++ l)
 before-here {b = b} {l = l} i j = record { front = b; rest = l; split = refl; first = i; second = j }
 
 -- where the first stands in a list, and the second behind it, each may stand in either part
 abbrev Either : Fact → Fact → List Fact → List Fact → Type 0
-Either f g b l = Before f g b ⊎ ((Is f b × Is g l) ⊎ Before f g l)
+Either f g b l = Before f g b ⊎ ((Member f b × Member g l) ⊎ Before f g l)
 
-parted : {f g : Fact} (b l p q : List Fact) → b ++ l ≡ p ++ q → Is f p → Is g q → Either f g b l
+parted : {f g : Fact} (b l p q : List Fact) → b ++ l ≡ p ++ q → Member f p → Member g q → Either f g b l
 parted [] l p q e i j = inr (inr (record { front = p; rest = q; split = e; first = i; second = j }))
 parted (x ∷ b) l [] q e i j = absurd (none-is i)
 parted {f} {g} (x ∷ b) l (y ∷ p) q e i j =
@@ -97,7 +97,7 @@ parted {f} {g} (x ∷ b) l (y ∷ p) q e i j =
     later (inr (inl (m, n))) = inr (inl (there m, n))
     later (inr (inr h)) = inr (inr h)
 
-    first : f ≡ x → Is g b ⊎ Is g l → Either f g (x ∷ b) l
+    first : f ≡ x → Member g b ⊎ Member g l → Either f g (x ∷ b) l
     first z (inl n) = rw z (inl (before-here {b = x ∷ []} here n))
     first z (inr n) = rw z (inr (inl (here, n)))
 
@@ -107,14 +107,14 @@ before-append b l h = parted b l (h .front) (h .rest) (h .split) (h .first) (h .
 pub not-alone : {f g x : Fact} → Before f g (x ∷ []) → ⊥
 not-alone {f} {g} {x} h = go (h .front) (h .rest) (h .split) (h .first) (h .second)
   where
-    go : (p q : List Fact) → x ∷ [] ≡ p ++ q → Is f p → Is g q → ⊥
+    go : (p q : List Fact) → x ∷ [] ≡ p ++ q → Member f p → Member g q → ⊥
     go [] q e i j = none-is i
     go (y ∷ []) [] e i j = none-is j
     go (y ∷ []) (z ∷ q) e i j = omega (arith, ap (λ (l : List Fact). length l) e)
     go (y ∷ u ∷ p) q e i j = omega (arith, ap (λ (l : List Fact). length l) e)
 
 -- where no second stands behind, it stood so before
-pub before-old : {f g : Fact} (b l : List Fact) → (Is g l → ⊥) → Before f g (b ++ l) → Before f g b
+pub before-old : {f g : Fact} (b l : List Fact) → (Member g l → ⊥) → Before f g (b ++ l) → Before f g b
 before-old {f} {g} b l n h = go (before-append b l h)
   where
     go : Either f g b l → Before f g b
@@ -123,7 +123,7 @@ before-old {f} {g} b l n h = go (before-append b l h)
     go (inr (inr k)) = absurd (n (before-second k))
 
 -- The last write.
-pub last-kept : {t k : ℕ} {v : Value} {b : List Fact} (l : List Fact) → ((u : Value) → Is (book.wrote t k u) l → ⊥) → LastWrite b t k v
+pub last-kept : {t k : ℕ} {v : Value} {b : List Fact} (l : List Fact) → ((u : Value) → Member (book.wrote t k u) l → ⊥) → LastWrite b t k v
     → LastWrite (b ++ l) t k v
 last-kept {t} {k} {v} l n h =
     record {
@@ -133,6 +133,6 @@ last-kept {t} {k} {v} l n h =
       last = λ u i. ⊎-elim (λ j. h .last u j) (λ j. n u j) (is-append (h .rest) l i);
     }
 
-pub last-fresh : {t k : ℕ} {v : Value} (b l : List Fact) → ((u : Value) → Is (book.wrote t k u) l → ⊥)
+pub last-fresh : {t k : ℕ} {v : Value} (b l : List Fact) → ((u : Value) → Member (book.wrote t k u) l → ⊥)
     → LastWrite (b ++ (book.wrote t k v ∷ l)) t k v
 last-fresh b l n = record { front = b; rest = l; split = refl; last = n }

@@ -21,7 +21,7 @@ use Rattle.rules.specs.Answers.{onBegun, onFound, onDone, onCommitted, o
 use Rattle.rules.specs.Record.{recordHead, recordWrites}
 use Rattle.rules.specs.Message.{messageHead}
 use Rattle.rules.specs.Copy.{copyNumber, copyCoordinator, replayed, replayOf, copyStartOf}
-use Rattle.rules.specs.World.{World, Call, Is, here, there, step, siteStep, logStep, mergerStep, mergeStep, copyStep, replayStep, run}
+use Rattle.rules.specs.World.{World, Call, Member, here, there, step, siteStep, logStep, mergerStep, mergeStep, copyStep, replayStep, run}
 use Rattle.rules.specs.World.{freshWorld}
 use Rattle.rules.specs.World as world
 use Rattle.rules.specs.Book as book
@@ -79,7 +79,7 @@ isReplayed (book.replayed y n c) = true
 abbrev NoReplay : List Fact → Type 0
 NoReplay = All (λ f. isReplayed f ≡ false)
 
-none-replayed : {l : List Fact} → NoReplay l → (c m d : ℕ) → Is (book.replayed c m d) l → ⊥
+none-replayed : {l : List Fact} → NoReplay l → (c m d : ℕ) → Member (book.replayed c m d) l → ⊥
 none-replayed a c m d i = set-not true refl (all-is a i)
 
 begins-none : (s : ℕ) (a : Answer) → NoReplay (book.begins s a)
@@ -106,7 +106,7 @@ installs-none s a = on-installed NoReplay a-nil (λ n c. all-one refl) a
 commits-none : (t : ℕ) (a : Answer) → NoReplay (book.commits t a)
 commits-none t a = on-committed NoReplay a-nil (λ n. all-one refl) a
 
-still-last : (c : ℕ) (b l : List Fact) (n d : ℕ) → ((m e : ℕ) → Is (book.replayed c m e) l → ⊥) → LastReplay c b n d
+still-last : (c : ℕ) (b l : List Fact) (n d : ℕ) → ((m e : ℕ) → Member (book.replayed c m e) l → ⊥) → LastReplay c b n d
     → LastReplay c (b ++ l) n d
 still-last c b l n d f (behind p q e g) =
     behind p (q ++ l) (rw e (append-assoc p (book.replayed c n d ∷ q) l)) (λ m r i. ⊎-elim (λ j. g m r j) (λ j. f m r j) (is-append q l i))
@@ -157,7 +157,7 @@ module _ (w : World) (b : List Fact) (h : LastReplays b w) where
           (rw (x, y) (behind b [] refl (λ m d i. none-replayed a-nil c m d i)))
           (λ j n. still-last j b l _ _ (λ m d i. other j (r .number) (r .coordinator) m d n i) (h j)))
         where
-          other : (j n d m e : ℕ) → (j ≡ c → ⊥) → Is (book.replayed j m e) (book.replayed c n d ∷ []) → ⊥
+          other : (j n d m e : ℕ) → (j ≡ c → ⊥) → Member (book.replayed j m e) (book.replayed c n d ∷ []) → ⊥
           other j n d m e f here = f refl
           other j n d m e f (there i) = none-replayed a-nil j m e i
 

@@ -8,9 +8,9 @@ use mathlib.Core.List.{List}
 use lib.ListN.{length}
 use Rattle.kinds.specs.State.{Value}
 use Rattle.kinds.specs.declared.Keys.{Keys}
-use Rattle.rules.specs.House.{coordinatorOf, siteOf}
+use Rattle.rules.specs.House.{coordinatorOf, homeOf}
 use Rattle.rules.specs.Keys.{wroteKey, wroteValue, readKey}
-use Rattle.rules.specs.World.{Is}
+use Rattle.rules.specs.World.{Member}
 use Rattle.rules.specs.Book as book
 use Rattle.rules.specs.Book.{Fact}
 use Rattle.rules.specs.Claim.{Before, LastWrite}
@@ -19,7 +19,7 @@ use Rattle.rules.proofs.Invariants.{at}
 
 -- the site that holds key k
 abbrev pub home : ℕ → ℕ → ℕ
-home sites k = siteOf (record { sites = sites }) k
+home sites k = homeOf (record { sites = sites }) k
 
 -- the i-th install at s has this pair
 abbrev pub PairAt : Protocol → ℕ → ℕ → ℕ → ℕ → Type 0
@@ -30,24 +30,24 @@ abbrev pub UsedIn : Keys → ℕ → Type 0
 UsedIn a k = (readKey a k ≡ true) ⊎ (wroteKey a k ≡ true)
 
 pub record Commits (b : List Fact) (p : Protocol) : Type 0 where
-  pub commit : (t n c : ℕ) → Is (book.committed t n c) b → (0 < p .num t) × (p .num t ≡ n) × (coordinatorOf t ≡ c)
-  pub committed : (t : ℕ) → 0 < p .num t → Is (book.committed t (p .num t) (coordinatorOf t)) b
+  pub commit : (t n c : ℕ) → Member (book.committed t n c) b → (0 < p .num t) × (p .num t ≡ n) × (coordinatorOf t ≡ c)
+  pub committed : (t : ℕ) → 0 < p .num t → Member (book.committed t (p .num t) (coordinatorOf t)) b
 
 pub record Begins (b : List Fact) (p : Protocol) : Type 0 where
-  pub began : (s t : ℕ) → Is (book.began s t) b → p .has s t ≡ true
-  pub begun : (s t : ℕ) → p .has s t ≡ true → Is (book.began s t) b
+  pub began : (s t : ℕ) → Member (book.began s t) b → p .has s t ≡ true
+  pub begun : (s t : ℕ) → p .has s t ≡ true → Member (book.began s t) b
   pub once : (s t : ℕ) → Before (book.began s t) (book.began s t) b → ⊥
 
 pub record Writes (sites : ℕ) (b : List Fact) (p : Protocol) : Type 0 where
-  pub wrote : (t k : ℕ) (v : Value) → Is (book.wrote t k v) b
+  pub wrote : (t k : ℕ) (v : Value) → Member (book.wrote t k v) b
       → (p .has (home sites k) t ≡ true) × (wroteKey (p .keys (home sites k) t) k ≡ true)
   pub last : (s t k : ℕ) → p .has s t ≡ true → wroteKey (p .keys s t) k ≡ true
       → (home sites k ≡ s) × LastWrite b t k (wroteValue (p .keys s t) k)
-  pub used : (t k : ℕ) → Is (book.used t k) b → (p .has (home sites k) t ≡ true) × UsedIn (p .keys (home sites k) t) k
+  pub used : (t k : ℕ) → Member (book.used t k) b → (p .has (home sites k) t ≡ true) × UsedIn (p .keys (home sites k) t) k
 
 pub record Installs (b : List Fact) (p : Protocol) : Type 0 where
-  pub installed : (s n c : ℕ) → Is (book.installed s n c) b → (i : ℕ) × (i < length (inst p s)) × PairAt p s i n c
-  pub installs : (s i n c : ℕ) → i < length (inst p s) → PairAt p s i n c → Is (book.installed s n c) b
+  pub installed : (s n c : ℕ) → Member (book.installed s n c) b → (i : ℕ) × (i < length (inst p s)) × PairAt p s i n c
+  pub installs : (s i n c : ℕ) → i < length (inst p s) → PairAt p s i n c → Member (book.installed s n c) b
   pub once : (s n c : ℕ) → Before (book.installed s n c) (book.installed s n c) b → ⊥
 
 pub record Sees (b : List Fact) (p : Protocol) : Type 0 where

@@ -14,7 +14,7 @@ use Rattle.kinds.specs.declared.House.{House}
 use Rattle.kinds.specs.declared.Keys.{Keys}
 use Rattle.kinds.specs.declared.Counters.{Counters}
 use Rattle.kinds.specs.declared.Site.{Site}
-use Rattle.rules.specs.House.{isSite, isTx, isMask, maskOf, siteOf}
+use Rattle.rules.specs.House.{isSite, isTx, isMask, maskOf, homeOf}
 use Rattle.rules.specs.Keys.{keysOk, wroteKey, readKey, withRead, withWrite}
 use Rattle.rules.specs.Live.{placeOf, freePlace, stageAt}
 use Rattle.rules.specs.History.{isForgotten}
@@ -65,14 +65,14 @@ new-part s es c t mask v own installs counters m tx =
     }
 
 -- Keys of this site: one more among the first n.
-key-more : (o : House) (own k n : ℕ) (keys : List ℕ) → n < length keys → siteOf o k ≡ own
-    → ((j : ℕ) → j < n → siteOf o (getD keys j 0) ≡ own) → (j : ℕ) → j < n + 1 → siteOf o (getD (set keys n k) j 0) ≡ own
+key-more : (o : House) (own k n : ℕ) (keys : List ℕ) → n < length keys → homeOf o k ≡ own
+    → ((j : ℕ) → j < n → homeOf o (getD keys j 0) ≡ own) → (j : ℕ) → j < n + 1 → homeOf o (getD (set keys n k) j 0) ≡ own
 key-more o own k n keys low e old j h =
     by-same j n
     (λ z. rw (z, getD-set-same keys n k 0 low) e)
     (λ z. rw (getD-set-other keys n j k 0 z) (old j (above j n (omega arith) z)))
 
-module _ (o : House) (own k : ℕ) (b : Keys) (v : ValidKeys o own b) (z : Sized b) (here : siteOf o k ≡ own) where
+module _ (o : House) (own k : ℕ) (b : Keys) (v : ValidKeys o own b) (z : Sized b) (here : homeOf o k ≡ own) where
   read-keys : (readKey b k ≡ false → b .read < sizes.reads) → keysOk o own (withRead b k) ≡ true
   unfolding withRead
   read-keys room =
@@ -139,7 +139,7 @@ module _ {s : Site} {lists : List ℕ} (y : Sound s lists) where
           entries = x .entries;
         }
 
-    version-fits : (base : List Value) (k : ℕ) → siteOf o k ≡ own
+    version-fits : (base : List Value) (k : ℕ) → homeOf o k ≡ own
         → (readKey (subAt s place .keys) k ≡ false → subAt s place .keys .read < sizes.reads)
         → EffectFits s (readVersion s base place k) lists
     unfolding readVersion
@@ -148,7 +148,7 @@ module _ {s : Site} {lists : List ℕ} (y : Sound s lists) where
         let more = read-keys o own k b (part-at y place low .keys) keys-sized here room in
         changed-fits y place low _ [] (record { turn = keys-turn (withRead b k) more; words = none })
 
-    written-fits : (k : ℕ) (v : Value) → siteOf o k ≡ own
+    written-fits : (k : ℕ) (v : Value) → homeOf o k ≡ own
         → (wroteKey (subAt s place .keys) k ≡ false → subAt s place .keys .wrote < sizes.writes)
         → EffectFits s (written s place k v) lists
     unfolding written

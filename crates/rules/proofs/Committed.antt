@@ -21,7 +21,7 @@ module _ {sites : ℕ} {p : Protocol} (k : Parts sites p) (a : Account p) (u : �
   pub committed-in : (s : ℕ) → p .has s u ≡ true → In (p .mask u) s
   committed-in s h = (k .site s u h .0, a .has-asked u s committed-asked h)
 
-  pub committed-yes : (s : ℕ) → p .has s u ≡ true → (p .yes s u ≡ true) × (p .mark s u < p .num u)
+  pub committed-yes : (s : ℕ) → p .has s u ≡ true → (p .yes s u ≡ true) × (p .queueMark s u < p .num u)
   committed-yes s h = a .voted u s n (committed-in s h)
 
 -- coordinators are sites

@@ -14,7 +14,7 @@ use Rattle.kinds.specs.declared.House.{House}
 use Rattle.kinds.specs.declared.Course.{Course}
 use Rattle.rules.specs.House.{isSite, isMask, inMask, maskOf}
 use Rattle.rules.specs.MessageLaws.{site-clear}
-use Rattle.rules.specs.Course.{newSub, withParticipant, withReply, withDecision, withMark, withRequest, withStage}
+use Rattle.rules.specs.Course.{newSub, withParticipant, withReply, withDecision, withQueueMark, withRequest, withStage}
 use Rattle.rules.specs.Valid.{courseOk}
 use Rattle.rules.specs.ValidLaws.{ValidHouse, ValidCourse, valid-course}
 use Rattle.rules.proofs.Masks.{none-in, in-more}
@@ -56,8 +56,8 @@ module _ (o : House) (own : ℕ) (house : ValidHouse o own) where
     unfolding withStage
     stage-fits mask st m l = let v = valid c e in course-made o own _ l m (v .heard-house) (v .others) (v .listed)
 
-    pub mark-fits : (n : ℕ) → courseOk o own (withMark c n) ≡ true
-    unfolding withMark
+    pub mark-fits : (n : ℕ) → courseOk o own (withQueueMark c n) ≡ true
+    unfolding withQueueMark
     mark-fits n = round-fits _ (omega arith) (valid c e .mask-house) refl (omega arith)
 
     pub request-fits : (n : ℕ) → n ≤ sizes.concEntries → courseOk o own (withRequest c n) ≡ true

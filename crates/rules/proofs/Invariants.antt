@@ -64,7 +64,7 @@ MsgOk sites p a b (mPrepare t n m) = (coordinatorOf t ≡ a) × (p .asked t ≡ 
 MsgOk sites p a b (mConc t es) = (coordinatorOf t ≡ b) × (a ≡ b → ⊥) × (p .made a t ≡ true) × (p .list a t ≡ es)
 MsgOk sites p a b (mCert t es) = (coordinatorOf t ≡ a) × (p .certed t ≡ true) × (p .cert t ≡ es) × (inMask (p .mask t) b ≡ true)
     × (b ≡ a → ⊥)
-MsgOk sites p a b (mVote t n r) = (coordinatorOf t ≡ b) × (a ≡ b → ⊥) × (r ≡ 0 → (p .yes a t ≡ true) × (p .mark a t ≡ n))
+MsgOk sites p a b (mVote t n r) = (coordinatorOf t ≡ b) × (a ≡ b → ⊥) × (r ≡ 0 → (p .yes a t ≡ true) × (p .queueMark a t ≡ n))
 MsgOk sites p a b (mCommit t n) = (coordinatorOf t ≡ a) × (p .num t ≡ n) × (0 < n)
 MsgOk sites p a b (mAbort t) = (coordinatorOf t ≡ a) × (p .dead t ≡ true)
 
@@ -97,7 +97,7 @@ pub record Rounds (p : Protocol) : Type 0 where
       → (p .made r t ≡ true) × Within (p .list r t) (p .gathered t)
   pub votes : (t r : ℕ) → AtStage p (coordinatorOf t) t stage.queued
       → (r ≡ coordinatorOf t) ⊎ In (courseAt p (coordinatorOf t) t .heard) r
-      → (p .yes r t ≡ true) × (p .mark r t ≤ p .clock (coordinatorOf t))
+      → (p .yes r t ≡ true) × (p .queueMark r t ≤ p .clock (coordinatorOf t))
   pub whole : (t : ℕ) → AtStage p (coordinatorOf t) t stage.prepared → Whole (p .gathered t)
   pub uncerted : (t : ℕ) → AtStage p (coordinatorOf t) t stage.prepared → p .certed t ≡ false
   pub undecided : (t : ℕ) → Held p (coordinatorOf t) t → (AtStage p (coordinatorOf t) t stage.decided → ⊥) → p .num t ≡ 0
@@ -108,7 +108,7 @@ pub record Courses (p : Protocol) : Type 0 where
   pub rejected : (s t : ℕ) → AtStage p s t stage.rejected → p .yes s t ≡ false
   pub mask : (s t : ℕ) → Held p s t → (AtStage p s t stage.active → ⊥) → (p .asked t ≡ true) × (courseAt p s t .mask ≡ p .mask t)
   pub prepared : (s t : ℕ) → AtStage p s t stage.prepared → (p .made s t ≡ true) × (p .yes s t ≡ false)
-  pub queued : (s t : ℕ) → AtStage p s t stage.queued → (p .yes s t ≡ true) × (courseAt p s t .number ≡ p .mark s t)
+  pub queued : (s t : ℕ) → AtStage p s t stage.queued → (p .yes s t ≡ true) × (courseAt p s t .number ≡ p .queueMark s t)
   pub decided : (s t : ℕ) → AtStage p s t stage.decided → (p .yes s t ≡ true) × (courseAt p s t .number ≡ p .num t) × (0 < p .num t)
   pub stages : (s t : ℕ) → courseAt p s t .stage ≤ stage.rejected
 
@@ -122,7 +122,7 @@ pub record Account (p : Protocol) : Type 0 where
   pub certed : (t r : ℕ) → p .certed t ≡ true → In (p .mask t) r → (p .made r t ≡ true) × Within (p .list r t) (p .cert t)
   pub certed-asked : (t : ℕ) → p .certed t ≡ true → p .asked t ≡ true
   pub yes : (s t : ℕ) → p .yes s t ≡ true → (p .certed t ≡ true) × (inMask (p .mask t) s ≡ true)
-  pub voted : (t r : ℕ) → 0 < p .num t → In (p .mask t) r → (p .yes r t ≡ true) × (p .mark r t < p .num t)
+  pub voted : (t r : ℕ) → 0 < p .num t → In (p .mask t) r → (p .yes r t ≡ true) × (p .queueMark r t < p .num t)
   pub num-certed : (t : ℕ) → 0 < p .num t → p .certed t ≡ true
   pub dead : (t : ℕ) → p .dead t ≡ true → (p .num t ≡ 0) × AtStage p (coordinatorOf t) t stage.free × (p .has (coordinatorOf t) t ≡ true)
   pub snap : (s t : ℕ) → 0 < p .snap s t → p .has s t ≡ true
@@ -141,7 +141,7 @@ pub record Clocks (p : Protocol) : Type 0 where
   pub decided : (s t : ℕ) → AtStage p s t stage.decided → courseAt p s t .number ≤ p .clock s
   pub num : (t : ℕ) → p .num t ≤ p .clock (coordinatorOf t)
   pub once : (t u : ℕ) → 0 < p .num t → p .num t ≡ p .num u → coordinatorOf t ≡ coordinatorOf u → t ≡ u
-  pub mark : (s t i : ℕ) → p .yes s t ≡ true → i < p .snap s t → at p s i .number ≤ p .mark s t
+  pub mark : (s t i : ℕ) → p .yes s t ≡ true → i < p .snap s t → at p s i .number ≤ p .queueMark s t
 
 -- Order: every log ascends. An open mark is at or above all that its site's log has, a decided pair above it. A committed transaction
 -- is decided at its coordinator until it is installed there.

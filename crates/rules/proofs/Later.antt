@@ -34,7 +34,7 @@ pub record Later (p q : Protocol) : Type 0 where
   pub asked : (t : ℕ) → p .asked t ≡ true → (q .asked t ≡ true) × (q .mask t ≡ p .mask t)
   pub made : (s t : ℕ) → p .made s t ≡ true → (q .made s t ≡ true) × (q .list s t ≡ p .list s t)
   pub certed : (t : ℕ) → p .certed t ≡ true → (q .certed t ≡ true) × (q .cert t ≡ p .cert t)
-  pub yes : (s t : ℕ) → p .yes s t ≡ true → (q .yes s t ≡ true) × (q .mark s t ≡ p .mark s t)
+  pub yes : (s t : ℕ) → p .yes s t ≡ true → (q .yes s t ≡ true) × (q .queueMark s t ≡ p .queueMark s t)
   pub num : (t : ℕ) → 0 < p .num t → q .num t ≡ p .num t
   pub dead : (t : ℕ) → p .dead t ≡ true → q .dead t ≡ true
   pub begins : (s t : ℕ) → q .has s t ≡ true → (p .has s t ≡ true) ⊎ Begins p q s t
@@ -78,7 +78,7 @@ rest p clock serial live gathered post taken log has snap keys =
       certed = p .certed;
       cert = p .cert;
       yes = p .yes;
-      mark = p .mark;
+      queueMark = p .queueMark;
       num = p .num;
       dead = p .dead;
     }
@@ -171,7 +171,7 @@ module _ (sites : ℕ) (p : Protocol) (i : Invariant sites p) where
         asked = λ u e. (e, refl);
         made = λ j u e. (e, refl);
         certed = kept-both₁ (p .certed) (p .cert) t es (i .rounds .uncerted t x);
-        yes = kept-both₂ (p .yes) (p .mark) s t _ (i .courses .prepared s t a .1);
+        yes = kept-both₂ (p .yes) (p .queueMark) s t _ (i .courses .prepared s t a .1);
         num = λ u e. refl;
         dead = λ u e. e;
         begins = λ j u e. inl e;
@@ -222,7 +222,7 @@ module _ (sites : ℕ) (p : Protocol) (i : Invariant sites p) where
         asked = λ u e. (e, refl);
         made = λ j u e. (e, refl);
         certed = λ u e. (e, refl);
-        yes = kept-both₂ (p .yes) (p .mark) s t _ (i .courses .prepared s t y .1);
+        yes = kept-both₂ (p .yes) (p .queueMark) s t _ (i .courses .prepared s t y .1);
         num = λ u e. refl;
         dead = λ u e. e;
         begins = λ j u e. inl e;

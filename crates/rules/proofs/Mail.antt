@@ -131,7 +131,7 @@ module _ (sites : ℕ) (p : Protocol) (i : Invariant sites p) where
   mail q (gathers a s t es x y o) = none q
   mail q (certified a s t es x y v) =
       let o = said i x in
-      back q a s _ x ((o .0, o .4, λ e. (upd₂-same (p .yes) s t true, upd₂-same (p .mark) s t (p .clock s))), tt)
+      back q a s _ x ((o .0, o .4, λ e. (upd₂-same (p .yes) s t true, upd₂-same (p .queueMark) s t (p .clock s))), tt)
   mail q (rejects a s t r es x y z) =
       let o = said i x in
       back q a s _ x ((o .0, o .4, λ e. absurd (z e)), tt)

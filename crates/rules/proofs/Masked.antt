@@ -10,7 +10,7 @@ use Rattle.kinds.specs.declared.Course.{Course}
 use Rattle.kinds.specs.declared.Sub.{Sub}
 use Rattle.kinds.specs.State.{noSub, withCourse}
 use Rattle.rules.specs.House.{coordinatorOf, inMask, maskOf}
-use Rattle.rules.specs.Course.{newSub, withParticipant, withReply, withDecision, withMark, withRequest, withStage}
+use Rattle.rules.specs.Course.{newSub, withParticipant, withReply, withDecision, withQueueMark, withRequest, withStage}
 use Rattle.rules.proofs.Tables.{upd₂, upd₂-cases}
 use Rattle.rules.proofs.Protocol.{Protocol, mPrepare, Next, courseAt, Move, begin, enlist, access, request, abort, cast, decide}
 use Rattle.rules.proofs.Protocol.{install, report, joins, full, joined, prepared, lost, unknown, gathers, certified, rejects, votes}
@@ -58,7 +58,7 @@ module _ (sites : ℕ) (p : Protocol) (i : Invariant sites p) where
   elsewhere a s t n m b x e = let o = said i x in absurd (o .4 (sym e ∙ o .0))
 
   pub masked : (q : Protocol) → Move sites p q → MaskedAll sites p q
-  unfolding newSub withParticipant withReply withDecision withMark withRequest withStage
+  unfolding newSub withParticipant withReply withDecision withQueueMark withRequest withStage
   masked q (begin s t l m n e) =
       one s t _ (λ o. record {
         grows = λ h x. absurd (new-tx sites p s t (i .parts) n e s h);

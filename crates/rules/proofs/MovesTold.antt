@@ -11,7 +11,7 @@ use Rattle.kinds.specs.declared.Keys.{Keys}
 use Rattle.kinds.specs.declared.Sub.{Sub}
 use Rattle.kinds.specs.State.{noKeys}
 use Rattle.rules.specs.Install.{entryOf}
-use Rattle.rules.specs.World.{Is, here}
+use Rattle.rules.specs.World.{Member, here}
 use Rattle.rules.specs.Book.{Fact}
 use Rattle.rules.proofs.Tables.{upd₂, upd₂-cases}
 use Rattle.rules.proofs.Protocol.{Protocol, inst, Move, Accessed, reads, writes, begin, enlist, access, request, abort, cast, decide}
@@ -31,7 +31,7 @@ use Rattle.rules.proofs.KeysOnce.{EachOnce, once-none}
 
 -- no fact of this kind is told: none of reads and writes, none of installs
 abbrev pub Without : ℕ → List Fact → Type 0
-Without k l = (f : Fact) → Is f l → factKind f ≡ k → ⊥
+Without k l = (f : Fact) → Member f l → factKind f ≡ k → ⊥
 
 abbrev pub NoAccess : List Fact → Type 0
 NoAccess l = Without 1 l

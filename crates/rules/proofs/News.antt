@@ -52,7 +52,7 @@ pub record News (p q : Protocol) : Type 0 where
   pub asked : (t : ℕ) → q .asked t ≡ true → (p .asked t ≡ true) ⊎ AskedNow p t (q .mask t)
   pub made : (s t : ℕ) → q .made s t ≡ true → (p .made s t ≡ true) ⊎ MadeNow p q s t (q .list s t)
   pub certed : (t : ℕ) → q .certed t ≡ true → (p .certed t ≡ true) ⊎ CertedNow p t (q .cert t)
-  pub yes : (s t : ℕ) → q .yes s t ≡ true → (p .yes s t ≡ true) ⊎ YesNow p q s t (q .mark s t)
+  pub yes : (s t : ℕ) → q .yes s t ≡ true → (p .yes s t ≡ true) ⊎ YesNow p q s t (q .queueMark s t)
   pub num : (t : ℕ) → 0 < q .num t → (0 < p .num t) ⊎ NumNow p q t (q .num t)
   pub dead : (t : ℕ) → q .dead t ≡ true → (p .dead t ≡ true) ⊎ DeadNow p q t
 
@@ -116,7 +116,7 @@ module _ {sites : ℕ} {p : Protocol} (i : Invariant sites p) where
         certed = upd-both (λ u b l. b ≡ true → (p .certed u ≡ true) ⊎ CertedNow p u l) (p .certed) (p .cert) t true es
             (λ e. inr (rw c a, rw c l, w)) (λ u n e. inl e);
         yes =
-            upd₂-both (λ j u b m. b ≡ true → (p .yes j u ≡ true) ⊎ YesNow p q j u m) (p .yes) (p .mark) s t true (p .clock s)
+            upd₂-both (λ j u b m. b ≡ true → (p .yes j u ≡ true) ⊎ YesNow p q j u m) (p .yes) (p .queueMark) s t true (p .clock s)
             (λ e. inr (
               a,
               rw (upd-same (p .cert) t es) v,
@@ -171,7 +171,7 @@ module _ {sites : ℕ} {p : Protocol} (i : Invariant sites p) where
         made = λ j u e. inl e;
         certed = λ u e. inl e;
         yes =
-            upd₂-both (λ j u b m. b ≡ true → (p .yes j u ≡ true) ⊎ YesNow p q j u m) (p .yes) (p .mark) s t true (p .clock s)
+            upd₂-both (λ j u b m. b ≡ true → (p .yes j u ≡ true) ⊎ YesNow p q j u m) (p .yes) (p .queueMark) s t true (p .clock s)
             (λ e. inr (y, rw (o .2) v, refl, o .1, o .3)) (λ j u n e. inl e);
         num = λ u e. inl e;
         dead = λ u e. inl e;

@@ -18,7 +18,7 @@ use Rattle.rules.specs.Valid.{siteOk, handedOk}
 use Rattle.rules.specs.ValidLaws.{handed-site}
 use Rattle.rules.specs.Merger.{mergerOk}
 use Rattle.rules.specs.MergerClear.{clear-merger}
-use Rattle.rules.specs.World.{World, Call, Is, step, siteStep, logStep, mergerStep, mergeStep, copyStep, replayStep}
+use Rattle.rules.specs.World.{World, Call, Member, step, siteStep, logStep, mergerStep, mergeStep, copyStep, replayStep}
 use Rattle.rules.specs.World as world
 use Rattle.rules.specs.Book.{Fact}
 use Rattle.rules.specs.Progress.{NoneOutOfTurn, MessagesProgress}
@@ -100,7 +100,7 @@ module _ {sites : ℕ} {w : World} {b : List Fact} (x : Stands (More sites) site
       }
 
   -- Messages.
-  sent-passes : (m : List ℕ) → Is m (w .sent) → (isSite o (messageHead m .to) ≡ true) × (messageOk o m ≡ true)
+  sent-passes : (m : List ℕ) → Member m (w .sent) → (isSite o (messageHead m .to) ≡ true) × (messageOk o m ≡ true)
   sent-passes m i =
       let e = all-is (x .more .pass) i in
       (head-clear o (messageHead m) (passed-good o m e .head) .ends .to, e)

@@ -16,13 +16,13 @@ use Rattle.kinds.specs.declared.Course.{Course}
 use Rattle.kinds.specs.declared.Sub.{Sub}
 use Rattle.kinds.specs.declared.Entry.{Entry}
 use Rattle.kinds.specs.State.{noSub, noKeys, pastEntry, withCourse, withKeys, Value}
-use Rattle.rules.specs.House.{coordinatorOf, siteOf, txOf, inMask, maskOf}
+use Rattle.rules.specs.House.{coordinatorOf, homeOf, txOf, inMask, maskOf}
 use Rattle.rules.specs.Message.{entryTx, entryMask, entryMark, entryCount}
 use Rattle.rules.specs.Keys.{wroteKey, wroteValue, readKey, dependent}
 use Rattle.rules.specs.Live.{isPrepared, isQueued, allHeard}
 use Rattle.rules.specs.Queue.{queuedBefore}
 use Rattle.rules.specs.Install.{entryOf}
-use Rattle.rules.specs.Course.{newSub, withParticipant, withReply, withDecision, withMark, withRequest, withStage, isOutstanding}
+use Rattle.rules.specs.Course.{newSub, withParticipant, withReply, withDecision, withQueueMark, withRequest, withStage, isOutstanding}
 use Rattle.rules.specs.World.{upd}
 use Rattle.rules.specs.Book as book
 use Rattle.rules.specs.Book.{Fact}
@@ -72,7 +72,7 @@ pub record Protocol : Type 0 where
   pub certed : ℕ → Bool
   pub cert : ℕ → List ℕ
   pub yes : ℕ → ℕ → Bool
-  pub mark : ℕ → ℕ → ℕ
+  pub queueMark : ℕ → ℕ → ℕ
   pub num : ℕ → ℕ
   pub dead : ℕ → Bool
 
@@ -81,64 +81,64 @@ inst p s = partsOf (p .log s)
 
 -- One table changed.
 abbrev pub set-clock : (ℕ → ℕ) → Protocol → Protocol
-set-clock x p = record { clock = x; serial = p .serial; live = p .live; gathered = p .gathered; post = p .post; taken = p .taken; log = p .log; has = p .has; snap = p .snap; keys = p .keys; asked = p .asked; mask = p .mask; made = p .made; list = p .list; certed = p .certed; cert = p .cert; yes = p .yes; mark = p .mark; num = p .num; dead = p .dead }
+set-clock x p = record { clock = x; serial = p .serial; live = p .live; gathered = p .gathered; post = p .post; taken = p .taken; log = p .log; has = p .has; snap = p .snap; keys = p .keys; asked = p .asked; mask = p .mask; made = p .made; list = p .list; certed = p .certed; cert = p .cert; yes = p .yes; queueMark = p .queueMark; num = p .num; dead = p .dead }
 
 abbrev pub set-serial : (ℕ → ℕ) → Protocol → Protocol
-set-serial x p = record { clock = p .clock; serial = x; live = p .live; gathered = p .gathered; post = p .post; taken = p .taken; log = p .log; has = p .has; snap = p .snap; keys = p .keys; asked = p .asked; mask = p .mask; made = p .made; list = p .list; certed = p .certed; cert = p .cert; yes = p .yes; mark = p .mark; num = p .num; dead = p .dead }
+set-serial x p = record { clock = p .clock; serial = x; live = p .live; gathered = p .gathered; post = p .post; taken = p .taken; log = p .log; has = p .has; snap = p .snap; keys = p .keys; asked = p .asked; mask = p .mask; made = p .made; list = p .list; certed = p .certed; cert = p .cert; yes = p .yes; queueMark = p .queueMark; num = p .num; dead = p .dead }
 
 abbrev pub set-live : (ℕ → ℕ → Sub) → Protocol → Protocol
-set-live x p = record { clock = p .clock; serial = p .serial; live = x; gathered = p .gathered; post = p .post; taken = p .taken; log = p .log; has = p .has; snap = p .snap; keys = p .keys; asked = p .asked; mask = p .mask; made = p .made; list = p .list; certed = p .certed; cert = p .cert; yes = p .yes; mark = p .mark; num = p .num; dead = p .dead }
+set-live x p = record { clock = p .clock; serial = p .serial; live = x; gathered = p .gathered; post = p .post; taken = p .taken; log = p .log; has = p .has; snap = p .snap; keys = p .keys; asked = p .asked; mask = p .mask; made = p .made; list = p .list; certed = p .certed; cert = p .cert; yes = p .yes; queueMark = p .queueMark; num = p .num; dead = p .dead }
 
 abbrev pub set-gathered : (ℕ → List ℕ) → Protocol → Protocol
-set-gathered x p = record { clock = p .clock; serial = p .serial; live = p .live; gathered = x; post = p .post; taken = p .taken; log = p .log; has = p .has; snap = p .snap; keys = p .keys; asked = p .asked; mask = p .mask; made = p .made; list = p .list; certed = p .certed; cert = p .cert; yes = p .yes; mark = p .mark; num = p .num; dead = p .dead }
+set-gathered x p = record { clock = p .clock; serial = p .serial; live = p .live; gathered = x; post = p .post; taken = p .taken; log = p .log; has = p .has; snap = p .snap; keys = p .keys; asked = p .asked; mask = p .mask; made = p .made; list = p .list; certed = p .certed; cert = p .cert; yes = p .yes; queueMark = p .queueMark; num = p .num; dead = p .dead }
 
 abbrev pub set-post : (ℕ → ℕ → List Msg) → Protocol → Protocol
-set-post x p = record { clock = p .clock; serial = p .serial; live = p .live; gathered = p .gathered; post = x; taken = p .taken; log = p .log; has = p .has; snap = p .snap; keys = p .keys; asked = p .asked; mask = p .mask; made = p .made; list = p .list; certed = p .certed; cert = p .cert; yes = p .yes; mark = p .mark; num = p .num; dead = p .dead }
+set-post x p = record { clock = p .clock; serial = p .serial; live = p .live; gathered = p .gathered; post = x; taken = p .taken; log = p .log; has = p .has; snap = p .snap; keys = p .keys; asked = p .asked; mask = p .mask; made = p .made; list = p .list; certed = p .certed; cert = p .cert; yes = p .yes; queueMark = p .queueMark; num = p .num; dead = p .dead }
 
 abbrev pub set-taken : (ℕ → ℕ → ℕ) → Protocol → Protocol
-set-taken x p = record { clock = p .clock; serial = p .serial; live = p .live; gathered = p .gathered; post = p .post; taken = x; log = p .log; has = p .has; snap = p .snap; keys = p .keys; asked = p .asked; mask = p .mask; made = p .made; list = p .list; certed = p .certed; cert = p .cert; yes = p .yes; mark = p .mark; num = p .num; dead = p .dead }
+set-taken x p = record { clock = p .clock; serial = p .serial; live = p .live; gathered = p .gathered; post = p .post; taken = x; log = p .log; has = p .has; snap = p .snap; keys = p .keys; asked = p .asked; mask = p .mask; made = p .made; list = p .list; certed = p .certed; cert = p .cert; yes = p .yes; queueMark = p .queueMark; num = p .num; dead = p .dead }
 
 abbrev pub set-log : (ℕ → List Rec) → Protocol → Protocol
-set-log x p = record { clock = p .clock; serial = p .serial; live = p .live; gathered = p .gathered; post = p .post; taken = p .taken; log = x; has = p .has; snap = p .snap; keys = p .keys; asked = p .asked; mask = p .mask; made = p .made; list = p .list; certed = p .certed; cert = p .cert; yes = p .yes; mark = p .mark; num = p .num; dead = p .dead }
+set-log x p = record { clock = p .clock; serial = p .serial; live = p .live; gathered = p .gathered; post = p .post; taken = p .taken; log = x; has = p .has; snap = p .snap; keys = p .keys; asked = p .asked; mask = p .mask; made = p .made; list = p .list; certed = p .certed; cert = p .cert; yes = p .yes; queueMark = p .queueMark; num = p .num; dead = p .dead }
 
 abbrev pub set-has : (ℕ → ℕ → Bool) → Protocol → Protocol
-set-has x p = record { clock = p .clock; serial = p .serial; live = p .live; gathered = p .gathered; post = p .post; taken = p .taken; log = p .log; has = x; snap = p .snap; keys = p .keys; asked = p .asked; mask = p .mask; made = p .made; list = p .list; certed = p .certed; cert = p .cert; yes = p .yes; mark = p .mark; num = p .num; dead = p .dead }
+set-has x p = record { clock = p .clock; serial = p .serial; live = p .live; gathered = p .gathered; post = p .post; taken = p .taken; log = p .log; has = x; snap = p .snap; keys = p .keys; asked = p .asked; mask = p .mask; made = p .made; list = p .list; certed = p .certed; cert = p .cert; yes = p .yes; queueMark = p .queueMark; num = p .num; dead = p .dead }
 
 abbrev pub set-snap : (ℕ → ℕ → ℕ) → Protocol → Protocol
-set-snap x p = record { clock = p .clock; serial = p .serial; live = p .live; gathered = p .gathered; post = p .post; taken = p .taken; log = p .log; has = p .has; snap = x; keys = p .keys; asked = p .asked; mask = p .mask; made = p .made; list = p .list; certed = p .certed; cert = p .cert; yes = p .yes; mark = p .mark; num = p .num; dead = p .dead }
+set-snap x p = record { clock = p .clock; serial = p .serial; live = p .live; gathered = p .gathered; post = p .post; taken = p .taken; log = p .log; has = p .has; snap = x; keys = p .keys; asked = p .asked; mask = p .mask; made = p .made; list = p .list; certed = p .certed; cert = p .cert; yes = p .yes; queueMark = p .queueMark; num = p .num; dead = p .dead }
 
 abbrev pub set-keys : (ℕ → ℕ → Keys) → Protocol → Protocol
-set-keys x p = record { clock = p .clock; serial = p .serial; live = p .live; gathered = p .gathered; post = p .post; taken = p .taken; log = p .log; has = p .has; snap = p .snap; keys = x; asked = p .asked; mask = p .mask; made = p .made; list = p .list; certed = p .certed; cert = p .cert; yes = p .yes; mark = p .mark; num = p .num; dead = p .dead }
+set-keys x p = record { clock = p .clock; serial = p .serial; live = p .live; gathered = p .gathered; post = p .post; taken = p .taken; log = p .log; has = p .has; snap = p .snap; keys = x; asked = p .asked; mask = p .mask; made = p .made; list = p .list; certed = p .certed; cert = p .cert; yes = p .yes; queueMark = p .queueMark; num = p .num; dead = p .dead }
 
 abbrev pub set-asked : (ℕ → Bool) → Protocol → Protocol
-set-asked x p = record { clock = p .clock; serial = p .serial; live = p .live; gathered = p .gathered; post = p .post; taken = p .taken; log = p .log; has = p .has; snap = p .snap; keys = p .keys; asked = x; mask = p .mask; made = p .made; list = p .list; certed = p .certed; cert = p .cert; yes = p .yes; mark = p .mark; num = p .num; dead = p .dead }
+set-asked x p = record { clock = p .clock; serial = p .serial; live = p .live; gathered = p .gathered; post = p .post; taken = p .taken; log = p .log; has = p .has; snap = p .snap; keys = p .keys; asked = x; mask = p .mask; made = p .made; list = p .list; certed = p .certed; cert = p .cert; yes = p .yes; queueMark = p .queueMark; num = p .num; dead = p .dead }
 
 abbrev pub set-mask : (ℕ → ℕ) → Protocol → Protocol
-set-mask x p = record { clock = p .clock; serial = p .serial; live = p .live; gathered = p .gathered; post = p .post; taken = p .taken; log = p .log; has = p .has; snap = p .snap; keys = p .keys; asked = p .asked; mask = x; made = p .made; list = p .list; certed = p .certed; cert = p .cert; yes = p .yes; mark = p .mark; num = p .num; dead = p .dead }
+set-mask x p = record { clock = p .clock; serial = p .serial; live = p .live; gathered = p .gathered; post = p .post; taken = p .taken; log = p .log; has = p .has; snap = p .snap; keys = p .keys; asked = p .asked; mask = x; made = p .made; list = p .list; certed = p .certed; cert = p .cert; yes = p .yes; queueMark = p .queueMark; num = p .num; dead = p .dead }
 
 abbrev pub set-made : (ℕ → ℕ → Bool) → Protocol → Protocol
-set-made x p = record { clock = p .clock; serial = p .serial; live = p .live; gathered = p .gathered; post = p .post; taken = p .taken; log = p .log; has = p .has; snap = p .snap; keys = p .keys; asked = p .asked; mask = p .mask; made = x; list = p .list; certed = p .certed; cert = p .cert; yes = p .yes; mark = p .mark; num = p .num; dead = p .dead }
+set-made x p = record { clock = p .clock; serial = p .serial; live = p .live; gathered = p .gathered; post = p .post; taken = p .taken; log = p .log; has = p .has; snap = p .snap; keys = p .keys; asked = p .asked; mask = p .mask; made = x; list = p .list; certed = p .certed; cert = p .cert; yes = p .yes; queueMark = p .queueMark; num = p .num; dead = p .dead }
 
 abbrev pub set-list : (ℕ → ℕ → List ℕ) → Protocol → Protocol
-set-list x p = record { clock = p .clock; serial = p .serial; live = p .live; gathered = p .gathered; post = p .post; taken = p .taken; log = p .log; has = p .has; snap = p .snap; keys = p .keys; asked = p .asked; mask = p .mask; made = p .made; list = x; certed = p .certed; cert = p .cert; yes = p .yes; mark = p .mark; num = p .num; dead = p .dead }
+set-list x p = record { clock = p .clock; serial = p .serial; live = p .live; gathered = p .gathered; post = p .post; taken = p .taken; log = p .log; has = p .has; snap = p .snap; keys = p .keys; asked = p .asked; mask = p .mask; made = p .made; list = x; certed = p .certed; cert = p .cert; yes = p .yes; queueMark = p .queueMark; num = p .num; dead = p .dead }
 
 abbrev pub set-certed : (ℕ → Bool) → Protocol → Protocol
-set-certed x p = record { clock = p .clock; serial = p .serial; live = p .live; gathered = p .gathered; post = p .post; taken = p .taken; log = p .log; has = p .has; snap = p .snap; keys = p .keys; asked = p .asked; mask = p .mask; made = p .made; list = p .list; certed = x; cert = p .cert; yes = p .yes; mark = p .mark; num = p .num; dead = p .dead }
+set-certed x p = record { clock = p .clock; serial = p .serial; live = p .live; gathered = p .gathered; post = p .post; taken = p .taken; log = p .log; has = p .has; snap = p .snap; keys = p .keys; asked = p .asked; mask = p .mask; made = p .made; list = p .list; certed = x; cert = p .cert; yes = p .yes; queueMark = p .queueMark; num = p .num; dead = p .dead }
 
 abbrev pub set-cert : (ℕ → List ℕ) → Protocol → Protocol
-set-cert x p = record { clock = p .clock; serial = p .serial; live = p .live; gathered = p .gathered; post = p .post; taken = p .taken; log = p .log; has = p .has; snap = p .snap; keys = p .keys; asked = p .asked; mask = p .mask; made = p .made; list = p .list; certed = p .certed; cert = x; yes = p .yes; mark = p .mark; num = p .num; dead = p .dead }
+set-cert x p = record { clock = p .clock; serial = p .serial; live = p .live; gathered = p .gathered; post = p .post; taken = p .taken; log = p .log; has = p .has; snap = p .snap; keys = p .keys; asked = p .asked; mask = p .mask; made = p .made; list = p .list; certed = p .certed; cert = x; yes = p .yes; queueMark = p .queueMark; num = p .num; dead = p .dead }
 
 abbrev pub set-yes : (ℕ → ℕ → Bool) → Protocol → Protocol
-set-yes x p = record { clock = p .clock; serial = p .serial; live = p .live; gathered = p .gathered; post = p .post; taken = p .taken; log = p .log; has = p .has; snap = p .snap; keys = p .keys; asked = p .asked; mask = p .mask; made = p .made; list = p .list; certed = p .certed; cert = p .cert; yes = x; mark = p .mark; num = p .num; dead = p .dead }
+set-yes x p = record { clock = p .clock; serial = p .serial; live = p .live; gathered = p .gathered; post = p .post; taken = p .taken; log = p .log; has = p .has; snap = p .snap; keys = p .keys; asked = p .asked; mask = p .mask; made = p .made; list = p .list; certed = p .certed; cert = p .cert; yes = x; queueMark = p .queueMark; num = p .num; dead = p .dead }
 
-abbrev pub set-mark : (ℕ → ℕ → ℕ) → Protocol → Protocol
-set-mark x p = record { clock = p .clock; serial = p .serial; live = p .live; gathered = p .gathered; post = p .post; taken = p .taken; log = p .log; has = p .has; snap = p .snap; keys = p .keys; asked = p .asked; mask = p .mask; made = p .made; list = p .list; certed = p .certed; cert = p .cert; yes = p .yes; mark = x; num = p .num; dead = p .dead }
+abbrev pub set-queue-mark : (ℕ → ℕ → ℕ) → Protocol → Protocol
+set-queue-mark x p = record { clock = p .clock; serial = p .serial; live = p .live; gathered = p .gathered; post = p .post; taken = p .taken; log = p .log; has = p .has; snap = p .snap; keys = p .keys; asked = p .asked; mask = p .mask; made = p .made; list = p .list; certed = p .certed; cert = p .cert; yes = p .yes; queueMark = x; num = p .num; dead = p .dead }
 
 abbrev pub set-num : (ℕ → ℕ) → Protocol → Protocol
-set-num x p = record { clock = p .clock; serial = p .serial; live = p .live; gathered = p .gathered; post = p .post; taken = p .taken; log = p .log; has = p .has; snap = p .snap; keys = p .keys; asked = p .asked; mask = p .mask; made = p .made; list = p .list; certed = p .certed; cert = p .cert; yes = p .yes; mark = p .mark; num = x; dead = p .dead }
+set-num x p = record { clock = p .clock; serial = p .serial; live = p .live; gathered = p .gathered; post = p .post; taken = p .taken; log = p .log; has = p .has; snap = p .snap; keys = p .keys; asked = p .asked; mask = p .mask; made = p .made; list = p .list; certed = p .certed; cert = p .cert; yes = p .yes; queueMark = p .queueMark; num = x; dead = p .dead }
 
 abbrev pub set-dead : (ℕ → Bool) → Protocol → Protocol
-set-dead x p = record { clock = p .clock; serial = p .serial; live = p .live; gathered = p .gathered; post = p .post; taken = p .taken; log = p .log; has = p .has; snap = p .snap; keys = p .keys; asked = p .asked; mask = p .mask; made = p .made; list = p .list; certed = p .certed; cert = p .cert; yes = p .yes; mark = p .mark; num = p .num; dead = x }
+set-dead x p = record { clock = p .clock; serial = p .serial; live = p .live; gathered = p .gathered; post = p .post; taken = p .taken; log = p .log; has = p .has; snap = p .snap; keys = p .keys; asked = p .asked; mask = p .mask; made = p .made; list = p .list; certed = p .certed; cert = p .cert; yes = p .yes; queueMark = p .queueMark; num = p .num; dead = x }
 
 -- Pieces of the moves.
 
@@ -236,11 +236,11 @@ beganAt p s t mask =
 
 -- What a read or a write tells the book. A read uses its key and leaves the writes; a write sets its value and leaves the others.
 pub data Accessed (sites s t : ℕ) (old new : Keys) : List Fact → Type 0 where
-  reads : (k : ℕ) → siteOf (record { sites = sites }) k ≡ s → (readKey new k ≡ true) ⊎ (wroteKey new k ≡ true)
+  reads : (k : ℕ) → homeOf (record { sites = sites }) k ≡ s → (readKey new k ≡ true) ⊎ (wroteKey new k ≡ true)
       → ((j : ℕ) → readKey old j ≡ true → readKey new j ≡ true)
       → ((j : ℕ) → (wroteKey new j ≡ wroteKey old j) × (wroteKey old j ≡ true → wroteValue new j ≡ wroteValue old j))
       → Accessed sites s t old new (book.used t k ∷ [])
-  writes : (k : ℕ) (v : Value) → siteOf (record { sites = sites }) k ≡ s → wroteKey new k ≡ true → wroteValue new k ≡ v
+  writes : (k : ℕ) (v : Value) → homeOf (record { sites = sites }) k ≡ s → wroteKey new k ≡ true → wroteValue new k ≡ v
       → ((j : ℕ) → readKey old j ≡ true → readKey new j ≡ true)
       → ((j : ℕ) → (j ≡ k → ⊥) → (wroteKey new j ≡ wroteKey old j) × (wroteKey old j ≡ true → wroteValue new j ≡ wroteValue old j))
       → Accessed sites s t old new (book.used t k ∷ book.wrote t k v ∷ [])
@@ -284,8 +284,8 @@ pub data Move (sites : ℕ) (p : Protocol) : Protocol → Type 0 where
       (withCourseAt
       (set-certed (upd (p .certed) t true)
       (set-cert (upd (p .cert) t es)
-      (set-yes (upd₂ (p .yes) s t true) (set-mark (upd₂ (p .mark) s t (p .clock s)) p))))
-      s t (withMark (courseAt p s t) (p .clock s)))
+      (set-yes (upd₂ (p .yes) s t true) (set-queue-mark (upd₂ (p .queueMark) s t (p .clock s)) p))))
+      s t (withQueueMark (courseAt p s t) (p .clock s)))
       s (courseAt p s t .mask) (mCert t es))
   -- all have voted yes: the clock plus 1 is the commit number
   decide : (s t : ℕ) → coordinatorOf t ≡ s → AtStage p s t stage.queued
@@ -328,8 +328,8 @@ pub data Move (sites : ℕ) (p : Protocol) : Protocol → Type 0 where
       → Move sites p
       (posted
       (withCourseAt
-      (set-yes (upd₂ (p .yes) s t true) (set-mark (upd₂ (p .mark) s t (p .clock s)) (took p a s)))
-      s t (withMark (courseAt p s t) (p .clock s)))
+      (set-yes (upd₂ (p .yes) s t true) (set-queue-mark (upd₂ (p .queueMark) s t (p .clock s)) (took p a s)))
+      s t (withQueueMark (courseAt p s t) (p .clock s)))
       s a (mVote t (p .clock s) 0))
   rejects : (a s t r : ℕ) (es : List ℕ) → Next p a s (mCert t es) → AtStage p s t stage.prepared → (r ≡ 0 → ⊥)
       → Move sites p
@@ -367,7 +367,7 @@ freshProtocol =
       certed = λ t. false;
       cert = λ t. [];
       yes = λ s t. false;
-      mark = λ s t. 0;
+      queueMark = λ s t. 0;
       num = λ t. 0;
       dead = λ t. false;
     }

@@ -14,7 +14,7 @@ use Rattle.kinds.specs.declared.Sub.{Sub}
 use Rattle.kinds.specs.declared.Site.{Site}
 use Rattle.kinds.specs.declared.Answer.the-variants.{Refused, Found}
 use Rattle.kinds.specs.State.{Value, subAt}
-use Rattle.rules.specs.House.{coordinatorOf, siteOf}
+use Rattle.rules.specs.House.{coordinatorOf, homeOf}
 use Rattle.rules.specs.Keys.{wroteKey, wroteValue, readKey}
 use Rattle.rules.specs.KeysLaws.{by-order}
 use Rattle.rules.specs.Live.{stageAt, placeOf}
@@ -57,7 +57,7 @@ not-found : (n : ℕ) (v : Value) → Refused n ≡ Found v → ⊥
 not-found n v e = let z : _≡_ {A = ℕ} 0 1 = ap (onFound 0 (λ n. 1)) e in omega arith
 
 low-key : (sites k s : ℕ) → home sites k ≡ s → s ≤ sizes.sites → k < sizes.keys
-unfolding siteOf
+unfolding homeOf
 low-key sites k s e h = omega arith
 
 module _ {sites : ℕ} {w : World} {p : Protocol} (r : Refines sites w p) (i : Invariant sites p) (b : BasesAre sites w p) (s t k : ℕ)

@@ -21,7 +21,7 @@ use Rattle.kinds.specs.declared.Snapshot.{Snapshot}
 use Rattle.kinds.specs.declared.Answer.{Answer}
 use Rattle.kinds.specs.declared.Answer.the-variants.{Found}
 use Rattle.kinds.specs.State.{Value, subAt, pastSub, pastEntry, withKeys, withSub}
-use Rattle.rules.specs.House.{siteOf}
+use Rattle.rules.specs.House.{homeOf}
 use Rattle.rules.specs.Keys.{wroteKey, wroteValue, readKey, withRead, withWrite}
 use Rattle.rules.specs.Live.{partAt, stageAt, placeOf, otherHolds, keyHeld}
 use Rattle.rules.specs.History.{recall, remembered, forgotten, isForgotten, within, isNewer}
@@ -127,7 +127,7 @@ module _ {sites : ℕ} {w : World} {p : Protocol} (r : Refines sites w p) (s t k
     pub active : p .live s t .course .stage ≡ stage.active
     pub sized : Sized (p .live s t .keys)
     pub few : p .live s t .keys .wrote ≤ sizes.writes
-    pub home : siteOf (record { sites = sites }) k ≡ s
+    pub home : homeOf (record { sites = sites }) k ≡ s
     pub installs : here .counters .installs ≡ length (inst p s)
     pub history : HistoryIs (here .history) (inst p s)
     pub live : LiveIs (here .live) (p .live s)
@@ -147,7 +147,7 @@ module _ {sites : ℕ} {w : World} {p : Protocol} (r : Refines sites w p) (s t k
         active = sym (ap (λ (b : Sub). b .course .stage) q) ∙ c .active;
         sized = y .live .sized t f;
         few = rw q at (live-wrote here (c .valid) spot (c .held));
-        home = ap (λ (n : ℕ). siteOf (record { sites = n }) k) (sym (y .house)) ∙ c .here ∙ y .counters .own-is;
+        home = ap (λ (n : ℕ). homeOf (record { sites = n }) k) (sym (y .house)) ∙ c .here ∙ y .counters .own-is;
         installs = y .counters .installs-are;
         history = y .history;
         live = y .live;

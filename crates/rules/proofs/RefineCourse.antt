@@ -22,12 +22,12 @@ use Rattle.rules.specs.House.{coordinatorOf}
 use Rattle.rules.specs.Live.{allHeard}
 use Rattle.rules.specs.Effect.{turnAt, settle}
 use Rattle.rules.specs.CourseLaws.{no-entries}
-use Rattle.rules.specs.Course.{withCourseOf, sendAll, abortStep, commitStep, decideStep, withDecision, withMark, castStep}
+use Rattle.rules.specs.Course.{withCourseOf, sendAll, abortStep, commitStep, decideStep, withDecision, withQueueMark, castStep}
 use Rattle.rules.specs.World.{upd}
 use Rattle.rules.specs.Book as book
 use Rattle.rules.proofs.Tables.{upd₂, upd₂-same, upd-same, upd-other, row-other}
 use Rattle.rules.proofs.Protocol.{Protocol, Msg, mAbort, mCert, mCommit, others, courseAt, AtStage, Whole, Within, Certified, abort}
-use Rattle.rules.proofs.Protocol.{cast, decide, stop, more, postedAll, withCourseAt, set-certed, set-cert, set-yes, set-mark}
+use Rattle.rules.proofs.Protocol.{cast, decide, stop, more, postedAll, withCourseAt, set-certed, set-cert, set-yes, set-queue-mark}
 use Rattle.rules.proofs.Invariants.{In, Held, Invariant}
 use Rattle.rules.proofs.Masks.{none-in, all-heard}
 use Rattle.rules.proofs.Frames.{others-cases}
@@ -66,16 +66,16 @@ castAt p s t es =
     (withCourseAt
     (set-certed (upd (p .certed) t true)
     (set-cert (upd (p .cert) t es)
-    (set-yes (upd₂ (p .yes) s t true) (set-mark (upd₂ (p .mark) s t (p .clock s)) p))))
-    s t (withMark (courseAt p s t) (p .clock s)))
+    (set-yes (upd₂ (p .yes) s t true) (set-queue-mark (upd₂ (p .queueMark) s t (p .clock s)) p))))
+    s t (withQueueMark (courseAt p s t) (p .clock s)))
     s (courseAt p s t .mask) (mCert t es)
 
 decision-mask : (c : Course) (n : ℕ) → withDecision c n .mask ≡ c .mask
 unfolding withDecision
 decision-mask c n = refl
 
-mark-mask : (c : Course) (n : ℕ) → withMark c n .mask ≡ c .mask
-unfolding withMark
+mark-mask : (c : Course) (n : ℕ) → withQueueMark c n .mask ≡ c .mask
+unfolding withQueueMark
 mark-mask c n = refl
 
 module _ {sites s t place : ℕ} {x : Site} {base lists : List ℕ} {p : Protocol} (few : sites ≤ sizes.sites) (i : Invariant sites p)
@@ -178,7 +178,7 @@ module _ {sites s t place : ℕ} {x : Site} {base lists : List ℕ} {p : Protoco
 
   -- A yes on the joined lists: CERT to the others.
   abbrev marked : Turn
-  marked = withCourseOf turn (withMark (subAt x place .course) (x .counters .clock))
+  marked = withCourseOf turn (withQueueMark (subAt x place .course) (x .counters .clock))
 
   marked-tx : marked .sub .tx ≡ t
   unfolding turnAt
@@ -188,7 +188,7 @@ module _ {sites s t place : ℕ} {x : Site} {base lists : List ℕ} {p : Protoco
   unfolding turnAt
   marked-held z = omega (arith, mark-stage (subAt x place .course) (x .counters .clock))
 
-  marks : withMark (subAt x place .course) (x .counters .clock) ≡ withMark (courseAt p s t) (p .clock s)
+  marks : withQueueMark (subAt x place .course) (x .counters .clock) ≡ withQueueMark (courseAt p s t) (p .clock s)
   marks = rw (course-is a, y .counters .clock-is)
 
   cert-acts : AtStage p s t stage.prepared → allHeard s (courseAt p s t .heard) mask ≡ true → (es : List ℕ) → Whole es
@@ -199,7 +199,7 @@ module _ {sites s t place : ℕ} {x : Site} {base lists : List ℕ} {p : Protoco
   unfolding settle turnAt sendAll
   cert-acts g all es whole w v =
       let m = mCert t es in
-      let c = withMark (courseAt p s t) (p .clock s) in
+      let c = withQueueMark (courseAt p s t) (p .clock s) in
       let part = mark-mask (subAt x place .course) (x .counters .clock) ∙ mask-is in (
         castAt p s t es,
         record {
@@ -219,7 +219,7 @@ module _ {sites s t place : ℕ} {x : Site} {base lists : List ℕ} {p : Protoco
           log = λ j. refl;
           site =
               send-all-site (p .post) marked Done s mask m few (y .counters .own-is) part (y .channels) refl
-              (site-course y refl a c (withMark (subAt x place .course) (x .counters .clock)) marks
+              (site-course y refl a c (withQueueMark (subAt x place .course) (x .counters .clock)) marks
               (λ o f. absurd (omega (arith, mark-stage (courseAt p s t) (p .clock s)))));
           made = send-all-made (p .post) marked Done s mask m few (y .counters .own-is) part (y .channels) whole inHouse (tx-of a);
         },
@@ -232,7 +232,7 @@ module _ {sites s t place : ℕ} {x : Site} {base lists : List ℕ} {p : Protoco
   unfolding settle turnAt
   lone-acts g all es w v alone =
       let m = mCert t es in
-      let c = withMark (courseAt p s t) (p .clock s) in
+      let c = withQueueMark (courseAt p s t) (p .clock s) in
       let same = others-lone (p .post) s mask m alone in
       record {
         moves = more stop (cast s t es e g all w v);
@@ -251,7 +251,7 @@ module _ {sites s t place : ℕ} {x : Site} {base lists : List ℕ} {p : Protoco
         log = λ j. refl;
         site =
             site-channels
-            (site-course y refl a c (withMark (subAt x place .course) (x .counters .clock)) marks
+            (site-course y refl a c (withQueueMark (subAt x place .course) (x .counters .clock)) marks
             (λ o f. absurd (omega (arith, mark-stage (courseAt p s t) (p .clock s)))))
             (x .channels) _ _
             (record {
@@ -274,8 +274,8 @@ settled-place {s = s} {t = t} {q = q} x place u h l y e f =
     rw (ap (λ (z : Sub). z .tx) b ∙ e) at
     (part-place (settle x place u) q s place (y .live) l (λ z. f (sym (ap (λ (c : Sub). c .course .stage) b) ∙ z)))
 
-mark-all : (s : ℕ) (c : Course) (n : ℕ) → allHeard s 0 (c .mask) ≡ true → allHeard s (withMark c n .heard) (withMark c n .mask) ≡ true
-unfolding withMark
+mark-all : (s : ℕ) (c : Course) (n : ℕ) → allHeard s 0 (c .mask) ≡ true → allHeard s (withQueueMark c n .heard) (withQueueMark c n .mask) ≡ true
+unfolding withQueueMark
 mark-all s c n h = h
 
 -- The vote on the joined lists: with a yes CERT, or the decision where the coordinator is alone; with a no an abort.
@@ -294,7 +294,7 @@ module _ {sites s t place : ℕ} {x : Site} {base lists : List ℕ} {p : Protoco
       let p1 = castAt p s t es in
       let long : place < length (x .live) = omega (arith, a .spot .low, y .live .size) in
       let k = marks few i e y a in
-      let m = withMark (courseAt p s t) (p .clock s) in
+      let m = withQueueMark (courseAt p s t) (p .clock s) in
       let new : courseAt p1 s t ≡ m = ap (λ (b : Sub). b .course) (upd₂-same (p .live) s t (withCourse (p .live s t) m)) in
       let stage1 = mark-stage (courseAt p s t) (p .clock s) in
       let there = settled-place x place u long (a .spot .low) (one .site) (marked-tx few i e y a) (marked-held few i e y a) in

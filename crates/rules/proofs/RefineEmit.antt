@@ -18,7 +18,7 @@ use Rattle.kinds.specs.declared.Entry.{Entry}
 use Rattle.kinds.specs.declared.RecordHead.{RecordHead}
 use Rattle.kinds.specs.declared.Merger.{Merger}
 use Rattle.kinds.specs.declared.Answer.the-variants.{Emitted}
-use Rattle.rules.specs.House.{inMask, siteOf}
+use Rattle.rules.specs.House.{inMask, homeOf}
 use Rattle.rules.specs.Keys.{sortedKey, sortedCount}
 use Rattle.rules.specs.KeysLaws.{word-key}
 use Rattle.rules.specs.Record.{recordWords, recordHead, recordWrites, writeKey, keyAscends, partWriteOk, mergedTests, mergedOk}
@@ -104,8 +104,8 @@ record-one : (n : ℕ) (x : Item) → recordIn (itemWords n x) ≡ itemWords n x
 unfolding itemWords recordWords
 record-one n x = refl
 
-same-site : (a b : House) (k : ℕ) → siteOf a k ≡ siteOf b k
-unfolding siteOf
+same-site : (a b : House) (k : ℕ) → homeOf a k ≡ homeOf b k
+unfolding homeOf
 same-site a b k = refl
 
 module _ {sites : ℕ} {w : World} {v : Stream} (x : StreamIs sites w v) (z : Standing sites v) where
@@ -255,11 +255,11 @@ module _ {sites : ℕ} {w : World} {v : Stream} (x : StreamIs sites w v) (z : St
 
     -- its keys are of their sites
     keys-there : (i j : ℕ) → i < sites → inMask (G .mask) (i + 1) ≡ true → j < sortedCount (item .keys (i + 1))
-        → siteOf (record { sites = sites }) (sortedKey (item .keys (i + 1)) j) ≡ i + 1
+        → homeOf (record { sites = sites }) (sortedKey (item .keys (i + 1)) j) ≡ i + 1
     unfolding partWriteOk entryWords partHeadOf
     keys-there i j l t =
         rw t
-        (with-head (λ u. j < sortedCount (headKeys u) → siteOf (record { sites = sites }) (sortedKey (headKeys u) j) ≡ i + 1) i l t
+        (with-head (λ u. j < sortedCount (headKeys u) → homeOf (record { sites = sites }) (sortedKey (headKeys u) j) ≡ i + 1) i l t
         (λ e u f b.
         let M = queuedPart (w .queues) i 0 in
         let c = x .merger .holds .clear .parts i 0 (inside x z i l) (some-queued x z i l e u f) in
@@ -269,10 +269,10 @@ module _ {sites : ℕ} {w : World} {v : Stream} (x : StreamIs sites w v) (z : St
         let a = rw (r, s) at (part-passed-good (g .house) M (c .part) .writes) in
         let o = all-below-at (partWriteOk (g .house) (i + 1) (keyWords (e .keys))) (sortedCount (e .keys)) j a b in
         let n = eqb-true _ _
-        (every-at (keyAscends (keyWords (e .keys)) j ∷ eqb (siteOf (g .house) (writeKey (keyWords (e .keys)) j)) (i + 1) ∷ []) 1 o) in
+        (every-at (keyAscends (keyWords (e .keys)) j ∷ eqb (homeOf (g .house) (writeKey (keyWords (e .keys)) j)) (i + 1) ∷ []) 1 o) in
         let h : 2 * j + 0 ≡ 2 * j = omega arith in
         let v : writeKey (keyWords (e .keys)) j ≡ sortedKey (e .keys) j = rw h (word-key (e .keys) (sortedCount (e .keys)) j b) in
-        same-site (record { sites = sites }) (g .house) _ ∙ ap (siteOf (g .house)) (sym v) ∙ n))
+        same-site (record { sites = sites }) (g .house) _ ∙ ap (homeOf (g .house)) (sym v) ∙ n))
 
     placed-new : Placed sites item
     placed-new =

@@ -16,7 +16,7 @@ use Rattle.kinds.specs.State.{Value}
 use Rattle.kinds.specs.declared.House.{House}
 use Rattle.kinds.specs.declared.Keys.{Keys}
 use Rattle.rules.specs.MergerJoin.{halved}
-use Rattle.rules.specs.House.{inMask, siteOf}
+use Rattle.rules.specs.House.{inMask, homeOf}
 use Rattle.rules.specs.Keys.{wroteKey, wroteValue, sortedKey, sortedCount}
 use Rattle.rules.specs.KeysLaws.{by-order, words-length, sorted-low, sorted-wrote, wrote-sorted, word-key, word-value}
 use Rattle.rules.specs.Record.{writeKey, writeValue}
@@ -138,26 +138,26 @@ module _ {sites : ℕ} (x : Item) (c : Placed sites x) (k : ℕ) (h : k < sizes.
   abbrev o : House
   o = record { sites = sites }
 
-  block-here : (i : ℕ) (v : Value) → siteOf o k ≡ i + 1 → laid (siteWrites x i) k (writesIn (siteWrites x i)) v ≡ leaves o k v x
+  block-here : (i : ℕ) (v : Value) → homeOf o k ≡ i + 1 → laid (siteWrites x i) k (writesIn (siteWrites x i)) v ≡ leaves o k v x
   unfolding laid
   block-here i v e =
       by-test (inMask (x .mask) (i + 1))
       (λ t. rw (e, t, key-count (x .keys (i + 1))) (laid-sorted (x .keys (i + 1)) k v h))
       (λ t. rw (e, t))
 
-  block-there : (i : ℕ) (v : Value) → (siteOf o k ≡ i + 1 → ⊥) → laid (siteWrites x i) k (writesIn (siteWrites x i)) v ≡ v
+  block-there : (i : ℕ) (v : Value) → (homeOf o k ≡ i + 1 → ⊥) → laid (siteWrites x i) k (writesIn (siteWrites x i)) v ≡ v
   unfolding laid
   block-there i v e =
       by-test (inMask (x .mask) (i + 1))
       (λ t. let b = x .keys (i + 1) in
       let n : wroteKey b k ≡ false =
-      unset _ (λ u. let (j, l, q) = wrote-sorted b k h u in e (ap (siteOf o) (sym q) ∙ c .keys (i + 1) j (omega arith) t l)) in
+      unset _ (λ u. let (j, l, q) = wrote-sorted b k h u in e (ap (homeOf o) (sym q) ∙ c .keys (i + 1) j (omega arith) t l)) in
       rw (t, key-count b) (laid-sorted b k v h ∙ rw n))
       (λ t. rw t)
 
   -- nothing below the key's site, and there what the item leaves
   module _ (v : Value) where
-    below : (n : ℕ) → n < siteOf o k → laid (itemWrites n x) k (writesIn (itemWrites n x)) v ≡ v
+    below : (n : ℕ) → n < homeOf o k → laid (itemWrites n x) k (writesIn (itemWrites n x)) v ≡ v
     unfolding itemWrites foldBelow laid
     below zero l = refl
     below (suc n) l =
@@ -168,7 +168,7 @@ module _ {sites : ℕ} (x : Item) (c : Placed sites x) (k : ℕ) (h : k < sizes.
         )
         (block-there n v (λ e. omega arith))
 
-    beyond : (n : ℕ) → siteOf o k ≤ n → laid (itemWrites n x) k (writesIn (itemWrites n x)) v ≡ leaves o k v x
+    beyond : (n : ℕ) → homeOf o k ≤ n → laid (itemWrites n x) k (writesIn (itemWrites n x)) v ≡ leaves o k v x
     unfolding itemWrites foldBelow
     beyond zero l = absurd (omega (arith, positive-site o k))
     beyond (suc n) l =
@@ -176,13 +176,13 @@ module _ {sites : ℕ} (x : Item) (c : Placed sites x) (k : ℕ) (h : k < sizes.
           item-count n x,
           laid-append (itemWrites n x) (siteWrites x n) (writesIn (itemWrites n x)) k v (item-size n x) (writesIn (siteWrites x n)),
         )
-        (by-order n (siteOf o k)
+        (by-order n (homeOf o k)
         (λ a. rw (below n a) (block-here n v (omega arith)))
         (λ a. rw (beyond n a) (block-there n (leaves o k v x) (λ e. omega arith))))
 
     pub laid-item : laid (itemWrites sites x) k (writesIn (itemWrites sites x)) v ≡ leaves o k v x
     laid-item =
-        by-order sites (siteOf o k)
-        (λ a. let n : inMask (x .mask) (siteOf o k) ≡ false = unset _ (λ t. omega (arith, c .few (siteOf o k) (positive-site o k) t)) in
+        by-order sites (homeOf o k)
+        (λ a. let n : inMask (x .mask) (homeOf o k) ≡ false = unset _ (λ t. omega (arith, c .few (homeOf o k) (positive-site o k) t)) in
         below sites a ∙ rw n)
         (λ a. beyond sites a)

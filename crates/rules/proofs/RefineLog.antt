@@ -25,7 +25,7 @@ use Rattle.rules.specs.Record.{recordWords}
 use Rattle.rules.specs.KeysLaws.{by-order}
 use Rattle.rules.specs.Live.{partAt, isQueued}
 use Rattle.rules.specs.History.{slotOf, remembered, forgotten, forgetInto}
-use Rattle.rules.specs.Queue.{leastQueued, isDue, stateNumber}
+use Rattle.rules.specs.Queue.{leastQueued, isInstallable, stateNumber}
 use Rattle.rules.specs.QueueLaws.{least-first, state-clock, state-open, state-decided, StateIs, state-is}
 use Rattle.rules.specs.Valid.{siteOk}
 use Rattle.rules.specs.Effect.{Effect, refused}
@@ -218,12 +218,12 @@ module _ {sites : ℕ} {w : World} {p : Protocol} (r : Refines sites w p) (s : �
   abbrev due : ℕ
   due = leastQueued (site .live) sizes.live
 
-  installs : installCode (siteOk site) (length out) (length (w .base s)) (isDue (site .live) due) (site .counters .installs) ≡ 0
+  installs : installCode (siteOk site) (length out) (length (w .base s)) (isInstallable (site .live) due) (site .counters .installs) ≡ 0
       → Follows sites p (logStep w s (installedAt site (w .base s) due) (baseAfter site (w .base s)) .world)
       (book.installs s (installedAt site (w .base s) due .answer))
-  unfolding installedAt isDue
+  unfolding installedAt isInstallable
   installs e =
-      let c = install-clear (siteOk site) (length out) (length (w .base s)) (isDue (site .live) due) (site .counters .installs) e in
+      let c = install-clear (siteOk site) (length out) (length (w .base s)) (isInstallable (site .live) due) (site .counters .installs) e in
       let (l, h) = inside r s (c .valid) in
       let y = r .site s l h in
       let low : due < sizes.live =
@@ -280,7 +280,7 @@ module _ {sites : ℕ} {w : World} {p : Protocol} (r : Refines sites w p) (s : �
       Follows sites p (x .world) (toldBy (world.install s out) (x .answer) (x .words))
   unfolding step logStep installOf installedAt
   install-moves =
-      let code = installCode (siteOk site) (length out) (length (w .base s)) (isDue (site .live) due) (site .counters .installs) in
+      let code = installCode (siteOk site) (length out) (length (w .base s)) (isInstallable (site .live) due) (site .counters .installs) in
       by-code (λ e. Follows sites p (logStep w s e (e .lent) .world) (book.installs s (e .answer))) code site (w .base s)
       (installedAt site (w .base s) due) installs
       (p, stop, refl, unlogged r s (refused code site (w .base s)) (w .base s) refl refl refl)

@@ -20,7 +20,7 @@ use Rattle.kinds.specs.declared.Entry.{Entry}
 use Rattle.kinds.specs.declared.RecordHead.{RecordHead}
 use Rattle.kinds.specs.declared.Source.{Source}
 use Rattle.kinds.specs.declared.Merger.{Merger}
-use Rattle.rules.specs.House.{coordinatorOf, inMask, siteOf}
+use Rattle.rules.specs.House.{coordinatorOf, inMask, homeOf}
 use Rattle.rules.specs.Keys.{sortedKey, sortedCount, sortedWords}
 use Rattle.rules.specs.Message.{messageWords}
 use Rattle.rules.specs.Record.{recordWords, recordHead, recordShape}
@@ -30,7 +30,7 @@ use Rattle.rules.specs.Install.{stateWords}
 use Rattle.rules.specs.Merger.{sourceAt, queuedPart, writesIn}
 use Rattle.rules.specs.MergerKept.{Holds}
 use Rattle.rules.specs.Copy.{copyNumber, copyCoordinator, copyValue}
-use Rattle.rules.specs.World.{World, Is, here, there, sameWords}
+use Rattle.rules.specs.World.{World, Member, here, there, sameWords}
 use Rattle.rules.specs.Book.{Fact}
 use Rattle.rules.proofs.Tables.{All}
 use Rattle.rules.proofs.Protocol.{Protocol, Msg, mJoin, mJoined, mPrepare, mConc, mCert, mVote, mCommit, mAbort, Moves, stop, more}
@@ -83,7 +83,7 @@ pub record MergerIs (sites : ℕ) (g : Merger) (queues : List ℕ) (m : stream.M
 -- an item's keys are of its parts' sites, which the house has
 pub record Placed (sites : ℕ) (x : Item) : Type 0 where
   pub keys : (s j : ℕ) → 1 ≤ s → inMask (x .mask) s ≡ true → j < sortedCount (x .keys s)
-      → siteOf (record { sites = sites }) (sortedKey (x .keys s) j) ≡ s
+      → homeOf (record { sites = sites }) (sortedKey (x .keys s) j) ≡ s
   pub few : (s : ℕ) → 1 ≤ s → inMask (x .mask) s ≡ true → s ≤ sites
 
 -- the pair of the last of some items
@@ -167,7 +167,7 @@ pub posted-no-record : (post : ℕ → ℕ → List Msg) (ws : List ℕ) → Pos
 posted-no-record post ws p e k = message-shape (p .from) (p .to) (p .place + 1) _ (rw (p .words) at e) (rw (p .words) at k)
 
 -- What is in a list of words of things.
-pub is-map : {A B : Type 0} (f : A → B) {b : B} (l : List A) → Is b (map f l) → (a : A) × (b ≡ f a)
+pub is-map : {A B : Type 0} (f : A → B) {b : B} (l : List A) → Member b (map f l) → (a : A) × (b ≡ f a)
 is-map f (x ∷ l) here = (x, refl)
 is-map f (x ∷ l) (there i) = is-map f l i
 

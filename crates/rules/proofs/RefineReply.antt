@@ -19,7 +19,7 @@ use Rattle.kinds.specs.State.{subAt, withCourse}
 use Rattle.rules.specs.House.{coordinatorOf}
 use Rattle.rules.specs.Effect.{Change, settle}
 use Rattle.rules.specs.CourseLaws.{no-entries}
-use Rattle.rules.specs.Course.{newSub, takenFrom, sendTo, raise, withCourseOf, withStage, withMark, preparedStep, certifiedStep}
+use Rattle.rules.specs.Course.{newSub, takenFrom, sendTo, raise, withCourseOf, withStage, withQueueMark, preparedStep, certifiedStep}
 use Rattle.rules.specs.Deliver.{arrived}
 use Rattle.rules.specs.World.{upd}
 use Rattle.rules.specs.Book as book
@@ -157,13 +157,13 @@ module _ {sites : ℕ} (p : Protocol) (s a t : ℕ) {x : Site} {base lists : Lis
     -- CERT: it votes.
     yes-one : (es : List ℕ) → Next p a s (mCert t es) → AtStage p s t stage.prepared → Certified p s t es
         → (let u = arrived x place a in
-        let c = sendTo (withCourseOf u (withMark (u .sub .course) (u .counters .clock))) kind.vote a (u .counters .clock) 0 [] in
+        let c = sendTo (withCourseOf u (withQueueMark (u .sub .course) (u .counters .clock))) kind.vote a (u .counters .clock) 0 [] in
         (q : Protocol) × Acts sites s p q (settle x place (c .turn)) base lists (c .words) [])
     unfolding settle sendTo arrived
     yes-one es next g v =
         let m = mVote t (p .clock s) 0 in
-        let c = withMark (courseAt p s t) (p .clock s) in
-        let d = withMark (subAt x place .course) (x .counters .clock) in
+        let c = withQueueMark (courseAt p s t) (p .clock s) in
+        let d = withQueueMark (subAt x place .course) (x .counters .clock) in
         let u = withCourseOf (arrived x place a) d in
         let same : sendTo u kind.vote a (x .counters .clock) 0 [] ≡ sendTo u kind.vote a (p .clock s) 0 [] =
         ap (λ (z : ℕ). sendTo u kind.vote a z 0 []) (y .counters .clock-is) in (

@@ -15,7 +15,7 @@ use Rattle.kinds.specs.declared.Site.{Site}
 use Rattle.kinds.specs.State.{noSub, subAt, withSub, withCourse}
 use Rattle.rules.specs.House.{coordinatorOf}
 use Rattle.rules.specs.Live.{placeOf}
-use Rattle.rules.specs.Course.{withMark, withDecision}
+use Rattle.rules.specs.Course.{withQueueMark, withDecision}
 use Rattle.rules.proofs.Tables.{upd₂, row-same}
 use Rattle.rules.proofs.Protocol.{Protocol, courseAt}
 use Rattle.rules.proofs.Refines.{IsFree, Sized, LiveIs, Slice, SiteIs}
@@ -27,8 +27,8 @@ gone : noSub .course .stage ≡ stage.free
 unfolding noSub
 gone = refl
 
-pub mark-stage : (c : Course) (n : ℕ) → withMark c n .stage ≡ stage.queued
-unfolding withMark
+pub mark-stage : (c : Course) (n : ℕ) → withQueueMark c n .stage ≡ stage.queued
+unfolding withQueueMark
 mark-stage c n = refl
 
 pub decision-stage : (c : Course) (n : ℕ) → withDecision c n .stage ≡ stage.decided

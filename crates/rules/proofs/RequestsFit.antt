@@ -25,10 +25,10 @@ use Rattle.rules.specs.Send.{countsLow}
 use Rattle.rules.specs.Live.{placeOf, allHeard}
 use Rattle.rules.specs.History.{remembered, slotOf}
 use Rattle.rules.specs.HistoryLaws.{slot-low}
-use Rattle.rules.specs.Queue.{leastQueued, isDue}
+use Rattle.rules.specs.Queue.{leastQueued, isInstallable}
 use Rattle.rules.specs.Join.{joined}
 use Rattle.rules.specs.Certify.{concurrent}
-use Rattle.rules.specs.Valid.{siteOk, entryOk, listAt, countersOk, handedOk}
+use Rattle.rules.specs.Valid.{siteOk, slotOk, listAt, countersOk, handedOk}
 use Rattle.rules.specs.Effect.{turnAt, changed}
 use Rattle.rules.specs.Course.{channelSpent, withSubOf, withCourseOf, withRequest, abortStep}
 use Rattle.rules.specs.Enlist.{isMine, enlistCode, joinerCode, enlistAt, enlistOf}
@@ -207,7 +207,7 @@ module _ {s : Site} {lists : List ℕ} (y : Sound s lists) where
     gone = withSubOf (turnAt s place) noSub
 
     slot-fits : (i : ℕ) → i < sizes.history
-        → entryOk o here (ltb i (remembered (n + 1))) (getD (set (s .history) (slotOf n) entry) i pastEntry) ≡ true
+        → slotOk o here (ltb i (remembered (n + 1))) (getD (set (s .history) (slotOf n) entry) i pastEntry) ≡ true
     unfolding entryOf
     slot-fits i k =
         let b = part-at y place low in
@@ -240,7 +240,7 @@ module _ {s : Site} {lists : List ℕ} (y : Sound s lists) where
   unfolding installOf
   install-call room base =
       let place = leastQueued (s .live) sizes.live in
-      let code = installCode (siteOk s) room (length base) (isDue (s .live) place) (s .counters .installs) in
+      let code = installCode (siteOk s) room (length base) (isInstallable (s .live) place) (s .counters .installs) in
       by-code (λ e. handedOk (e .site) lists ≡ true) code s base _
       (λ z.
       let due = install-clear _ _ _ _ _ z .least in

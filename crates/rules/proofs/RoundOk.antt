@@ -24,7 +24,7 @@ abbrev pub ListOf : Protocol → ℕ → ℕ → Type 0
 ListOf p t r = (p .made r t ≡ true) × Within (p .list r t) (p .gathered t)
 
 abbrev pub VoteOf : Protocol → ℕ → ℕ → Type 0
-VoteOf p t r = (p .yes r t ≡ true) × (p .mark r t ≤ p .clock (coordinatorOf t))
+VoteOf p t r = (p .yes r t ≡ true) × (p .queueMark r t ≤ p .clock (coordinatorOf t))
 
 abbrev pub AskedOf : Protocol → ℕ → Course → Type 0
 AskedOf p t c = (p .asked t ≡ true) × (p .mask t ≡ c .mask)

@@ -117,15 +117,15 @@ module _ {sites : ℕ} {p : Protocol} (i : Invariant sites p) {q : Protocol} (c 
   yes : (s t : ℕ) → q .yes s t ≡ true → (q .certed t ≡ true) × (inMask (q .mask t) s ≡ true)
   yes s t y = go (c .news .yes s t y)
     where
-      go : (p .yes s t ≡ true) ⊎ YesNow p q s t (q .mark s t) → (q .certed t ≡ true) × (inMask (q .mask t) s ≡ true)
+      go : (p .yes s t ≡ true) ⊎ YesNow p q s t (q .queueMark s t) → (q .certed t ≡ true) × (inMask (q .mask t) s ≡ true)
       go (inl e) = let k = i .account .yes s t e in
           (c .later .certed t (k .0) .0, rw (c .later .asked t (i .account .certed-asked t (k .0)) .1) (k .1))
       go (inr (x, v, e, a, b)) = (a, b)
 
-  voted : (t r : ℕ) → 0 < q .num t → In (q .mask t) r → (q .yes r t ≡ true) × (q .mark r t < q .num t)
+  voted : (t r : ℕ) → 0 < q .num t → In (q .mask t) r → (q .yes r t ≡ true) × (q .queueMark r t < q .num t)
   voted t r n m = go (c .news .num t n)
     where
-      go : (0 < p .num t) ⊎ NumNow p q t (q .num t) → (q .yes r t ≡ true) × (q .mark r t < q .num t)
+      go : (0 < p .num t) ⊎ NumNow p q t (q .num t) → (q .yes r t ≡ true) × (q .queueMark r t < q .num t)
       go (inl e) =
           let a = i .account .certed-asked t (i .account .num-certed t e) in
           let k = i .account .voted t r e (rw (c .later .asked t a .1) at m) in

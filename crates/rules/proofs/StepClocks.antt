@@ -90,10 +90,10 @@ module _ {sites : ℕ} {p : Protocol} (i : Invariant sites p) {q : Protocol} (c 
       go (inl a) = omega (arith, c .later .num t a, i .clocks .num t, c .later .clock (coordinatorOf t))
       go (inr (x, y, e, z, o)) = omega (arith, c .courses .decided (coordinatorOf t) t z .1, decided (coordinatorOf t) t z)
 
-  mark : (s t j : ℕ) → q .yes s t ≡ true → j < q .snap s t → at q s j .number ≤ q .mark s t
+  mark : (s t j : ℕ) → q .yes s t ≡ true → j < q .snap s t → at q s j .number ≤ q .queueMark s t
   mark s t j y l = go (c .news .yes s t y)
     where
-      go : (p .yes s t ≡ true) ⊎ YesNow p q s t (q .mark s t) → at q s j .number ≤ q .mark s t
+      go : (p .yes s t ≡ true) ⊎ YesNow p q s t (q .queueMark s t) → at q s j .number ≤ q .queueMark s t
       go (inl e) =
           let a = c .later .asked t (i .account .certed-asked t (i .account .yes s t e .0)) .0 in
           let k = saw i c s t j (part-had i c t s a (snap-has i c s t (omega arith))) l in

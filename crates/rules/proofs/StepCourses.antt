@@ -10,10 +10,10 @@ use Rattle.kinds.specs.declared.Sub.{Sub}
 use Rattle.kinds.specs.State.{noSub, withCourse}
 use Rattle.rules.specs.House.{coordinatorOf}
 use Rattle.rules.specs.Message.{entryCount}
-use Rattle.rules.specs.Course.{newSub, withParticipant, withReply, withDecision, withMark, withRequest, withStage}
+use Rattle.rules.specs.Course.{newSub, withParticipant, withReply, withDecision, withQueueMark, withRequest, withStage}
 use Rattle.rules.specs.World.{upd}
 use Rattle.rules.proofs.Tables.{upd₂, upd-same, upd-cases, upd₂-cases, upd-both, upd₂-both, upd₂-three}
-use Rattle.rules.proofs.Protocol.{Protocol, set-asked, set-mask, set-made, set-yes, set-mark, set-num, withLive, withCourseAt}
+use Rattle.rules.proofs.Protocol.{Protocol, set-asked, set-mask, set-made, set-yes, set-queue-mark, set-num, withLive, withCourseAt}
 use Rattle.rules.proofs.Protocol.{AtStage, courseAt, Move, begin, enlist, access, request, abort, cast, decide, install, report}
 use Rattle.rules.proofs.Protocol.{joins, full, joined, prepared, lost, unknown, gathers, certified, rejects, votes, commits, aborts}
 use Rattle.rules.proofs.Protocol.{passes, freshProtocol}
@@ -31,7 +31,7 @@ record CourseOk (m y a : Bool) (participants mark num : ℕ) (c : Course) : Type
   stages : c .stage ≤ stage.rejected
 
 abbrev CoursesAt : Protocol → Type 0
-CoursesAt p = (s t : ℕ) → CourseOk (p .made s t) (p .yes s t) (p .asked t) (p .mask t) (p .mark s t) (p .num t) (courseAt p s t)
+CoursesAt p = (s t : ℕ) → CourseOk (p .made s t) (p .yes s t) (p .asked t) (p .mask t) (p .queueMark s t) (p .num t) (courseAt p s t)
 
 of-courses : (p : Protocol) → Courses p → CoursesAt p
 of-courses p i s t =
@@ -161,10 +161,10 @@ module _ (sites : ℕ) (p : Protocol) (i : Invariant sites p) where
   all = of-courses p (i .courses)
 
   -- one part changes, and nothing of the account
-  one : (s t : ℕ) (b : Sub) → CourseOk (p .made s t) (p .yes s t) (p .asked t) (p .mask t) (p .mark s t) (p .num t) (b .course)
+  one : (s t : ℕ) (b : Sub) → CourseOk (p .made s t) (p .yes s t) (p .asked t) (p .mask t) (p .queueMark s t) (p .num t) (b .course)
       → CoursesAt (withLive p s t b)
   one s t b h =
-      upd₂-cases (λ j u b. CourseOk (p .made j u) (p .yes j u) (p .asked u) (p .mask u) (p .mark j u) (p .num u) (b .course))
+      upd₂-cases (λ j u b. CourseOk (p .made j u) (p .yes j u) (p .asked u) (p .mask u) (p .queueMark j u) (p .num u) (b .course))
       (p .live) s t b h
       (λ j u n. all j u)
 
@@ -190,10 +190,10 @@ module _ (sites : ℕ) (p : Protocol) (i : Invariant sites p) where
   -- a yes, with the clock for its mark
   voted : (s t : ℕ) → AtStage p s t stage.prepared
       → CoursesAt (set-yes (upd₂ (p .yes) s t true)
-      (set-mark (upd₂ (p .mark) s t (p .clock s)) (withCourseAt p s t (withMark (courseAt p s t) (p .clock s)))))
-  unfolding withMark
+      (set-queue-mark (upd₂ (p .queueMark) s t (p .clock s)) (withCourseAt p s t (withQueueMark (courseAt p s t) (p .clock s)))))
+  unfolding withQueueMark
   voted s t a =
-      upd₂-three (λ j u y k b. CourseOk (p .made j u) y (p .asked u) (p .mask u) k (p .num u) (b .course)) (p .yes) (p .mark) (p .live) s t
+      upd₂-three (λ j u y k b. CourseOk (p .made j u) y (p .asked u) (p .mask u) k (p .num u) (b .course)) (p .yes) (p .queueMark) (p .live) s t
       true (p .clock s) _
       (at-queued _ _ _ _ _ _ _ refl (refl, refl) (all s t .mask (λ f. omega arith) (λ f. omega arith))) (λ j u n. all j u)
 
@@ -202,7 +202,7 @@ module _ (sites : ℕ) (p : Protocol) (i : Invariant sites p) where
       → CoursesAt (set-made (upd₂ (p .made) s t true) (withCourseAt p s t (withStage (courseAt p s t) w stage.prepared)))
   unfolding withStage
   listed s t w a h =
-      upd₂-both (λ j u m b. CourseOk m (p .yes j u) (p .asked u) (p .mask u) (p .mark j u) (p .num u) (b .course)) (p .made)
+      upd₂-both (λ j u m b. CourseOk m (p .yes j u) (p .asked u) (p .mask u) (p .queueMark j u) (p .num u) (b .course)) (p .made)
       (p .live) s t true _
       (at-prepared _ _ _ _ _ _ _ refl (refl, all s t .active a .1) h) (λ j u n. all j u)
 
@@ -212,10 +212,10 @@ module _ (sites : ℕ) (p : Protocol) (i : Invariant sites p) where
       (set-mask (upd (p .mask) t w) (set-made (upd₂ (p .made) s t true) (withCourseAt p s t (withRequest (courseAt p s t) n)))))
   unfolding withRequest
   requested s t n w c a e =
-      upd₂-both (λ j u m b. CourseOk m (p .yes j u) (upd (p .asked) t true u) (upd (p .mask) t w u) (p .mark j u) (p .num u) (b .course))
+      upd₂-both (λ j u m b. CourseOk m (p .yes j u) (upd (p .asked) t true u) (upd (p .mask) t w u) (p .queueMark j u) (p .num u) (b .course))
       (p .made) (p .live) s t true _
       (at-prepared _ _ _ _ _ _ _ refl (refl, all s t .active a .1) (upd-same (p .asked) t true, sym e ∙ sym (upd-same (p .mask) t w)))
-      (λ j u x. upd-both (λ u b m. CourseOk (p .made j u) (p .yes j u) b m (p .mark j u) (p .num u) (courseAt p j u)) (p .asked)
+      (λ j u x. upd-both (λ u b m. CourseOk (p .made j u) (p .yes j u) b m (p .queueMark j u) (p .num u) (courseAt p j u)) (p .asked)
       (p .mask) t true w
       (asked-now _ _ _ _ _ _ _ (all j t) (i .rounds .unasked t (rw c a)) w) (λ u y. all j u) u)
 
@@ -226,16 +226,16 @@ module _ (sites : ℕ) (p : Protocol) (i : Invariant sites p) where
   numbered s t n c a l =
       let z : AtStage p (coordinatorOf t) t stage.queued = rw c a in
       let e : p .num t ≡ 0 = i .rounds .undecided t (λ f. omega arith) (λ f. omega arith) in
-      upd₂-cases (λ j u b. CourseOk (p .made j u) (p .yes j u) (p .asked u) (p .mask u) (p .mark j u) (upd (p .num) t n u) (b .course))
+      upd₂-cases (λ j u b. CourseOk (p .made j u) (p .yes j u) (p .asked u) (p .mask u) (p .queueMark j u) (upd (p .num) t n u) (b .course))
       (p .live) s t _
       (at-decided _ _ _ _ _ _ _ refl (all s t .queued a .0, sym (upd-same (p .num) t n), rw (upd-same (p .num) t n) l)
       (all s t .mask (λ f. omega arith) (λ f. omega arith)))
-      (λ j u x. upd-cases (λ u m. CourseOk (p .made j u) (p .yes j u) (p .asked u) (p .mask u) (p .mark j u) m (courseAt p j u))
+      (λ j u x. upd-cases (λ u m. CourseOk (p .made j u) (p .yes j u) (p .asked u) (p .mask u) (p .queueMark j u) m (courseAt p j u))
       (p .num) t n
       (decided-now _ _ _ _ _ _ _ (all j t) e n) (λ u y. all j u) u)
 
   step : (q : Protocol) → Move sites p q → CoursesAt q
-  unfolding newSub withParticipant withDecision withMark withRequest withStage
+  unfolding newSub withParticipant withDecision withQueueMark withRequest withStage
   step q (begin s t l m n e) = let h = blank p s t (i .account) l (new-tx sites p s t (i .parts) n e s) in
       one s t _ (at-active _ _ _ _ _ _ _ refl (h .made) (h .yes))
   step q (enlist s t r c a l m n o) = let h = all s t .active a in one s t _ (at-active _ _ _ _ _ _ _ a (h .0) (h .1))

@@ -131,7 +131,7 @@ module _ {sites : ℕ} {p : Protocol} (i : Invariant sites p) {q : Protocol} (c 
       keys-u = keys-kept i c s u (rw is at (i .parts .entry-has s x (seen .1)))
           (λ f. let g = rw e at (c .parts .entry-gone s x b) in omega arith)
 
-      go : (p .yes s t ≡ true) ⊎ YesNow p q s t (q .mark s t)
+      go : (p .yes s t ≡ true) ⊎ YesNow p q s t (q .queueMark s t)
           → (entryMark (q .cert t) j ≡ 1 → ⊥) × (dependent (p .keys s t) (p .keys s u) ≡ false)
       go (inl z) =
           let o = c .later .certed t (i .account .yes s t z .0) .1 in

@@ -112,10 +112,10 @@ module _ {sites : ℕ} (few : sites ≤ 8) {p : Protocol} (i : Invariant sites p
       go (l-state n st e) = rw e (all-append (i .order .queued s t x) (all-one (st .marks t x)))
 
   -- the mark of a yes: the clock of this move, or that of a part which was open
-  marked : (s t : ℕ) → q .yes s t ≡ true → (p .yes s t ≡ true → AtStage p s t stage.queued) → All (RecLow (q .mark s t)) (q .log s)
+  marked : (s t : ℕ) → q .yes s t ≡ true → (p .yes s t ≡ true → AtStage p s t stage.queued) → All (RecLow (q .queueMark s t)) (q .log s)
   marked s t y x = go (c .news .yes s t y)
     where
-      go : (p .yes s t ≡ true) ⊎ YesNow p q s t (q .mark s t) → All (RecLow (q .mark s t)) (q .log s)
+      go : (p .yes s t ≡ true) ⊎ YesNow p q s t (q .queueMark s t) → All (RecLow (q .queueMark s t)) (q .log s)
       go (inl e) = rw (c .later .yes s t e .1, ← i .courses .queued s t (x e) .1) (open-kept s t (x e))
       go (inr (u, v, e, z, m)) = rw e (log-low i c s)
 
@@ -170,7 +170,7 @@ module _ {sites : ℕ} (few : sites ≤ 8) {p : Protocol} (i : Invariant sites p
       let (y, e, n) = c .courses .decided s t x in
       let l = committed-yes (c .parts) k t n s (c .parts .has s t (λ f. omega arith)) .1 in
       let z : q .num t - 1 + 1 ≡ q .num t = omega arith in
-      rw z at (below-next (coordinatorOf t) (all-map (low-more (q .mark s t) (q .num t - 1) (omega arith)) (marked s t y w))
+      rw z at (below-next (coordinatorOf t) (all-map (low-more (q .queueMark s t) (q .num t - 1) (omega arith)) (marked s t y w))
       (λ j b. low-coordinator few (c .parts) s _ (c .parts .entry-has s j b)))
 
   decided : (s t : ℕ) → AtStage q s t stage.decided → All (RecBelow (q .num t) (coordinatorOf t)) (q .log s)

@@ -14,7 +14,7 @@ use Rattle.kinds.specs.State.{noSub, withCourse}
 use Rattle.rules.specs.House.{coordinatorOf, maskOf}
 use Rattle.rules.specs.Message.{entryCount}
 use Rattle.rules.specs.Live.{allHeard}
-use Rattle.rules.specs.Course.{newSub, withParticipant, withReply, withDecision, withMark, withRequest, withStage}
+use Rattle.rules.specs.Course.{newSub, withParticipant, withReply, withDecision, withQueueMark, withRequest, withStage}
 use Rattle.rules.specs.World.{upd}
 use Rattle.rules.proofs.Tables.{upd₂, upd-same, upd-other, upd₂-same, upd₂-cases, upd₂-other}
 use Rattle.rules.proofs.Protocol.{Protocol, Msg, mJoin, mJoined, mPrepare, mConc, mCert, mVote, mCommit, mAbort, inst, AtStage}
@@ -126,7 +126,7 @@ module _ {sites : ℕ} {p : Protocol} (i : Invariant sites p) (f : Phases p) whe
       go (inr e) = absurd (o e)
 
   step : (q : Protocol) → Move sites p q → Phases q
-  unfolding newSub withParticipant withReply withDecision withMark withRequest withStage noSub
+  unfolding newSub withParticipant withReply withDecision withQueueMark withRequest withStage noSub
   step q (begin s t l m n e) =
       let c : coordinatorOf t ≡ s = rw e (tx-coordinator s (p .serial s + 1) (omega arith)) in
       writes-none i f q s t c (part-begun p q s t _ refl refl refl refl) refl refl
@@ -157,7 +157,7 @@ module _ {sites : ℕ} {p : Protocol} (i : Invariant sites p) (f : Phases p) whe
       (λ j k n fw bk x. own-now s t noSub (dead-now t (ends-apart (number s t c a d) (alive s t c a) _ n x)))
   step q (cast s t es c a l w v) =
       let held : Held p s t = λ z. omega arith in
-      let b = withCourse (p .live s t) (withMark (courseAt p s t) (p .clock s)) in
+      let b = withCourse (p .live s t) (withQueueMark (courseAt p s t) (p .clock s)) in
       writes-all i f q s t c (part-now p q s t b refl refl (λ u n. refl) (λ u n. refl)) refl (courseAt p s t .mask) (mCert t es) refl refl
       (λ j k n fw bk x. own-now s t b
       (asks-on (number s t c held (λ z. omega arith)) (alive s t c held) _ _ (all-in s t c held l j k n) (k, λ z. none-in j (z .1)) refl
@@ -222,7 +222,7 @@ module _ {sites : ℕ} {p : Protocol} (i : Invariant sites p) (f : Phases p) whe
       (λ j l u v fw bk y. own-now s t b (wider-on _ refl (λ z. z) (reply-other s t a 0 (entryCount es) j (ends i x .0 .0) u) y))
   step q (certified a s t es x y v) =
       let o = said i x in
-      let b = withCourse (p .live s t) (withMark (courseAt p s t) (p .clock s)) in
+      let b = withCourse (p .live s t) (withQueueMark (courseAt p s t) (p .clock s)) in
       answers i f q a s t (mCert t es) x refl (part-now p q s t b refl refl (λ u n. refl) (λ u n. refl)) refl refl refl
       (mVote t (p .clock s) 0) refl refl (o .0) (o .4)
       (λ fw bk z. there-now s t b (certified-on (p .clock s) es z))

@@ -13,7 +13,7 @@ use Rattle.kinds.specs.Stage as stage
 use Rattle.kinds.specs.declared.Sub.{Sub}
 use Rattle.kinds.specs.State.{noSub}
 use Rattle.rules.specs.House.{coordinatorOf, inMask, maskOf}
-use Rattle.rules.specs.Course.{newSub, withParticipant, withReply, withDecision, withMark, withRequest, isOutstanding}
+use Rattle.rules.specs.Course.{newSub, withParticipant, withReply, withDecision, withQueueMark, withRequest, isOutstanding}
 use Rattle.rules.proofs.Tables.{upd₂, upd-same, upd-other, upd₂-same, upd₂-cases, Other₂}
 use Rattle.rules.proofs.Protocol.{Protocol, AtStage, courseAt, Whole, Move, begin, enlist, access, request, abort, cast, decide}
 use Rattle.rules.proofs.Protocol.{install, report, joins, full, joined, prepared, lost, unknown, gathers, certified, rejects, votes}
@@ -132,9 +132,9 @@ module _ {sites : ℕ} {p : Protocol} (i : Invariant sites p) {q : Protocol} (l 
         lists r (inr z) = absurd (none-in r (z .1))
 
     -- the coordinator's yes: a new round, which has that vote
-    voted : (n : ℕ) → AtStage p s t stage.prepared → (q .yes s t ≡ true) × (q .mark s t ≤ q .clock s) → q .num t ≡ p .num t
-        → RoundOk q t (withMark (courseAt p s t) n)
-    unfolding withMark
+    voted : (n : ℕ) → AtStage p s t stage.prepared → (q .yes s t ≡ true) × (q .queueMark s t ≤ q .clock s) → q .num t ≡ p .num t
+        → RoundOk q t (withQueueMark (courseAt p s t) n)
+    unfolding withQueueMark
     voted n a v e =
         let h : Held p s t = λ z. omega arith in
         at-queued q t _ refl (base-reset q t _ (courseAt p s t) refl refl (base-here h)) (asked-here h (λ z. omega arith)) votes
@@ -251,7 +251,7 @@ module _ (sites : ℕ) (p : Protocol) (h : sites ≤ sizes.sites) (i : Invariant
   step q (abort s t c a d) l = gone i l s t (λ u. same)
   step q (cast s t es c a x w v) l =
       one i l s t _ (λ u n. let z = others i l s t c u n in (refl, refl, upd-other (p .certed) t _ u z, refl))
-      (λ c. voted i l s t c _ a (upd₂-same (p .yes) s t true, rw (upd₂-same (p .mark) s t (p .clock s)) (omega arith)) refl)
+      (λ c. voted i l s t c _ a (upd₂-same (p .yes) s t true, rw (upd₂-same (p .queueMark) s t (p .clock s)) (omega arith)) refl)
   step q (decide s t c a x) l =
       one i l s t _ (λ u n. let z = others i l s t c u n in (refl, refl, refl, upd-other (p .num) t _ u z))
       (λ c. decided i l s t c _ a)

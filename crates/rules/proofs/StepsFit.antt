@@ -30,7 +30,7 @@ use Rattle.rules.specs.Send.{headTo}
 use Rattle.rules.specs.Certify.{conflictsWith, uncertainOf, voteOf}
 use Rattle.rules.specs.Effect.{Change}
 use Rattle.rules.specs.Course.{withSubOf, withCourseOf, raise, headOf, sendTo, sendAll, quietly, withParticipant, enlistStep}
-use Rattle.rules.specs.Course.{withReply, abortStep, withDecision, commitStep, decideStep, withMark, castStep, prepareStep, voteStep}
+use Rattle.rules.specs.Course.{withReply, abortStep, withDecision, commitStep, decideStep, withQueueMark, castStep, prepareStep, voteStep}
 use Rattle.rules.specs.Course.{withStage, preparedStep, certifiedStep}
 use Rattle.rules.specs.Valid.{courseOk, countersOk}
 use Rattle.rules.specs.ValidLaws.{ValidHouse, ValidSite, valid-course, counters-own}
@@ -297,9 +297,9 @@ module _ {s : Site} (v : ValidSite s) where
 
   module _ {es : List ℕ} {t : Turn} (x : TurnFits s es t) (l : Leads s t) where
     pub cast-fits : (v : ℕ) (fs : List ℕ) → Carried o sizes.certEntries fs → ChangeFits s es (castStep t v fs)
-    unfolding castStep withMark
+    unfolding castStep withQueueMark
     cast-fits v fs carried =
-        let c = withMark (t .sub .course) (t .counters .clock) in
+        let c = withQueueMark (t .sub .course) (t .counters .clock) in
         let marked = mark-fits o here house (t .sub .course) (x .course) (t .counters .clock) in
         let y = course-turn t x c (l .tx) marked (λ i h. absurd (omega arith)) in
         by-test (eqb v 0)
@@ -349,11 +349,11 @@ module _ {s : Site} (v : ValidSite s) where
         (on (withStage (t .sub .course) mask stage.prepared)) fs carried))
 
     pub certified-fits : (v : ℕ) → MayVote o v → ChangeFits s es (certifiedStep t to v)
-    unfolding certifiedStep withMark
+    unfolding certifiedStep withQueueMark
     certified-fits v may =
         let clock = t .counters .clock in
         let mask = t .sub .course .mask in
-        let c = withMark (t .sub .course) clock in
+        let c = withQueueMark (t .sub .course) clock in
         let marked = mark-fits o here house (t .sub .course) (x .course) clock in
         let on = replies-on x r in
         by-test (eqb v 0)

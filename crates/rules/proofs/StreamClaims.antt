@@ -16,7 +16,7 @@ use Rattle.laws.specs.Pair.{rank}
 use Rattle.kinds.specs.State.{Value, fresh}
 use Rattle.kinds.specs.declared.House.{House}
 use Rattle.kinds.specs.declared.Keys.{Keys}
-use Rattle.rules.specs.House.{coordinatorOf, inMask, siteOf}
+use Rattle.rules.specs.House.{coordinatorOf, inMask, homeOf}
 use Rattle.rules.specs.Keys.{wroteKey, wroteValue}
 use Rattle.rules.proofs.Protocol.{Protocol}
 use Rattle.rules.proofs.Invariants.{In, Invariant}
@@ -80,10 +80,10 @@ module _ {sites : ℕ} {p : Protocol} {m : Merger} (inv : Invariant sites p) (i 
 
 -- What items leave at a key. Every key belongs to one site, so an item has at most one part that wrote it.
 abbrev pub itemWrote : House → ℕ → Item → Bool
-itemWrote o k x = pick (inMask (x .mask) (siteOf o k)) (wroteKey (x .keys (siteOf o k)) k) false
+itemWrote o k x = pick (inMask (x .mask) (homeOf o k)) (wroteKey (x .keys (homeOf o k)) k) false
 
 abbrev pub leaves : House → ℕ → Value → Item → Value
-leaves o k v x = pick (itemWrote o k x) (wroteValue (x .keys (siteOf o k)) k) v
+leaves o k v x = pick (itemWrote o k x) (wroteValue (x .keys (homeOf o k)) k) v
 
 abbrev pub leftIn : House → ℕ → Value → List Item → Value
 leftIn o k v [] = v
@@ -91,21 +91,21 @@ leftIn o k v (x ∷ l) = leftIn o k (leaves o k v x) l
 
 -- t wrote k
 abbrev pub WroteIn : Protocol → House → ℕ → ℕ → Type 0
-WroteIn p o t k = (p .has (siteOf o k) t ≡ true) × (wroteKey (p .keys (siteOf o k) t) k ≡ true)
+WroteIn p o t k = (p .has (homeOf o k) t ≡ true) × (wroteKey (p .keys (homeOf o k) t) k ≡ true)
 
 -- v is what the writes of the committed up to a rank, by rank, leave at k
 abbrev pub LeftUpTo : Protocol → House → ℕ → ℕ → Value → Type 0
 LeftUpTo p o e k v =
     (((t : ℕ) → 0 < p .num t → rankIn p t ≤ e → WroteIn p o t k → ⊥) × (v ≡ fresh))
-    ⊎ ((t : ℕ) × (0 < p .num t) × (rankIn p t ≤ e) × WroteIn p o t k × (wroteValue (p .keys (siteOf o k) t) k ≡ v)
+    ⊎ ((t : ℕ) × (0 < p .num t) × (rankIn p t ≤ e) × WroteIn p o t k × (wroteValue (p .keys (homeOf o k) t) k ≡ v)
     × ((u : ℕ) → 0 < p .num u → rankIn p u ≤ e → WroteIn p o u k → rankIn p u ≤ rankIn p t))
 
 pub left-more : (o : House) (k : ℕ) (v : Value) (l : List Item) (x : Item) → leftIn o k v (l ++ (x ∷ [])) ≡ leaves o k (leftIn o k v l) x
 left-more o k v [] x = refl
 left-more o k v (y ∷ l) x = left-more o k (leaves o k v y) l x
 
-pub positive-site : (o : House) (k : ℕ) → 1 ≤ siteOf o k
-unfolding siteOf
+pub positive-site : (o : House) (k : ℕ) → 1 ≤ homeOf o k
+unfolding homeOf
 positive-site o k = omega arith
 
 module _ (m : Merger) (o : House) (k : ℕ) where
@@ -119,7 +119,7 @@ module _ (m : Merger) (o : House) (k : ℕ) where
   abbrev LastWriter : ℕ → Value → Type 0
   LastWriter n v =
       (NoneWrote 0 n × (v ≡ fresh))
-      ⊎ ((j : ℕ) × (j < n) × (itemWrote o k (itemAt m j) ≡ true) × (wroteValue (itemAt m j .keys (siteOf o k)) k ≡ v) × NoneWrote (j + 1) n)
+      ⊎ ((j : ℕ) × (j < n) × (itemWrote o k (itemAt m j) ≡ true) × (wroteValue (itemAt m j .keys (homeOf o k)) k ≡ v) × NoneWrote (j + 1) n)
 
   none-more : (a n : ℕ) → NoneWrote a n → itemWrote o k (itemAt m n) ≡ false → NoneWrote a (suc n)
   none-more a n f e j l h = ⊎-elim (λ (q : j ≡ n). rw q e) (λ (q : j < n). f j l q) (eq-or-lt-of-le (omega arith))
@@ -142,15 +142,15 @@ module _ {sites : ℕ} {p : Protocol} {m : Merger} (inv : Invariant sites p) (i 
   q = prefix inv i n h
 
   wrote : (j : ℕ) → j < n → itemWrote o k (itemAt m j) ≡ true
-      → WroteIn p o (itemAt m j .tx) k × (itemAt m j .keys (siteOf o k) ≡ p .keys (siteOf o k) (itemAt m j .tx))
+      → WroteIn p o (itemAt m j .tx) k × (itemAt m j .keys (homeOf o k) ≡ p .keys (homeOf o k) (itemAt m j .tx))
   wrote j l e =
       let t = itemAt m j .tx in
-      let a : inMask (itemAt m j .mask) (siteOf o k) ≡ true = picked-left _ _ e in
-      let b : In (itemAt m j .mask) (siteOf o k) = (positive-site o k, a) in
-      let c : itemAt m j .keys (siteOf o k) ≡ p .keys (siteOf o k) t = q .parts j (siteOf o k) l b in
-      let d : wroteKey (itemAt m j .keys (siteOf o k)) k ≡ true = picked-right (inMask (itemAt m j .mask) (siteOf o k)) _ e in (
+      let a : inMask (itemAt m j .mask) (homeOf o k) ≡ true = picked-left _ _ e in
+      let b : In (itemAt m j .mask) (homeOf o k) = (positive-site o k, a) in
+      let c : itemAt m j .keys (homeOf o k) ≡ p .keys (homeOf o k) t = q .parts j (homeOf o k) l b in
+      let d : wroteKey (itemAt m j .keys (homeOf o k)) k ≡ true = picked-right (inMask (itemAt m j .mask) (homeOf o k)) _ e in (
         (
-          inv .account .asked-has t (siteOf o k) (committed-asked (inv .parts) (inv .account) t (q .committed j l)) (rw (q .mask j l) at b),
+          inv .account .asked-has t (homeOf o k) (committed-asked (inv .parts) (inv .account) t (q .committed j l)) (rw (q .mask j l) at b),
           rw c at d,
         ),
         c,
@@ -160,9 +160,9 @@ module _ {sites : ℕ} {p : Protocol} {m : Merger} (inv : Invariant sites p) (i 
   writes : (j : ℕ) → j < n → WroteIn p o (itemAt m j .tx) k → itemWrote o k (itemAt m j) ≡ true
   writes j l (a, w) =
       let t = itemAt m j .tx in
-      let b : In (itemAt m j .mask) (siteOf o k) =
-      rw (q .mask j l) (committed-in (inv .parts) (inv .account) t (q .committed j l) (siteOf o k) a) in
-      rw (b .1, q .parts j (siteOf o k) l b) w
+      let b : In (itemAt m j .mask) (homeOf o k) =
+      rw (q .mask j l) (committed-in (inv .parts) (inv .account) t (q .committed j l) (homeOf o k) a) in
+      rw (b .1, q .parts j (homeOf o k) l b) w
 
   pub left-upto : LeftUpTo p o (lastRank m n) k (leftIn o k fresh (take n (m .out)))
   left-upto = go (last-writer m o k n h)

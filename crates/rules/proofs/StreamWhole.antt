@@ -27,7 +27,7 @@ module _ {sites : ℕ} (few : sites ≤ 8) {p : Protocol} {m : Merger} (inv : In
     t = g .tx
 
     -- so it is installed there
-    installed : p .yes s t ≡ true → p .mark s t < p .num t → Held p s t ⊎ Installed p s t → Installed p s t
+    installed : p .yes s t ≡ true → p .queueMark s t < p .num t → Held p s t ⊎ Installed p s t → Installed p s t
     installed y l (inr k) = k
     installed y l (inl h) = absurd (go (yes-queued (inv .courses) s t h y))
       where

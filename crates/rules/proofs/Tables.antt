@@ -10,7 +10,7 @@ use lib.Dec.{eqb}
 use lib.ListN.{List·getD-append, length, getD, take, length-append, drop, take-append-drop}
 use lib.Seq.{getD-append-seam}
 use Rattle.laws.specs.Choice.{by-test}
-use Rattle.rules.specs.World.{upd, Is, here, there}
+use Rattle.rules.specs.World.{upd, Member, here, there}
 
 -- the table f with a at (s, t)
 unfoldable pub upd₂ : {A : Type 0} → (ℕ → ℕ → A) → ℕ → ℕ → A → ℕ → ℕ → A
@@ -134,12 +134,12 @@ pub all-take : {A : Type 0} {P : A → Type 0} (n : ℕ) (l : List A) → All P 
 all-take n l h = all-left (take n l) (drop n l) (rw (take-append-drop n l) h)
 
 -- and each that is there
-pub all-is : {A : Type 0} {P : A → Type 0} {a : A} {l : List A} → All P l → Is a l → P a
+pub all-is : {A : Type 0} {P : A → Type 0} {a : A} {l : List A} → All P l → Member a l → P a
 all-is (a-cons p ps) here = p
 all-is (a-cons p ps) (there i) = all-is ps i
 
 -- Some element.
-pub is-append : {A : Type 0} {a : A} (l m : List A) → Is a (l ++ m) → Is a l ⊎ Is a m
+pub is-append : {A : Type 0} {a : A} (l m : List A) → Member a (l ++ m) → Member a l ⊎ Member a m
 is-append [] m i = inr i
 is-append (x ∷ l) m here = inl here
 is-append (x ∷ l) m (there i) = ⊎-elim (λ j. inl (there j)) (λ j. inr j) (is-append l m i)

@@ -11,7 +11,7 @@ use Rattle.kinds.specs.declared.Keys.{Keys}
 use Rattle.kinds.specs.declared.Sub.{Sub}
 use Rattle.kinds.specs.State.{noSub, noKeys, pastEntry}
 use Rattle.rules.specs.Keys.{wroteKey}
-use Rattle.rules.specs.Course.{newSub, withParticipant, withReply, withDecision, withMark, withRequest, withStage}
+use Rattle.rules.specs.Course.{newSub, withParticipant, withReply, withDecision, withQueueMark, withRequest, withStage}
 use Rattle.rules.specs.Install.{entryOf}
 use Rattle.rules.proofs.Tables.{upd₂, upd-same, upd-cases, upd₂-same, upd₂-cases, Other₂, here₂, upd₂-other}
 use Rattle.rules.proofs.Protocol.{Protocol, Rec, rPart, rState, partsOf, inst, AtStage, courseAt, LeastQueued, StateAt, Move, begin}
@@ -37,7 +37,7 @@ pub data Turn (p q : Protocol) (s t : ℕ) (b : Sub) : Type 0 where
   t-stays : Same p q s t → b .course .stage ≡ courseAt p s t .stage → b .course .number ≡ courseAt p s t .number → Turn p q s t b
   -- another stage; a mark or a number that is new is at most the clock
   t-moves : Same p q s t → Held p s t → (AtStage p s t stage.decided → ⊥) → (b .course .stage ≡ stage.free → ⊥)
-      → (b .course .stage ≡ stage.queued → q .mark s t ≤ q .clock s) → (b .course .stage ≡ stage.decided → q .num t ≤ q .clock s)
+      → (b .course .stage ≡ stage.queued → q .queueMark s t ≤ q .clock s) → (b .course .stage ≡ stage.decided → q .num t ≤ q .clock s)
       → Turn p q s t b
   -- a read or a write: of this part alone
   t-reads : q .has s t ≡ p .has s t → q .snap s t ≡ p .snap s t → AtStage p s t stage.active → b .course .stage ≡ stage.active
@@ -88,7 +88,7 @@ module _ {sites : ℕ} {p : Protocol} (i : Invariant sites p) where
       stayed x y = one (λ j u n. h j u) (t-stays (h s t) x y)
 
       moved : (1 ≤ courseAt p s t .stage) × (courseAt p s t .stage ≤ stage.queued) × (1 ≤ b .course .stage)
-          → (b .course .stage ≡ stage.queued → q .mark s t ≤ q .clock s) → (b .course .stage ≡ stage.decided → q .num t ≤ q .clock s)
+          → (b .course .stage ≡ stage.queued → q .queueMark s t ≤ q .clock s) → (b .course .stage ≡ stage.decided → q .num t ≤ q .clock s)
           → (j u : ℕ) → Turn p q j u (upd₂ (p .live) s t b j u)
       moved x y z = one (λ j u n. h j u) (t-moves (h s t) (λ f. omega arith) (λ f. omega arith) (λ f. omega arith) y z)
 
@@ -104,7 +104,7 @@ module _ {sites : ℕ} {p : Protocol} (i : Invariant sites p) where
   none j u = (refl, refl, refl)
 
   pub turns : (q : Protocol) → Move sites p q → (s t : ℕ) → Turn p q s t (q .live s t)
-  unfolding newSub withParticipant withReply withDecision withMark withRequest withStage noSub
+  unfolding newSub withParticipant withReply withDecision withQueueMark withRequest withStage noSub
   turns q (begin s t l m n e) = began q s t _ refl refl refl (new-tx sites p s t (i .parts) n e s) refl
   turns q (enlist s t r c a l m n o) = stayed q s t _ none refl refl
   turns q (access s t b fs a told w f) =
@@ -114,7 +114,7 @@ module _ {sites : ℕ} {p : Protocol} (i : Invariant sites p) where
   turns q (request s t es c a l r v) = moved q s t _ none (omega arith) (omega arith) (omega arith)
   turns q (abort s t c a d) = aborted q s t _ none d refl (upd-same (p .dead) t true)
   turns q (cast s t es c a l w v) =
-      moved q s t _ none (omega arith) (λ f. rw (upd₂-same (p .mark) s t (p .clock s)) (omega arith)) (omega arith)
+      moved q s t _ none (omega arith) (λ f. rw (upd₂-same (p .queueMark) s t (p .clock s)) (omega arith)) (omega arith)
   turns q (decide s t c a l) =
       moved q s t _ none (omega arith) (omega arith)
       (λ f. rw (upd-same (p .num) t (p .clock s + 1), upd-same (p .clock) s (p .clock s + 1)) (omega arith))
@@ -130,7 +130,7 @@ module _ {sites : ℕ} {p : Protocol} (i : Invariant sites p) where
   turns q (unknown a s t n m r x y z) = still q none
   turns q (gathers a s t es x y o) = stayed q s t _ none refl refl
   turns q (certified a s t es x y v) =
-      moved q s t _ none (omega arith) (λ f. rw (upd₂-same (p .mark) s t (p .clock s)) (omega arith)) (omega arith)
+      moved q s t _ none (omega arith) (λ f. rw (upd₂-same (p .queueMark) s t (p .clock s)) (omega arith)) (omega arith)
   turns q (rejects a s t r es x y z) = moved q s t _ none (omega arith) (omega arith) (omega arith)
   turns q (votes a s t n x y o) = stayed q s t _ none refl refl
   turns q (commits a s t n x y) =

@@ -18,7 +18,7 @@ use Rattle.rules.specs.Effect.{Change, Effect, changed}
 use Rattle.rules.specs.Record.{recordHead}
 use Rattle.rules.specs.Message.{messageHead, messageEntries, messageOk}
 use Rattle.rules.specs.Live.{placeOf, freePlace, allHeard}
-use Rattle.rules.specs.Queue.{leastQueued, isDue}
+use Rattle.rules.specs.Queue.{leastQueued, isInstallable}
 use Rattle.rules.specs.Certify.{concurrent}
 use Rattle.rules.specs.CertifyLaws.{concurrent-whole}
 use Rattle.rules.specs.Course.{sendTo, withReply}
@@ -114,7 +114,7 @@ install-leaves : (s : Site) (room : ℕ) (base : List Value) → Leaves s base (
 unfolding installOf installedAt
 install-leaves s room base =
     let place = leastQueued (s .live) sizes.live in
-    refusal-leaves (installCode (siteOk s) room (length base) (isDue (s .live) place) (s .counters .installs)) s base _
+    refusal-leaves (installCode (siteOk s) room (length base) (isInstallable (s .live) place) (s .counters .installs)) s base _
     (accepted-leaves s base _ refl)
 
 report-leaves : (s : Site) (room : ℕ) → Leaves s [] (reportOf s room)

@@ -21,11 +21,11 @@ use Rattle.kinds.specs.declared.Course.{Course}
 use Rattle.kinds.specs.declared.Sub.{Sub}
 use Rattle.kinds.specs.declared.Entry.{Entry}
 use Rattle.kinds.specs.declared.Site.{Site}
-use Rattle.rules.specs.House.{houseOk, isSite, isTx, siteOf, maskOf, isMask, inMask, participants, participants-sites}
+use Rattle.rules.specs.House.{houseOk, isSite, isTx, homeOf, maskOf, isMask, inMask, participants, participants-sites}
 use Rattle.rules.specs.Message.{entryPossible}
 use Rattle.rules.specs.Keys.{keysAt, keysOk}
 use Rattle.rules.specs.History.{remembered}
-use Rattle.rules.specs.Valid.{courseOk, heldOk, subOk, entryOk, countersOk, liveOk, historyOk, siteOk, listAt, gatheredOk, listsOk}
+use Rattle.rules.specs.Valid.{courseOk, heldOk, subOk, slotOk, countersOk, liveOk, historyOk, siteOk, listAt, gatheredOk, listsOk}
 use Rattle.rules.specs.Valid.{handedOk}
 use Rattle.rules.specs.ValidLaws.{ValidKeys, ValidCourse, ValidSub, digit-none}
 use Rattle.rules.specs.MaskLaws.{digit-one}
@@ -85,12 +85,12 @@ module _ (m a : ℕ) (small : m < 2 ^ sizes.sites) (low : 1 ≤ a) (high : a ≤
       )
 
 -- Keys.
-keys-at : (o : House) (own : ℕ) (keys : List ℕ) (n : ℕ) → ((j : ℕ) → j < n → siteOf o (getD keys j 0) ≡ own) → keysAt o own keys n ≡ true
+keys-at : (o : House) (own : ℕ) (keys : List ℕ) (n : ℕ) → ((j : ℕ) → j < n → homeOf o (getD keys j 0) ≡ own) → keysAt o own keys n ≡ true
 unfolding keysAt
-keys-at o own keys n f = sym (all-below (λ i. eqb (siteOf o (getD keys i 0)) own) n (λ j h. eq-eqb _ own (f j h)))
+keys-at o own keys n f = sym (all-below (λ i. eqb (homeOf o (getD keys i 0)) own) n (λ j h. eq-eqb _ own (f j h)))
 
 pub keys-made : (o : House) (own : ℕ) (b : Keys) → b .read ≤ sizes.reads → b .wrote ≤ sizes.writes
-    → ((j : ℕ) → j < b .read → siteOf o (getD (b .reads) j 0) ≡ own) → ((j : ℕ) → j < b .wrote → siteOf o (getD (b .writes) j 0) ≡ own)
+    → ((j : ℕ) → j < b .read → homeOf o (getD (b .reads) j 0) ≡ own) → ((j : ℕ) → j < b .wrote → homeOf o (getD (b .writes) j 0) ≡ own)
     → keysOk o own b ≡ true
 unfolding keysOk
 keys-made o own b r w f g =
@@ -127,8 +127,8 @@ sub-back o own b v = sub-made o own b (course-back o own (b .course) (v .course)
 
 -- An install.
 pub entry-made : (o : House) (own : ℕ) (used : Bool) (e : Entry) → isMask o (e .mask) ≡ true → keysOk o own (e .keys) ≡ true
-    → (used ≡ true → isTx o (e .tx) ≡ true) → entryOk o own used e ≡ true
-unfolding entryOk
+    → (used ≡ true → isTx o (e .tx) ≡ true) → slotOk o own used e ≡ true
+unfolding slotOk
 entry-made o own used e m k t = by-test used (λ u. rw (m, k, u, t u)) (λ u. rw (m, k, u))
 
 -- The tables and the site.
@@ -138,11 +138,11 @@ unfolding liveOk
 live-made o own live f = sym (all-below (λ i. subOk o own (getD live i pastSub)) sizes.live f)
 
 pub history-made : (o : House) (own installs : ℕ) (history : List Entry)
-    → ((i : ℕ) → i < sizes.history → entryOk o own (ltb i (remembered installs)) (getD history i pastEntry) ≡ true)
+    → ((i : ℕ) → i < sizes.history → slotOk o own (ltb i (remembered installs)) (getD history i pastEntry) ≡ true)
     → historyOk o own installs history ≡ true
 unfolding historyOk
 history-made o own installs history f =
-    sym (all-below (λ i. entryOk o own (ltb i (remembered installs)) (getD history i pastEntry)) sizes.history f)
+    sym (all-below (λ i. slotOk o own (ltb i (remembered installs)) (getD history i pastEntry)) sizes.history f)
 
 pub record SiteTests (s : Site) : Type 0 where
   pub house : houseOk (s .house) ≡ true

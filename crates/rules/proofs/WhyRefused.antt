@@ -23,7 +23,7 @@ use Rattle.rules.specs.Send.{countsLow}
 use Rattle.rules.specs.Keys.{wroteKey, readKey}
 use Rattle.rules.specs.Live.{placeOf, freePlace, stageAt, keyHeld, allHeard}
 use Rattle.rules.specs.History.{isForgotten, isNewer}
-use Rattle.rules.specs.Queue.{leastQueued, isDue}
+use Rattle.rules.specs.Queue.{leastQueued, isInstallable}
 use Rattle.rules.specs.Valid.{siteOk, handedOk}
 use Rattle.rules.specs.Answers.{isRefused}
 use Rattle.rules.specs.Effect.{Effect, turnAt, unless}
@@ -179,7 +179,7 @@ module _ (s : Site) (ok : siteOk s ≡ true) where
   unfolding installOf installCode installedAt
   install-why room base size =
       let place = leastQueued (s .live) sizes.live in
-      let due = isDue (s .live) place in
+      let due = isInstallable (s .live) place in
       let n = s .counters .installs in
       unless-refuses (Only ⊥) (installCode (siteOk s) room (length base) due n) s base _
       (λ z e. never (rw (ok, eq-eqb (length base) sizes.keys size) at (caused (installCauses (siteOk s) room (length base) due n) e)))

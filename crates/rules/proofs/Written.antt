@@ -17,7 +17,7 @@ use Rattle.kinds.specs.declared.Site.{Site}
 use Rattle.kinds.specs.declared.Answer.the-variants.{Reported}
 use Rattle.rules.specs.House.{coordinatorOf, serialOf, isSite, isTx, inMask}
 use Rattle.rules.specs.Record.{recordWords, partOk, stateOk}
-use Rattle.rules.specs.Queue.{leastQueued, isDue, stateNumber}
+use Rattle.rules.specs.Queue.{leastQueued, isInstallable, stateNumber}
 use Rattle.rules.specs.Valid.{siteOk}
 use Rattle.rules.specs.Effect.{Effect, refused}
 use Rattle.rules.specs.Install.{installCode, partHead, partWords, installedAt, installOf, reportCode, stateWords, reportOf}
@@ -85,7 +85,7 @@ module _ {sites : ℕ} {w : World} {p : Protocol} (r : Refines sites w p) (inv :
     due = leastQueued (site .live) sizes.live
 
     -- what is installed is a part of the house's, at a participant
-    part-passes : siteOk site ≡ true → isDue (site .live) due ≡ true
+    part-passes : siteOk site ≡ true → isInstallable (site .live) due ≡ true
         → partOk (record { sites = sites }) (partWords (site .counters .own) (subAt site due)) ≡ true
     unfolding isTx isSite
     part-passes v d =
@@ -110,13 +110,13 @@ module _ {sites : ℕ} {w : World} {p : Protocol} (r : Refines sites w p) (inv :
         rw (house-is (site .house) sites (y .house)) at (part-good site due v low tx among)
 
     abbrev code : ℕ
-    code = installCode (siteOk site) (length out) (length (w .base s)) (isDue (site .live) due) (site .counters .installs)
+    code = installCode (siteOk site) (length out) (length (w .base s)) (isInstallable (site .live) due) (site .counters .installs)
 
     installs : code ≡ 0 → (j : ℕ)
         → All (RecordOk sites) (logStep w s (installedAt site (w .base s) due) (installedAt site (w .base s) due .lent) .world .log j)
     unfolding installedAt partWords partHead
     installs e =
-        let c = install-clear (siteOk site) (length out) (length (w .base s)) (isDue (site .live) due) (site .counters .installs) e in
+        let c = install-clear (siteOk site) (length out) (length (w .base s)) (isInstallable (site .live) due) (site .counters .installs) e in
         more-log s (installedAt site (w .base s) due) _ _ _ refl (inl (part-passes (c .valid) (c .least)))
 
     install-written : (j : ℕ) → All (RecordOk sites) (step w (world.install s out) .world .log j)

@@ -13,7 +13,7 @@ use Rattle.kinds.specs.declared.House.{House}
 use Rattle.kinds.specs.declared.Site.{Site}
 use Rattle.kinds.specs.declared.Answer.the-variants.{Found}
 use Rattle.kinds.specs.State.{Value, subAt, withKeys}
-use Rattle.rules.specs.House.{siteOf, isKey}
+use Rattle.rules.specs.House.{homeOf, isKey}
 use Rattle.rules.specs.Keys.{wroteKey, readKey, wroteValue, withRead, withWrite}
 use Rattle.rules.specs.Live.{placeOf, keyHeld, stageAt}
 use Rattle.rules.specs.History.{isForgotten, isNewer, versionOf}
@@ -27,7 +27,7 @@ accessCauses ok room o own k place st =
     cause (not (eqb room sizes.keys)) reason.malformed
     ∷ cause (not ok) reason.malformed
     ∷ cause (not (isKey o k)) reason.malformed
-    ∷ cause (not (eqb (siteOf o k) own)) reason.elsewhere
+    ∷ cause (not (eqb (homeOf o k) own)) reason.elsewhere
     ∷ cause (leb sizes.live place) reason.unknown
     ∷ cause (not (eqb st stage.active)) reason.stage
     ∷ []

@@ -11,7 +11,7 @@ use Rattle.laws.specs.Cause.{clear-at}
 use Rattle.kinds.specs.Sizes as sizes
 use Rattle.kinds.specs.Stage as stage
 use Rattle.kinds.specs.declared.House.{House}
-use Rattle.rules.specs.House.{isKey, siteOf}
+use Rattle.rules.specs.House.{isKey, homeOf}
 use Rattle.rules.specs.Access.{accessCauses, accessCode, readCauses, readCode, writeCauses, writeCode}
 use Rattle.rules.specs.Enlist.{enlistCauses, enlistCode, joinerCauses, joinerCode}
 use Rattle.rules.specs.Commit.{requestCauses, requestCode, commitCauses, commitCode, abandonCauses, abandonCode}
@@ -28,7 +28,7 @@ pub record AccessClear (ok : Bool) (room : ℕ) (o : House) (own : ℕ) (k : ℕ
   pub whole : room ≡ sizes.keys
   pub valid : ok ≡ true
   pub known : isKey o k ≡ true
-  pub here : siteOf o k ≡ own
+  pub here : homeOf o k ≡ own
   pub held : place < sizes.live
   pub active : st ≡ stage.active
 
@@ -41,7 +41,7 @@ access-clear ok room o own k place st e =
       whole = eqb-true room sizes.keys (not-false (eqb room sizes.keys) (clear-at l 0 refl e));
       valid = not-false ok (clear-at l 1 refl e);
       known = not-false (isKey o k) (clear-at l 2 refl e);
-      here = eqb-true (siteOf o k) own (not-false (eqb (siteOf o k) own) (clear-at l 3 refl e));
+      here = eqb-true (homeOf o k) own (not-false (eqb (homeOf o k) own) (clear-at l 3 refl e));
       held = leb-false sizes.live place (clear-at l 4 refl e);
       active = eqb-true st stage.active (not-false (eqb st stage.active) (clear-at l 5 refl e));
     }

@@ -9,9 +9,9 @@ use Rattle.kinds.specs.Sizes as sizes
 use Rattle.kinds.specs.State.{Value, fresh}
 use Rattle.kinds.specs.declared.House.{House}
 use Rattle.kinds.specs.declared.Answer.the-variants.{Standing}
-use Rattle.rules.specs.House.{siteOf}
+use Rattle.rules.specs.House.{homeOf}
 use Rattle.rules.specs.Copy.{valueOf}
-use Rattle.rules.specs.World.{Call, World, Is, Lawful, freshWorld, run}
+use Rattle.rules.specs.World.{Call, World, Member, Lawful, freshWorld, run}
 use Rattle.rules.specs.Book as book
 use Rattle.rules.specs.Book.{Fact, began, used, wrote, committed, installed, replayed, bookFrom}
 
@@ -20,30 +20,30 @@ pub record Before (f g : Fact) (b : List Fact) : Type 0 where
   pub front : List Fact
   pub rest : List Fact
   pub split : b ≡ front ++ rest
-  pub first : Is f front
-  pub second : Is g rest
+  pub first : Member f front
+  pub second : Member g rest
 
 -- the last value that tx wrote to a key: none is written behind it
 pub record LastWrite (b : List Fact) (tx key : ℕ) (v : Value) : Type 0 where
   pub front : List Fact
   pub rest : List Fact
   pub split : b ≡ front ++ (wrote tx key v ∷ rest)
-  pub last : (u : Value) → Is (wrote tx key u) rest → ⊥
+  pub last : (u : Value) → Member (wrote tx key u) rest → ⊥
 
 abbrev pub Wrote : List Fact → ℕ → ℕ → Type 0
-Wrote b tx key = (v : Value) × Is (wrote tx key v) b
+Wrote b tx key = (v : Value) × Member (wrote tx key v) b
 
 abbrev pub Used : List Fact → ℕ → ℕ → Type 0
-Used b tx key = Is (used tx key) b
+Used b tx key = Member (used tx key) b
 
 abbrev pub Committed : List Fact → ℕ → ℕ → ℕ → Type 0
-Committed b tx n c = Is (committed tx n c) b
+Committed b tx n c = Member (committed tx n c) b
 
 -- the pair of a copy's last replay, (0, 0) before the first
 pub data LastReplay (copy : ℕ) (b : List Fact) (n c : ℕ) : Type 0 where
   behind : (front rest : List Fact) (split : b ≡ front ++ (replayed copy n c ∷ rest))
-      (last : (m d : ℕ) → Is (replayed copy m d) rest → ⊥) → LastReplay copy b n c
-  none : (never : (m d : ℕ) → Is (replayed copy m d) b → ⊥) (number : n ≡ 0) (coordinator : c ≡ 0) → LastReplay copy b n c
+      (last : (m d : ℕ) → Member (replayed copy m d) rest → ⊥) → LastReplay copy b n c
+  none : (never : (m d : ℕ) → Member (replayed copy m d) b → ⊥) (number : n ≡ 0) (coordinator : c ≡ 0) → LastReplay copy b n c
 
 -- (m, d) is not above (n, c)
 abbrev pub UpTo : ℕ → ℕ → ℕ → ℕ → Type 0
@@ -93,12 +93,12 @@ pub record Ordered (b : List Fact) : Type 0 where
 abbrev pub WritersInOrder : House → List Fact → Type 0
 WritersInOrder o b =
     (tx ux key n c m d : ℕ) → Committed b tx n c → Committed b ux m d → Wrote b tx key → Wrote b ux key → precedes n c m d ≡ true
-    → Before (installed (siteOf o key) n c) (began (siteOf o key) ux) b
+    → Before (installed (homeOf o key) n c) (began (homeOf o key) ux) b
 
 -- both have parts at site s
 pub record Parts (b : List Fact) (s tx ux : ℕ) : Type 0 where
-  pub one : Is (began s tx) b
-  pub other : Is (began s ux) b
+  pub one : Member (began s tx) b
+  pub other : Member (began s ux) b
 
 -- tx saw ux at s if ux was installed there before tx's part began; where both have parts, it else missed it
 pub record Saw (b : List Fact) (s tx ux : ℕ) : Type 0 where

@@ -151,13 +151,13 @@ unfoldable pub decideStep : Turn → Change
 decideStep t = pick (leb sizes.last (t .counters .clock)) (abortStep t reason.spent) (commitStep t (t .counters .clock + 1))
 
 -- yes enters the queue with the clock as mark; a new round starts, and the lists are done with
-unfoldable pub withMark : Course → ℕ → Course
-withMark c clock = record { stage = stage.queued; mask = c .mask; number = clock; heard = 0; reason = c .reason; listed = 0 }
+unfoldable pub withQueueMark : Course → ℕ → Course
+withQueueMark c clock = record { stage = stage.queued; mask = c .mask; number = clock; heard = 0; reason = c .reason; listed = 0 }
 
 -- all lists are here: the coordinator votes v on their join, then CERT carries it; a lone participant has all votes
 unfoldable pub castStep : Turn → ℕ → List ℕ → Change
 castStep t v es =
-    let q = withCourseOf t (withMark (t .sub .course) (t .counters .clock)) in
+    let q = withCourseOf t (withQueueMark (t .sub .course) (t .counters .clock)) in
     pick (eqb v 0) (pick (allHeard (t .counters .own) 0 (t .sub .course .mask)) (decideStep q) (sendAll q Done kind.cert 0 0 es))
     (abortStep t v)
 
@@ -196,7 +196,7 @@ preparedStep t to mask lost es =
 unfoldable pub certifiedStep : Turn → ℕ → ℕ → Change
 certifiedStep t to v =
     pick (eqb v 0)
-    (sendTo (withCourseOf t (withMark (t .sub .course) (t .counters .clock))) kind.vote to (t .counters .clock) 0 [])
+    (sendTo (withCourseOf t (withQueueMark (t .sub .course) (t .counters .clock))) kind.vote to (t .counters .clock) 0 [])
     (sendTo (withCourseOf t (withStage (t .sub .course) (t .sub .course .mask) stage.rejected)) kind.vote to (t .counters .clock) v [])
 
 -- What a step that sends asks of its caller, who has refused the rest: whole entries, room, and counts that are not spent.

@@ -20,12 +20,12 @@ unfoldable pub isSite : House → ℕ → Bool
 isSite h s = every (leb 1 s ∷ leb s (h .sites) ∷ [])
 
 -- key k lives at site k / 256 + 1
-unfoldable pub siteOf : House → ℕ → ℕ
-siteOf h k = k / sizes.siteKeys + 1
+unfoldable pub homeOf : House → ℕ → ℕ
+homeOf h k = k / sizes.siteKeys + 1
 
 -- a key of a site that the house has
 unfoldable pub isKey : House → ℕ → Bool
-isKey h k = leb (siteOf h k) (h .sites)
+isKey h k = leb (homeOf h k) (h .sites)
 
 -- a transaction number is coordinator × 2^32 + serial
 unfoldable pub txOf : ℕ → ℕ → ℕ

@@ -19,7 +19,7 @@ use Rattle.rules.specs.House.{houseOk, isSite, coordinatorOf}
 use Rattle.rules.specs.Record.{recordWords}
 use Rattle.rules.specs.Keys.{sortedCount, sortedWords}
 use Rattle.rules.specs.History.{slotOf, forgetInto}
-use Rattle.rules.specs.Queue.{leastQueued, isDue, stateNumber}
+use Rattle.rules.specs.Queue.{leastQueued, isInstallable, stateNumber}
 use Rattle.rules.specs.Valid.{siteOk}
 use Rattle.rules.specs.Effect.{Effect, refused, unless}
 
@@ -83,7 +83,7 @@ installedAt s base place =
 unfoldable pub installOf : Site → ℕ → List Value → Effect
 installOf s room base =
     let place = leastQueued (s .live) sizes.live in
-    unless (installCode (siteOk s) room (length base) (isDue (s .live) place) (s .counters .installs)) s base (installedAt s base place)
+    unless (installCode (siteOk s) room (length base) (isInstallable (s .live) place) (s .counters .installs)) s base (installedAt s base place)
 
 -- Report: the state number as a state record.
 abbrev pub reportCauses : Bool → ℕ → List Cause

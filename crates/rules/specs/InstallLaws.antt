@@ -17,26 +17,26 @@ use Rattle.kinds.specs.declared.Sub.{Sub}
 use Rattle.kinds.specs.declared.Site.{Site}
 use Rattle.kinds.specs.State.{subAt}
 use Rattle.kinds.specs.declared.Answer.the-variants.{Reported}
-use Rattle.rules.specs.House.{houseOk, isSite, isTx, inMask, siteOf, coordinatorOf}
+use Rattle.rules.specs.House.{houseOk, isSite, isTx, inMask, homeOf, coordinatorOf}
 use Rattle.rules.specs.Keys.{sortedKey, sortedCount, sortedWords}
 use Rattle.rules.specs.KeysLaws.{by-order, words-length, word-key, sorted-low, sorted-ascends, sorted-wrote, wrote-among}
 use Rattle.rules.specs.Record.{partHeadOk, partWriteOk, keyAscends, pairOk, stateHeadOk, partOk, stateOk, writeKey}
 use Rattle.rules.specs.RecordLaws.{part-written-passes, state-written-passes}
 use Rattle.rules.specs.Live.{partAt}
-use Rattle.rules.specs.Queue.{isDue, leastQueued, stateNumber}
+use Rattle.rules.specs.Queue.{isInstallable, leastQueued, stateNumber}
 use Rattle.rules.specs.Valid.{countersOk, liveOk, historyOk, siteOk}
 use Rattle.rules.specs.ValidLaws.{valid-site, counters-own}
 use Rattle.rules.specs.Install.{partHead, partWords, installedAt, installOf, stateWords, installCode, reportCode, reportOf}
 use Rattle.rules.specs.Effect.{refused}
 
 -- What is due is a place of the table, and decided.
-pub due-low : (live : List Sub) (place : ℕ) → isDue live place ≡ true → place < sizes.live
-unfolding isDue
+pub due-low : (live : List Sub) (place : ℕ) → isInstallable live place ≡ true → place < sizes.live
+unfolding isInstallable
 due-low live place t =
     ltb-true place sizes.live (every-at (ltb place sizes.live ∷ eqb (partAt live place .course .stage) stage.decided ∷ []) 0 t)
 
-pub due-decided : (live : List Sub) (place : ℕ) → isDue live place ≡ true → partAt live place .course .stage ≡ stage.decided
-unfolding isDue
+pub due-decided : (live : List Sub) (place : ℕ) → isInstallable live place ≡ true → partAt live place .course .stage ≡ stage.decided
+unfolding isInstallable
 due-decided live place t = eqb-true _ _ (every-at (ltb place sizes.live ∷ eqb (partAt live place .course .stage) stage.decided ∷ []) 1 t)
 
 -- the own number is a site of the house
@@ -54,7 +54,7 @@ unfolding sortedCount
 sorted-few b = first-le (λ j. leb sizes.keys (sortedKey b j)) (b .wrote)
 
 -- its keys ascend and are of the site
-part-write : (o : House) (own : ℕ) (b : Keys) → ((j : ℕ) → j < b .wrote → siteOf o (getD (b .writes) j 0) ≡ own) → (n i : ℕ)
+part-write : (o : House) (own : ℕ) (b : Keys) → ((j : ℕ) → j < b .wrote → homeOf o (getD (b .writes) j 0) ≡ own) → (n i : ℕ)
     → n ≡ sortedCount b → i < n
     → partWriteOk o own (sortedWords b n) i ≡ true
 unfolding partWriteOk keyAscends
@@ -62,14 +62,14 @@ part-write o own b here n i e h =
     let k : (j : ℕ) → j < n → writeKey (sortedWords b n) j ≡ sortedKey b j = λ j l. ap (λ (x : ℕ). getD (sortedWords b n) x 0) (omega arith)
     ∙ word-key b n j l in
     let (j, l, q) = wrote-among b (sortedKey b i) (sorted-wrote b i (sorted-low b i (omega arith))) in
-    let s = ap (siteOf o) (sym q) ∙ here j l in
+    let s = ap (homeOf o) (sym q) ∙ here j l in
     by-test (eqb i 0)
-    (λ z. rw (z, k i h, eq-eqb (siteOf o (sortedKey b i)) own s))
+    (λ z. rw (z, k i h, eq-eqb (homeOf o (sortedKey b i)) own s))
     (λ z.
     let p : 0 < i = by-order 0 i (λ l. l) (λ l. absurd (eqb-false i 0 z (omega arith))) in
     let q : i - 1 + 1 ≡ i = omega arith in
     let a = rw q at (sorted-ascends b (i - 1) (omega arith)) in
-    rw (z, k (i - 1) (omega arith), k i h, lt-ltb (sortedKey b (i - 1)) (sortedKey b i) a, eq-eqb (siteOf o (sortedKey b i)) own s))
+    rw (z, k (i - 1) (omega arith), k i h, lt-ltb (sortedKey b (i - 1)) (sortedKey b i) a, eq-eqb (homeOf o (sortedKey b i)) own s))
 
 -- of a part of a valid site whose transaction is of the house and whose participants have the site
 pub part-good : (s : Site) (i : ℕ) → siteOk s ≡ true → i < sizes.live → isTx (s .house) (subAt s i .tx) ≡ true
@@ -104,7 +104,7 @@ state-good s n t =
 module _ (s : Site) (room : ℕ) (base : List ℕ) (ok : Bool) (place : ℕ) (due : Bool) (code : ℕ) where
   abbrev InstallAsks : Type 0
   InstallAsks =
-      (ok ≡ siteOk s) × (place ≡ leastQueued (s .live) sizes.live) × (due ≡ isDue (s .live) place)
+      (ok ≡ siteOk s) × (place ≡ leastQueued (s .live) sizes.live) × (due ≡ isInstallable (s .live) place)
       × (code ≡ installCode ok room (length base) due (s .counters .installs))
 
   pub install-past : InstallAsks → code ≡ 0 → installOf s room base ≡ installedAt s base place

@@ -14,7 +14,7 @@ use Rattle.kinds.specs.declared.Merger.{Merger}
 use Rattle.kinds.specs.declared.RecordHead.{RecordHead}
 use Rattle.laws.specs.Choice.{by-test, every, every-at}
 use Rattle.laws.specs.Scan.{all-below, all-below-at, allBelow, foldBelow, split-last}
-use Rattle.rules.specs.House.{coordinatorOf, inMask, isMask, isSite, isTx, serialOf, siteOf, wholeHouse}
+use Rattle.rules.specs.House.{coordinatorOf, inMask, isMask, isSite, isTx, serialOf, homeOf, wholeHouse}
 use Rattle.rules.specs.Merger.{Merging, dueCode, dueHead, emitCode, emitDue, emitOf, headAt, headIn, headsOf, joinedWrites, leastSite}
 use Rattle.rules.specs.Merger.{mergedHead, mergedWords, noHead, partWrites, placeWords, popMerger, popQueues, queuedPart, writesIn}
 use Rattle.rules.specs.MergerClear.{MergerClear, QueuedClear, emit-clear, part-long}
@@ -72,8 +72,8 @@ ascends ws k e =
     let z : suc k - 1 ≡ k = omega arith in
     ltb-true (writeKey ws k) (writeKey ws (suc k)) (rw (ne-eqb (suc k) 0 (λ q. omega arith), z) at e)
 
-key-of-site : (o : House) (k s : ℕ) → siteOf o k ≡ s + 1 → (sizes.siteKeys * s ≤ k) × (k < sizes.siteKeys * (s + 1))
-unfolding siteOf
+key-of-site : (o : House) (k s : ℕ) → homeOf o k ≡ s + 1 → (sizes.siteKeys * s ≤ k) × (k < sizes.siteKeys * (s + 1))
+unfolding homeOf
 key-of-site o k s e = (omega arith, omega arith)
 
 part-ascending : (o : House) (m : List ℕ) (s : ℕ) → partOk o m ≡ true → recordHead m .site ≡ s + 1
@@ -83,10 +83,10 @@ part-ascending o m s p e =
     let ws = recordWrites m in
     let n = recordHead m .count in
     let a = part-passed-good o m p .writes in
-    let l : ℕ → List Bool = λ k. keyAscends ws k ∷ eqb (siteOf o (writeKey ws k)) (recordHead m .site) ∷ [] in
+    let l : ℕ → List Bool = λ k. keyAscends ws k ∷ eqb (homeOf o (writeKey ws k)) (recordHead m .site) ∷ [] in
     let good : (k : ℕ) → k < n → every (l k) ≡ true = λ k h. all-below-at (partWriteOk o (recordHead m .site) ws) n k a h in
-    let home : (k : ℕ) → k < n → siteOf o (writeKey ws k) ≡ s + 1 =
-    λ k h. eqb-true (siteOf o (writeKey ws k)) (recordHead m .site) (every-at (l k) 1 (good k h)) ∙ e in
+    let home : (k : ℕ) → k < n → homeOf o (writeKey ws k) ≡ s + 1 =
+    λ k h. eqb-true (homeOf o (writeKey ws k)) (recordHead m .site) (every-at (l k) 1 (good k h)) ∙ e in
     record {
       above = λ k h. ascends ws k (every-at (l (suc k)) 0 (good (suc k) h));
       from = λ k h. key-of-site o (writeKey ws k) s (home k h) .0;

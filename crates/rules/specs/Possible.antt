@@ -17,7 +17,7 @@ use Rattle.rules.specs.Record.{partOk, stateOk, mergedOk}
 use Rattle.rules.specs.Valid.{handedOk}
 use Rattle.rules.specs.Merger.{mergerOk}
 use Rattle.rules.specs.World as world
-use Rattle.rules.specs.World.{Call, World, Is, Lawful, freshWorld, step, run}
+use Rattle.rules.specs.World.{Call, World, Member, Lawful, freshWorld, step, run}
 
 -- Cause 2: what is handed in is impossible by itself, whatever state the list left
 abbrev pub Impossible : House → Call → Type 0
@@ -47,7 +47,7 @@ pub record StatesPossible (o : House) (w : World) : Type 0 where
 -- a message that a call wrote passes the check at the site that it goes to
 abbrev pub MessagesPass : House → World → Type 0
 MessagesPass o w =
-    (m : List ℕ) → Is m (w .sent) → (let to = messageHead m .to in (isSite o to ≡ true) × (messageOk (w .site to .house) m ≡ true))
+    (m : List ℕ) → Member m (w .sent) → (let to = messageHead m .to in (isSite o to ≡ true) × (messageOk (w .site to .house) m ≡ true))
 
 -- a count of messages from site s to a site of the house is at its end
 abbrev pub CountEnds : House → Site → Type 0
@@ -57,7 +57,7 @@ CountEnds o s = (r : ℕ) × (isSite o r ≡ true) × (sizes.last ≤ getD (s .c
 -- is at its end
 abbrev pub NextGoes : House → World → Type 0
 NextGoes o w =
-    (m out : List ℕ) → Is m (w .sent) → sizes.outgoing ≤ length out
+    (m out : List ℕ) → Member m (w .sent) → sizes.outgoing ≤ length out
     → (let h = messageHead m in
     let s = w .site (h .to) in
     h .channel ≡ getD (s .channels .taken) (h .from - 1) 0 + 1

@@ -14,7 +14,7 @@ use Rattle.kinds.specs.declared.Answer.the-variants.{Refused, Done}
 use Rattle.rules.specs.Message.{messageHead}
 use Rattle.rules.specs.Record.{recordHead}
 use Rattle.rules.specs.World as world
-use Rattle.rules.specs.World.{Call, World, Is, Handed, Lawful, freshWorld, step, run}
+use Rattle.rules.specs.World.{Call, World, Member, Handed, Lawful, freshWorld, step, run}
 use Rattle.rules.specs.Book.{Fact, bookFrom}
 use Rattle.rules.specs.Claim.{Committed}
 
@@ -25,7 +25,7 @@ NoneOutOfTurn w =
 
 -- a PREPARE finds its transaction held: no VOTE that was written is 5
 abbrev pub NoneUnknown : World → Type 0
-NoneUnknown w = (m : List ℕ) → Is m (w .sent) → messageHead m .kind ≡ kind.vote → messageHead m .argument ≡ reason.unknown → ⊥
+NoneUnknown w = (m : List ℕ) → Member m (w .sent) → messageHead m .kind ≡ kind.vote → messageHead m .argument ≡ reason.unknown → ⊥
 
 -- the claim: any list of the thirteen calls, from a fresh house of 1 to 8 sites
 unfoldable pub MessagesProgress : Type 0

@@ -29,8 +29,8 @@ unfoldable pub leastQueued : List Sub → ℕ → ℕ
 leastQueued live n = foldBelow (betterPlace live) n sizes.live
 
 -- it installs if it is decided
-unfoldable pub isDue : List Sub → ℕ → Bool
-isDue live place = every (ltb place sizes.live ∷ eqb (partAt live place .course .stage) stage.decided ∷ [])
+unfoldable pub isInstallable : List Sub → ℕ → Bool
+isInstallable live place = every (ltb place sizes.live ∷ eqb (partAt live place .course .stage) stage.decided ∷ [])
 
 -- a part's bound on the state number: an open mark, a decided number less 1
 unfoldable pub stateBound : Sub → ℕ → ℕ

@@ -12,7 +12,7 @@ use Rattle.kinds.specs.Kind as kind
 use Rattle.kinds.specs.Word as word
 use Rattle.kinds.specs.declared.House.{House}
 use Rattle.kinds.specs.declared.RecordHead.{RecordHead}
-use Rattle.rules.specs.House.{isSite, isTx, coordinatorOf, inMask, isMask, siteOf, wholeHouse}
+use Rattle.rules.specs.House.{isSite, isTx, coordinatorOf, inMask, isMask, homeOf, wholeHouse}
 
 -- The layout.
 
@@ -110,7 +110,7 @@ unfoldable pub keyAscends : List ℕ → ℕ → Bool
 keyAscends ws i = pick (eqb i 0) true (ltb (writeKey ws (i - 1)) (writeKey ws i))
 
 unfoldable pub partWriteOk : House → ℕ → List ℕ → ℕ → Bool
-partWriteOk o site ws i = every (keyAscends ws i ∷ eqb (siteOf o (writeKey ws i)) site ∷ [])
+partWriteOk o site ws i = every (keyAscends ws i ∷ eqb (homeOf o (writeKey ws i)) site ∷ [])
 
 unfoldable pub mergedWriteOk : List ℕ → ℕ → Bool
 mergedWriteOk ws i = every (keyAscends ws i ∷ ltb (writeKey ws i) sizes.keys ∷ [])

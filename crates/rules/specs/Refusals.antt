@@ -25,7 +25,7 @@ use Rattle.rules.specs.Send.{countsLow}
 use Rattle.rules.specs.Keys.{wroteKey, readKey}
 use Rattle.rules.specs.Live.{placeOf, freePlace, keyHeld, stageAt, allHeard}
 use Rattle.rules.specs.History.{isForgotten, isNewer}
-use Rattle.rules.specs.Queue.{leastQueued, isDue}
+use Rattle.rules.specs.Queue.{leastQueued, isInstallable}
 use Rattle.rules.specs.Valid.{siteOk, handedOk}
 use Rattle.rules.specs.Course.{channelSpent, withReply, voteDecides}
 use Rattle.rules.specs.Begin.{beginCauses}
@@ -143,7 +143,7 @@ messageHas s room lists m =
 
 unfoldable pub installHas : Site → ℕ → List Value → List Cause
 installHas s room base =
-    installCauses (siteOk s) room (length base) (isDue (s .live) (leastQueued (s .live) sizes.live)) (s .counters .installs)
+    installCauses (siteOk s) room (length base) (isInstallable (s .live) (leastQueued (s .live) sizes.live)) (s .counters .installs)
 
 unfoldable pub mergeHas : Merger → List ℕ → List ℕ → List Cause
 mergeHas g queues m =

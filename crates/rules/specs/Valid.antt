@@ -41,8 +41,8 @@ subOk o own b =
     every (courseOk o own (b .course) ∷ keysOk o own (b .keys) ∷ pick (eqb (b .course .stage) stage.free) true (heldOk o b) ∷ [])
 
 -- an install in a slot of the history; one that is remembered goes out in messages too
-unfoldable pub entryOk : House → ℕ → Bool → Entry → Bool
-entryOk o own used e = every (isMask o (e .mask) ∷ keysOk o own (e .keys) ∷ pick used (isTx o (e .tx)) true ∷ [])
+unfoldable pub slotOk : House → ℕ → Bool → Entry → Bool
+slotOk o own used e = every (isMask o (e .mask) ∷ keysOk o own (e .keys) ∷ pick used (isTx o (e .tx)) true ∷ [])
 
 unfoldable pub countersOk : House → Counters → Bool
 countersOk o c = every (isSite o (c .own) ∷ leb (c .serial) sizes.lastSerial ∷ [])
@@ -53,7 +53,7 @@ liveOk o own live = allBelow (λ i. subOk o own (getD live i pastSub)) sizes.liv
 -- the first `remembered` slots are in use
 unfoldable pub historyOk : House → ℕ → ℕ → List Entry → Bool
 historyOk o own installs history =
-    allBelow (λ i. entryOk o own (ltb i (remembered installs)) (getD history i pastEntry)) sizes.history
+    allBelow (λ i. slotOk o own (ltb i (remembered installs)) (getD history i pastEntry)) sizes.history
 
 unfoldable pub siteOk : Site → Bool
 siteOk s =

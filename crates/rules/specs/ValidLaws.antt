@@ -21,12 +21,12 @@ use Rattle.kinds.specs.declared.Entry.{Entry}
 use Rattle.kinds.specs.declared.Counters.{Counters}
 use Rattle.kinds.specs.declared.Site.{Site}
 use Rattle.kinds.specs.State.{pastSub, pastEntry, subAt, entryAt}
-use Rattle.rules.specs.House.{houseOk, isSite, isTx, siteOf, isMask, inMask, participants, participants-sites}
+use Rattle.rules.specs.House.{houseOk, isSite, isTx, homeOf, isMask, inMask, participants, participants-sites}
 use Rattle.rules.specs.Keys.{keysAt, keysOk}
 use Rattle.rules.specs.History.{forgotten, remembered, slotOf, recall}
 use Rattle.rules.specs.HistoryLaws.{slot-low, slot-used}
 use Rattle.rules.specs.Message.{entryPossible}
-use Rattle.rules.specs.Valid.{courseOk, heldOk, subOk, entryOk, countersOk, liveOk, historyOk, siteOk, listAt, gatheredOk, listsOk}
+use Rattle.rules.specs.Valid.{courseOk, heldOk, subOk, slotOk, countersOk, liveOk, historyOk, siteOk, listAt, gatheredOk, listsOk}
 use Rattle.rules.specs.Valid.{handedOk}
 
 -- The house and the site in it.
@@ -40,8 +40,8 @@ pub record ValidHouse (o : House) (own : ℕ) : Type 0 where
 pub record ValidKeys (o : House) (own : ℕ) (b : Keys) : Type 0 where
   pub few-read : b .read ≤ 16
   pub few-wrote : b .wrote ≤ 16
-  pub read-here : (j : ℕ) → j < b .read → siteOf o (getD (b .reads) j 0) ≡ own
-  pub wrote-here : (j : ℕ) → j < b .wrote → siteOf o (getD (b .writes) j 0) ≡ own
+  pub read-here : (j : ℕ) → j < b .read → homeOf o (getD (b .reads) j 0) ≡ own
+  pub wrote-here : (j : ℕ) → j < b .wrote → homeOf o (getD (b .writes) j 0) ≡ own
   pub read-low : (j : ℕ) → j < b .read → getD (b .reads) j 0 < 2048
   pub wrote-low : (j : ℕ) → j < b .wrote → getD (b .writes) j 0 < 2048
 
@@ -74,8 +74,8 @@ pub record ValidSite (s : Site) : Type 0 where
   pub entry : (i : ℕ) → i < 32 → ValidEntry (s .house) (s .counters .own) (ltb i (remembered (s .counters .installs))) (entryAt s i)
 
 -- a key of a site of the house is below 2,048
-pub key-low : (o : House) (own k : ℕ) → own ≤ 8 → siteOf o k ≡ own → k < 2048
-unfolding siteOf
+pub key-low : (o : House) (own k : ℕ) → own ≤ 8 → homeOf o k ≡ own → k < 2048
+unfolding homeOf
 key-low o own k h e = omega arith
 
 -- a mask of sites of the house is below 256
@@ -137,9 +137,9 @@ valid-house o own t u =
       own-high = leb-true own (o .sites) (every-at (leb 1 own ∷ leb own (o .sites) ∷ []) 1 u);
     }
 
-pub keys-here : (o : House) (own : ℕ) (keys : List ℕ) (n j : ℕ) → keysAt o own keys n ≡ true → j < n → siteOf o (getD keys j 0) ≡ own
+pub keys-here : (o : House) (own : ℕ) (keys : List ℕ) (n j : ℕ) → keysAt o own keys n ≡ true → j < n → homeOf o (getD keys j 0) ≡ own
 unfolding keysAt
-keys-here o own keys n j t h = eqb-true _ _ (all-below-at (λ i. eqb (siteOf o (getD keys i 0)) own) n j t h)
+keys-here o own keys n j t h = eqb-true _ _ (all-below-at (λ i. eqb (homeOf o (getD keys i 0)) own) n j t h)
 
 pub valid-keys : (o : House) (own : ℕ) (b : Keys) → own ≤ 8 → keysOk o own b ≡ true → ValidKeys o own b
 unfolding keysOk
@@ -188,8 +188,8 @@ valid-sub o own b h t =
       tx = λ n. every-at (isTx o (b .tx) ∷ []) 0 (rw (ne-eqb (b .course .stage) stage.free n) at (every-at l 2 t));
     }
 
-pub valid-entry : (o : House) (own : ℕ) (used : Bool) (e : Entry) → ValidHouse o own → entryOk o own used e ≡ true → ValidEntry o own used e
-unfolding entryOk
+pub valid-entry : (o : House) (own : ℕ) (used : Bool) (e : Entry) → ValidHouse o own → slotOk o own used e ≡ true → ValidEntry o own used e
+unfolding slotOk
 valid-entry o own used e h t =
     let l = isMask o (e .mask) ∷ keysOk o own (e .keys) ∷ pick used (isTx o (e .tx)) true ∷ [] in
     record {
@@ -213,10 +213,10 @@ unfolding liveOk
 live-at o own live i t h = all-below-at (λ i. subOk o own (getD live i pastSub)) 16 i t h
 
 history-at : (o : House) (own installs : ℕ) (history : List Entry) (i : ℕ) → historyOk o own installs history ≡ true → i < 32
-    → entryOk o own (ltb i (remembered installs)) (getD history i pastEntry) ≡ true
+    → slotOk o own (ltb i (remembered installs)) (getD history i pastEntry) ≡ true
 unfolding historyOk
 history-at o own installs history i t h =
-    all-below-at (λ i. entryOk o own (ltb i (remembered installs)) (getD history i pastEntry)) 32 i t h
+    all-below-at (λ i. slotOk o own (ltb i (remembered installs)) (getD history i pastEntry)) 32 i t h
 
 pub valid-site : (s : Site) → siteOk s ≡ true → ValidSite s
 unfolding siteOk

@@ -222,9 +222,9 @@ step w (replay c m) = replayStep w c m (replayOf (w .copy c) m)
 step w (value c key) = record { world = w; answer = valueOf (w .copy c) key; words = [] }
 
 -- a stands in a list
-pub data Is {A : Type 0} (a : A) : List A → Type 0 where
-  here : {l : List A} → Is a (a ∷ l)
-  there : {b : A} {l : List A} → Is a l → Is a (b ∷ l)
+pub data Member {A : Type 0} (a : A) : List A → Type 0 where
+  here : {l : List A} → Member a (a ∷ l)
+  there : {b : A} {l : List A} → Member a l → Member a (b ∷ l)
 
 -- What may be handed in: words that an earlier call wrote. A log's record reaches the merger, and a merged one a copy, only after
 -- all before it were taken there; one taken before may come again.
@@ -232,12 +232,12 @@ abbrev pub Reached : List (List ℕ) → ℕ → List ℕ → Type 0
 Reached records taken m = (i : ℕ) × (i ≤ taken) × (i < length records) × (getD records i [] ≡ m)
 
 abbrev pub Logged : World → List ℕ → Type 0
-Logged w m = (s : ℕ) × Is m (w .log s)
+Logged w m = (s : ℕ) × Member m (w .log s)
 
 abbrev pub Handed : World → Call → Type 0
-Handed w (message s out m) = Is m (w .sent) ⊎ (Logged w m ⊎ Is m (w .stream))
-Handed w (merge m) = Is m (w .sent) ⊎ (((s : ℕ) × Reached (w .log s) (w .merged s) m) ⊎ Is m (w .stream))
-Handed w (replay c m) = Is m (w .sent) ⊎ (Logged w m ⊎ Reached (w .stream) (w .replayed c) m)
+Handed w (message s out m) = Member m (w .sent) ⊎ (Logged w m ⊎ Member m (w .stream))
+Handed w (merge m) = Member m (w .sent) ⊎ (((s : ℕ) × Reached (w .log s) (w .merged s) m) ⊎ Member m (w .stream))
+Handed w (replay c m) = Member m (w .sent) ⊎ (Logged w m ⊎ Reached (w .stream) (w .replayed c) m)
 Handed w (begin s) = Unit {0}
 Handed w (enlist s out tx site) = Unit {0}
 Handed w (read s tx key) = Unit {0}

@@ -16,7 +16,7 @@ use Rattle.rules.specs.House.{isSite, inMask}
 use Rattle.rules.specs.Send.{countsLow}
 use Rattle.rules.specs.Keys.{wroteKey, readKey}
 use Rattle.rules.specs.History.{isForgotten}
-use Rattle.rules.specs.Queue.{leastQueued, isDue}
+use Rattle.rules.specs.Queue.{leastQueued, isInstallable}
 use Rattle.rules.specs.Valid.{siteOk}
 use Rattle.rules.specs.Live.{placeOf, freePlace, stageAt}
 use Rattle.rules.specs.Course.{channelSpent, sendTo, sendAll, quietly, enlistStep, abortStep}
@@ -89,7 +89,7 @@ install-taken : (s : Site) (room : ℕ) (base : List Value) → Takes (installOf
 unfolding saidOf installOf installedAt installSaid
 install-taken s room base =
     let place = leastQueued (s .live) sizes.live in
-    past (installCode (siteOk s) room (length base) (isDue (s .live) place) (s .counters .installs)) s base _ _
+    past (installCode (siteOk s) room (length base) (isInstallable (s .live) place) (s .counters .installs)) s base _ _
     (record { said = λ r. refl })
 
 report-taken : (s : Site) (room : ℕ) → Takes (reportOf s room) (reportSaid s)

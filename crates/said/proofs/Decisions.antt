@@ -20,7 +20,7 @@ use Rattle.rules.specs.Enlist.{isMine}
 use Rattle.rules.specs.Live.{placeOf, freePlace, allHeard}
 use Rattle.rules.specs.Certify.{concurrent}
 use Rattle.rules.specs.Effect.{turnAt}
-use Rattle.rules.specs.Course.{raise, sendTo, sendAll, quietly, abortStep, commitStep, decideStep, castStep, withMark, withRequest}
+use Rattle.rules.specs.Course.{raise, sendTo, sendAll, quietly, abortStep, commitStep, decideStep, castStep, withQueueMark, withRequest}
 use Rattle.rules.specs.Course.{prepareStep}
 use Rattle.rules.specs.Course.{withReply, voteStep, preparedStep, certifiedStep}
 use Rattle.rules.specs.Commit.{requestCode, commitCode, isFull, isLost, requestChange, commitChange, commitOf}
@@ -39,7 +39,7 @@ unfolding saidOf decideStep abortStep commitStep sendAll decidedSaid
 decide-says t = by-test (leb sizes.last (t .counters .clock)) (λ e. rw e) (λ e. rw e)
 
 cast-says : (t : Turn) (v : ℕ) (es : List ℕ) → saidOf (castStep t v es .answer) ≡ castSaid t v
-unfolding saidOf castStep castSaid withMark abortStep sendAll decidedSaid
+unfolding saidOf castStep castSaid withQueueMark abortStep sendAll decidedSaid
 cast-says t v es = by-test (eqb v 0) (λ e. by-test (alone t) (λ a. rw (e, a, decide-says)) (λ a. rw (e, a))) (λ e. rw e)
 
 -- Commit.

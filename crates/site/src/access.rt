@@ -40,7 +40,7 @@ fn access_code(ok: bool, room: usize, o: House, own: u64, key: u64, place: usize
     ensures { λ r. ⌜ r ≡ accessCode ok room o own key place stage ⌝ }
 {
     let known = numbers::is_key(o, key);
-    let site = numbers::site_of(o, key);
+    let site = numbers::home_of(o, key);
     if room != KEYS {
         return MALFORMED;
     }

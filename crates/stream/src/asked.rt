@@ -1,5 +1,5 @@
 // A line as a call of the merger, or of a copy.
-use desk::COPIES;
+use routing::COPIES;
 use kinds::Answer;
 use kinds::Merger;
 use kinds::MergerOut;
@@ -7,8 +7,8 @@ use kinds::reason::MALFORMED;
 use kinds::sizes::COPY;
 use kinds::sizes::QUEUES;
 use lines::Command;
-use parts::front;
-use parts::part_mut;
+use pieces::front;
+use pieces::piece_mut;
 ghost use mathlib.Core.Path.{_≡_};
 ghost use Prim.Native.Nat.{_<_};
 ghost use lib.ListN.{length};
@@ -56,7 +56,7 @@ pub fn start_copies(held: &mut [u64])
 pub fn at_copy(c: Command, i: usize, held: &mut [u64], m: &[u64], n: usize) -> Answer
     requires { ⌜ i < 8 ⌝ }
 {
-    let words = part_mut(held, i * COPY, COPY);
+    let words = piece_mut(held, i * COPY, COPY);
     match c {
         Command::Replay(_) => copy::replay(words, front(m, n)),
         Command::Value(_, key) => copy::value(words, key),

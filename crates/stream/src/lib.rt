@@ -6,11 +6,11 @@ use asked::at_copy;
 use asked::at_merger;
 pub use asked::start_copies;
 pub use asked::start_merger;
-use desk::Ask;
-use desk::COPIES;
-use desk::Desk;
-use desk::route::FIRST_COPY;
-use desk::settled;
+use routing::Ask;
+use routing::COPIES;
+use routing::Play;
+use routing::route::FIRST_COPY;
+use routing::settled;
 use kinds::Merger;
 use kinds::sizes::OUTGOING;
 use kinds::sizes::QUEUES;
@@ -24,7 +24,7 @@ ghost use Rattle.laws.specs.Choice.{pick};
 
 // What a line of the merger leaves.
 pub struct Streamed {
-    pub desk: Desk,
+    pub play: Play,
     pub merger: Merger,
 }
 
@@ -44,7 +44,7 @@ pub fn merged(
     let merger = o.merger;
     let answer = o.answer;
     Streamed {
-        desk: settled(a, answer, o.words, out, fd, store, page),
+        play: settled(a, answer, o.words, out, fd, store, page),
         merger,
     }
 }
@@ -68,10 +68,10 @@ pub fn copied(
     held: &mut [u64; HELD],
     out: &[u64; OUTGOING],
     page: &mut [u8; PAGE],
-) -> Desk {
+) -> Play {
     let i = copy_in(a.place);
     if COPIES <= i {
-        let d = a.desk;
+        let d = a.play;
         return d;
     }
     let c = a.command;

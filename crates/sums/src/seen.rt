@@ -35,13 +35,13 @@ use kinds::word::SLOT_KEYS;
 use kinds::word::SLOT_MASK;
 use kinds::word::SLOT_TX;
 use numbers::coordinator_of;
-use parts::part;
-use parts::word;
+use pieces::piece;
+use pieces::word;
 
 fn keys(h: u64, ws: &[u64]) -> u64 {
-    let reads = part(ws, KEYS_READS, READS);
-    let writes = part(ws, KEYS_WRITES, WRITES);
-    let values = part(ws, KEYS_VALUES, WRITES);
+    let reads = piece(ws, KEYS_READS, READS);
+    let writes = piece(ws, KEYS_WRITES, WRITES);
+    let values = piece(ws, KEYS_VALUES, WRITES);
     let a = more(h, of_set(reads, word(ws, KEYS_READ)));
     more(a, of_writes(writes, values, word(ws, KEYS_WROTE)))
 }
@@ -117,7 +117,7 @@ fn sub(own: u64, s: Seat, ws: &[u64]) -> u64 {
     );
     keys(
         more(d, reason_of(c, coordinates)),
-        part(ws, PLACE_KEYS, KEYSET),
+        piece(ws, PLACE_KEYS, KEYSET),
     )
 }
 
@@ -126,7 +126,7 @@ fn live(own: u64, seats: [Seat; LIVE], ws: &[u64]) -> u64 {
     let mut i: usize = 0;
     while i < LIVE {
         let s = seats[i];
-        sum = together(sum, sub(own, s, part(ws, PLACE * i, PLACE)));
+        sum = together(sum, sub(own, s, piece(ws, PLACE * i, PLACE)));
         i += 1;
     }
     sum
@@ -140,7 +140,7 @@ fn entry(n: u64, ws: &[u64]) -> u64 {
     }
     keys(
         three_more(4, n, tx, word(ws, SLOT_MASK)),
-        part(ws, SLOT_KEYS, KEYSET),
+        piece(ws, SLOT_KEYS, KEYSET),
     )
 }
 
@@ -154,7 +154,7 @@ fn history(ws: &[u64], installs: u64) -> u64 {
             break;
         }
         let slot = ((n - 1) % HISTORY as u64) as usize;
-        sum = together(sum, entry(n, part(ws, SLOT * slot, SLOT)));
+        sum = together(sum, entry(n, piece(ws, SLOT * slot, SLOT)));
         n -= 1;
         i += 1;
     }

@@ -12,9 +12,9 @@ use kinds::sizes::QUEUES;
 use kinds::sizes::SITE_QUEUE;
 use kinds::word::LAST_COORDINATOR;
 use kinds::word::LAST_NUMBER;
-use parts::front;
-use parts::part;
-use parts::part_mut;
+use pieces::front;
+use pieces::piece;
+use pieces::piece_mut;
 use rounds::play::BASES;
 use rounds::play::GATHERINGS;
 use rounds::play::HISTORIES;
@@ -71,14 +71,14 @@ fn words_of(step: u64) -> usize {
 }
 
 fn keep_place(kept: &mut [u64; PLACE], live: &[u64], step: u64) {
-    let place = part(live, words_of(step), PLACE);
+    let place = piece(live, words_of(step), PLACE);
     if place.len() == PLACE {
         copy_words(kept, place);
     }
 }
 
 fn put_place(kept: &[u64; PLACE], live: &mut [u64], step: u64) {
-    let place = part_mut(live, words_of(step), PLACE);
+    let place = piece_mut(live, words_of(step), PLACE);
     if place.len() == PLACE {
         copy_words(place, kept);
     }

@@ -29,8 +29,8 @@ use kinds::sizes::SLOT;
 use kinds::sizes::WRITES;
 use kinds::stage::PREPARED;
 use kinds::word;
-use parts::part_mut;
-use parts::put;
+use pieces::piece_mut;
+use pieces::put;
 use rounds::play::GATHERINGS;
 use rounds::play::HISTORIES;
 use rounds::play::LIVES;
@@ -91,7 +91,7 @@ fn put_entry(e: &mut [u64], i: usize)
 fn put_entries(es: &mut [u64]) {
     let mut i: usize = 0;
     while i < CERT_ENTRIES {
-        put_entry(part_mut(es, ENTRY * i, ENTRY), i);
+        put_entry(piece_mut(es, ENTRY * i, ENTRY), i);
         i += 1;
     }
 }
@@ -117,7 +117,7 @@ fn put_place(w: &mut [u64]) {
     put(w, word::PLACE_HEARD, OTHERS);
     put(w, word::PLACE_REASON, 0);
     put(w, word::PLACE_LISTED, CERT_ENTRIES as u64);
-    put_keys(part_mut(w, word::PLACE_KEYS, KEYSET), LIVE_KEYS);
+    put_keys(piece_mut(w, word::PLACE_KEYS, KEYSET), LIVE_KEYS);
 }
 
 fn put_slot(w: &mut [u64], i: usize)
@@ -126,14 +126,14 @@ fn put_slot(w: &mut [u64], i: usize)
     put(w, word::SLOT_TX, tx_at(OF_PAST + i));
     put(w, word::SLOT_MASK, ALL);
     put(w, word::SLOT_NUMBER, CLOCK);
-    put_keys(part_mut(w, word::SLOT_KEYS, KEYSET), PAST_KEYS);
+    put_keys(piece_mut(w, word::SLOT_KEYS, KEYSET), PAST_KEYS);
 }
 
 fn put_live(live: &mut [u64], lists: &mut [u64]) {
     let mut i: usize = 0;
     while i < LIVE {
-        put_place(part_mut(live, PLACE * i, PLACE));
-        put_entries(part_mut(lists, GATHERED * i, GATHERED));
+        put_place(piece_mut(live, PLACE * i, PLACE));
+        put_entries(piece_mut(lists, GATHERED * i, GATHERED));
         i += 1;
     }
 }
@@ -141,7 +141,7 @@ fn put_live(live: &mut [u64], lists: &mut [u64]) {
 fn put_history(history: &mut [u64]) {
     let mut i: usize = 0;
     while i < HISTORY {
-        put_slot(part_mut(history, SLOT * i, SLOT), i);
+        put_slot(piece_mut(history, SLOT * i, SLOT), i);
         i += 1;
     }
 }
@@ -194,7 +194,7 @@ fn cert_head() -> [u64; MESSAGE_HEADER] {
 
 fn put_head(m: &mut [u64]) {
     let head = cert_head();
-    let front = part_mut(m, 0, MESSAGE_HEADER);
+    let front = piece_mut(m, 0, MESSAGE_HEADER);
     if front.len() == MESSAGE_HEADER {
         copy_words(front, &head);
     }
@@ -202,7 +202,7 @@ fn put_head(m: &mut [u64]) {
 
 fn put_cert(m: &mut [u64]) {
     put_head(m);
-    put_entries(part_mut(m, MESSAGE_HEADER, GATHERED));
+    put_entries(piece_mut(m, MESSAGE_HEADER, GATHERED));
 }
 
 fn put_tables(live: &mut [u64], history: &mut [u64], lists: &mut [u64]) {

@@ -35,7 +35,7 @@ ghost use Rattle.laws.specs.Scan.{allBelow};
 ghost use Rattle.kinds.specs.Sizes as sizes;
 ghost use Rattle.kinds.specs.Stage as stages;
 ghost use Rattle.rules.specs.Message.{entryPossible};
-ghost use Rattle.rules.specs.Valid.{courseOk, subOk, entryOk, countersOk, liveOk, historyOk, siteOk, listsOk, handedOk};
+ghost use Rattle.rules.specs.Valid.{courseOk, subOk, slotOk, countersOk, liveOk, historyOk, siteOk, listsOk, handedOk};
 ghost use Rattle.rules.specs.ValidLaws.{ValidHouse};
 ghost use Rattle.lent.specs.Layout.{subFrom, entryFrom, liveOf, historyOf};
 ghost use Rattle.lent.specs.Lent.{siteOf};
@@ -86,9 +86,9 @@ fn part_ok(o: House, own: u64, seat: Seat, w: &[u64], at: usize) -> bool
 }
 
 // An install in a slot of the history, from word `at` on: one that is remembered goes out in messages too.
-fn entry_ok(o: House, own: u64, used: bool, h: &[u64], at: usize) -> bool
+fn slot_ok(o: House, own: u64, used: bool, h: &[u64], at: usize) -> bool
     requires { ⌜ ValidHouse o own × (at + sizes.slot ≤ length (now h)) ⌝ }
-    ensures { λ r. ⌜ r ≡ entryOk o own used (entryFrom (now (h .entry)) at) ⌝ }
+    ensures { λ r. ⌜ r ≡ slotOk o own used (entryFrom (now (h .entry)) at) ⌝ }
 {
     let mask = h[at + word::SLOT_MASK];
     if !is_mask(o, mask) {
@@ -137,7 +137,7 @@ fn history_ok(o: House, own: u64, installs: u64, h: &[u64]) -> bool
     let n = remembered(installs);
     let mut i: usize = 0;
     while i < HISTORY {
-        if !entry_ok(o, own, i < n, h, SLOT * i) {
+        if !slot_ok(o, own, i < n, h, SLOT * i) {
             return false;
         }
         i += 1;

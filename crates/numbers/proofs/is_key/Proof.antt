@@ -5,13 +5,13 @@ use Rattle.numbers.proofs.is_key.Statement.{statement}
 use Rattle.numbers.proofs.is_key.Tie as tie
 
 -- src/lib.rt:39:9
-site-of-requires : tie.Need-site-of-requires
-site-of-requires c κs = search needs
+home-of-requires : tie.Need-home-of-requires
+home-of-requires c κs = search needs
 
 -- src/lib.rt:36:1
 returns : tie.Need-returns
 unfolding isKey
-returns c = rw (c .site-of .ensures)
+returns c = rw (c .home-of .ensures)
 
 pub is-key-spec : {M : Type 1} → statement M
-is-key-spec = tie.close (tie.spec site-of-requires returns)
+is-key-spec = tie.close (tie.spec home-of-requires returns)

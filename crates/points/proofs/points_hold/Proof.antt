@@ -5,7 +5,7 @@ use Rattle.laws.specs.Pair.{precedes}
 use Rattle.laws.specs.Digits.{onesBelow}
 use Rattle.laws.specs.Overlay.{overlay, putAt}
 use Rattle.kinds.specs.State.{noKeys, noSub, noEntry}
-use Rattle.rules.specs.House.{houseOk, isSite, siteOf, isKey, txOf, coordinatorOf, serialOf, isTx, maskOf, inMask, isMask, participants}
+use Rattle.rules.specs.House.{houseOk, isSite, homeOf, isKey, txOf, coordinatorOf, serialOf, isTx, maskOf, inMask, isMask, participants}
 use Rattle.rules.specs.House.{repliesWanted, wholeHouse}
 use Rattle.rules.specs.Message.{entryOffset, messageWords, entryCount, messageHead, messageEntries, toCoordinator, coordinatorEnd}
 use Rattle.rules.specs.Message.{carriesClock, argumentOk, mostEntries, endsOk, headOk, entryBefore, entryOk, messageShape, messageOk}
@@ -15,12 +15,12 @@ use Rattle.rules.specs.Keys.{keyPlace, wroteKey, readKey, wroteValue, withRead,
 use Rattle.rules.specs.Keys.{keyFrom, sortedKey, sortedCount, sortedWords, keysAt, keysOk}
 use Rattle.rules.specs.Live.{freePlace, isPartOf, placeOf, isHeld, otherHolds, keyHeld, isPrepared, isQueued, allHeard}
 use Rattle.rules.specs.History.{remembered, forgotten, isForgotten, within, backwards, newer, versionOf, isNewer, recallPlace, forgetInto}
-use Rattle.rules.specs.Queue.{queuedBefore, comesFirst, betterPlace, leastQueued, isDue, stateBound, stateNumber}
+use Rattle.rules.specs.Queue.{queuedBefore, comesFirst, betterPlace, leastQueued, isInstallable, stateBound, stateNumber}
 use Rattle.rules.specs.Valid.{courseOk, subOk, countersOk, liveOk, historyOk, siteOk, heldOk}
 use Rattle.rules.specs.Valid as valids
 use Rattle.rules.specs.Effect.{takenOf, turnAt, settle}
 use Rattle.rules.specs.Course.{newSub, raise, headOf, channelSpent, sendTo, sendAll, quietly, withParticipant, enlistStep, isOutstanding}
-use Rattle.rules.specs.Course.{withReply, abortStep, withDecision, commitStep, decideStep, withMark, castStep, withRequest, prepareStep}
+use Rattle.rules.specs.Course.{withReply, abortStep, withDecision, commitStep, decideStep, withQueueMark, castStep, withRequest, prepareStep}
 use Rattle.rules.specs.Course.{voteDecides, voteStep, withStage, preparedStep, certifiedStep}
 use Rattle.rules.specs.Begin.{nextTx, beginCode, begun, beginOf}
 use Rattle.rules.specs.Access.{accessCode, readCode, readVersion, readAt, readOf, writeCode, writeCodeAt, written, writeAt, writeOf}
@@ -41,16 +41,16 @@ use Rattle.points.proofs.points_hold.Statement.{statement}
 use Rattle.points.proofs.points_hold.Tie as tie
 
 returns : tie.Need-returns
-unfolding firstBelow allBelow anyBelow foldBelow precedes onesBelow overlay putAt noKeys noSub noEntry houseOk isSite siteOf isKey txOf
+unfolding firstBelow allBelow anyBelow foldBelow precedes onesBelow overlay putAt noKeys noSub noEntry houseOk isSite homeOf isKey txOf
     coordinatorOf serialOf isTx maskOf inMask isMask participants repliesWanted wholeHouse entryOffset messageWords entryCount messageHead
     messageEntries toCoordinator coordinatorEnd carriesClock argumentOk mostEntries endsOk headOk entryBefore entryOk messageShape messageOk
     writeOffset recordWords recordHead recordWrites pairOk partHeadOk stateHeadOk mergedHeadOk keyAscends partWriteOk mergedWriteOk
     recordShape partOk stateOk mergedOk keyPlace wroteKey readKey wroteValue withRead withWrite commonKey dependent lesserKey leastKey
     keyFrom sortedKey sortedCount sortedWords keysAt keysOk freePlace isPartOf placeOf isHeld otherHolds keyHeld isPrepared isQueued
     allHeard remembered forgotten isForgotten within backwards newer versionOf isNewer recallPlace forgetInto queuedBefore comesFirst
-    betterPlace leastQueued isDue stateBound stateNumber courseOk subOk countersOk liveOk heldOk historyOk siteOk valids.entryOk takenOf
+    betterPlace leastQueued isInstallable stateBound stateNumber courseOk subOk countersOk liveOk heldOk historyOk siteOk valids.slotOk takenOf
     turnAt settle saidOf newSub raise headOf channelSpent sendTo sendAll quietly withParticipant enlistStep isOutstanding
-    withReply abortStep withDecision commitStep decideStep withMark castStep withRequest prepareStep voteDecides voteStep withStage
+    withReply abortStep withDecision commitStep decideStep withQueueMark castStep withRequest prepareStep voteDecides voteStep withStage
     preparedStep certifiedStep nextTx beginCode begun beginOf accessCode readCode readVersion readAt readOf writeCode writeCodeAt written
     writeAt writeOf installCode entryOf partHead partWords baseAfter installedAt installOf reportCode stateWords reportOf freshSite
     startCode startOf startTable mergerOutOf placeWords queuedPart queuedOk sourceOk mergerOk mergePartCode mergePart mergeStateCode

@@ -11,7 +11,7 @@ use Rattle.laws.specs.Scan.{EachBelow, each-none, not-all-below, all-end}
 use Rattle.kinds.specs.Sizes as sizes
 use Rattle.kinds.specs.State.{pastEntry}
 use Rattle.rules.specs.History.{remembered}
-use Rattle.rules.specs.Valid.{entryOk, historyOk}
+use Rattle.rules.specs.Valid.{slotOk, historyOk}
 use Rattle.lent.specs.Layout.{historyOf}
 use Rattle.lent.specs.Laws.{history-at}
 use Rattle.valid.proofs.history_ok.Statement.{statement}
@@ -20,7 +20,7 @@ use Rattle.valid.proofs.history_ok.Tie as tie
 abbrev Inv-loop : tie.InvT-loop
 Inv-loop o own installs h n i₀ i =
     (i ≤ sizes.history)
-    × EachBelow (λ j. entryOk o own (ltb j (remembered installs)) (getD (historyOf h) j pastEntry)) i
+    × EachBelow (λ j. slotOk o own (ltb j (remembered installs)) (getD (historyOf h) j pastEntry)) i
 
 abbrev μ-loop : tie.MeasureT-loop
 μ-loop o own installs h n i₀ i = sizes.history - i
@@ -33,14 +33,14 @@ abbrev start : tie.After-remembered Inv-loop μ-loop → tie.Start Inv-loop μ-l
 start c = c .before .before
 
 -- what the test of the loop's entry says
-told : (c : tie.After-entry-ok Inv-loop μ-loop) →
+told : (c : tie.After-slot-ok Inv-loop μ-loop) →
     (let turn = c .before in let a = start (entered turn) .args in let i = turn .before .loop .i in
-    c .entry-ok .result ≡ entryOk (a .o) (a .own) (ltb i (remembered (a .installs))) (getD (historyOf (a .h .now)) i pastEntry))
+    c .slot-ok .result ≡ slotOk (a .o) (a .own) (ltb i (remembered (a .installs))) (getD (historyOf (a .h .now)) i pastEntry))
 told c =
     let turn = c .before in
     let a = start (entered turn) .args in
     rw (← entered turn .remembered .ensures, history-at (a .h .now) (turn .before .loop .i) (turn .loop-test .taken))
-    (c .entry-ok .ensures)
+    (c .slot-ok .ensures)
 
 remembered-requires : tie.Need-remembered-requires Inv-loop μ-loop
 remembered-requires c κs = search needs
@@ -48,11 +48,11 @@ remembered-requires c κs = search needs
 loop-holds : tie.Need-loop-holds Inv-loop μ-loop
 loop-holds c = (search needs, each-none _)
 
-mul-entry-ok : tie.Need-mul-entry-ok Inv-loop μ-loop
-mul-entry-ok c = search needs
+mul-slot-ok : tie.Need-mul-slot-ok Inv-loop μ-loop
+mul-slot-ok c = search needs
 
-entry-ok-requires : tie.Need-entry-ok-requires Inv-loop μ-loop
-entry-ok-requires c κs =
+slot-ok-requires : tie.Need-slot-ok-requires Inv-loop μ-loop
+slot-ok-requires c κs =
     let p = start (entered c) .pre in
     (p .0, omega (arith, c .loop-test .taken, p .1))
 
@@ -85,8 +85,8 @@ history-ok-spec =
     μ-loop
     remembered-requires
     loop-holds
-    mul-entry-ok
-    entry-ok-requires
+    mul-slot-ok
+    slot-ok-requires
     returns
     add-i
     loop-less

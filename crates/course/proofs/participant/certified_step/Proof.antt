@@ -6,14 +6,14 @@ use Rattle.rules.specs.CourseLaws.{no-entries, to-course}
 use Rattle.course.proofs.participant.certified_step.Statement.{statement}
 use Rattle.course.proofs.participant.certified_step.Tie as tie
 
-abbrev start : tie.After-with-mark → tie.Start
+abbrev start : tie.After-with-queue-mark → tie.Start
 start c = c .before .before .before
 
 abbrev start-2 : tie.After-with-stage → tie.Start
 start-2 c = c .before .before .before
 
-with-mark-requires : tie.Need-with-mark-requires
-with-mark-requires c κs = search needs
+with-queue-mark-requires : tie.Need-with-queue-mark-requires
+with-queue-mark-requires c κs = search needs
 
 with-course-requires : tie.Need-with-course-requires
 with-course-requires c κs = search needs
@@ -24,7 +24,7 @@ slice-aggregate-send-to c = search needs
 send-to-requires : tie.Need-send-to-requires
 send-to-requires c κs = (
   to-course (start (c .before .before .before) .args .t) (c .before .before .with-course .result)
-      (c .before .before .before .with-mark .result) (start (c .before .before .before) .args .to) _
+      (c .before .before .before .with-queue-mark .result) (start (c .before .before .before) .args .to) _
       (c .before .before .with-course .ensures) (start (c .before .before .before) .pre),
   no-entries,
 )
@@ -38,10 +38,10 @@ returns c =
     let after-send-to = c .before .before in
     let after-send-to-arg2 = after-send-to .before in
     let after-with-course = after-send-to .before .before .before in
-    let after-with-mark = after-send-to-arg2 .before .before .before in
-    let v = after-with-mark .before .if1 .taken in (
-      rw (v, c .before .before .send-to .ensures .0, after-with-course .with-course .ensures, after-with-mark .with-mark .ensures),
-      rw (v, c .before .before .send-to .ensures .1, after-with-course .with-course .ensures, after-with-mark .with-mark .ensures),
+    let after-with-queue-mark = after-send-to-arg2 .before .before .before in
+    let v = after-with-queue-mark .before .if1 .taken in (
+      rw (v, c .before .before .send-to .ensures .0, after-with-course .with-course .ensures, after-with-queue-mark .with-queue-mark .ensures),
+      rw (v, c .before .before .send-to .ensures .1, after-with-course .with-course .ensures, after-with-queue-mark .with-queue-mark .ensures),
     )
 
 with-stage-requires : tie.Need-with-stage-requires
@@ -81,7 +81,7 @@ pub certified-step-spec : {M : Type 1} → statement M
 certified-step-spec =
     tie.close
     (tie.spec
-    with-mark-requires
+    with-queue-mark-requires
     with-course-requires
     slice-aggregate-send-to
     send-to-requires

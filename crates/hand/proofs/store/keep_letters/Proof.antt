@@ -30,8 +30,8 @@ part-first-length-end c = search needs
 first-length-requires : tie.Need-first-length-requires Inv-loop μ-loop
 first-length-requires c κs = search needs
 
-part-requires : tie.Need-part-requires Inv-loop μ-loop
-part-requires c κs = search needs
+piece-requires : tie.Need-piece-requires Inv-loop μ-loop
+piece-requires c κs = search needs
 
 keep-requires : tie.Need-keep-requires Inv-loop μ-loop
 keep-requires c κs = search needs
@@ -69,7 +69,7 @@ keep-letters-spec =
     part-first-length-start
     part-first-length-end
     first-length-requires
-    part-requires
+    piece-requires
     keep-requires
     add-at
     loop-less

@@ -23,7 +23,7 @@ of-site c =
     let site = lent .before .before .before in
     entered (site .before)
 
-abbrev of-merger : tie.After-desk Inv-loop μ-loop → tie.In-loop Inv-loop μ-loop
+abbrev of-merger : tie.After-play Inv-loop μ-loop → tie.In-loop Inv-loop μ-loop
 of-merger c =
     let called = c .before .before .before in
     let lent = called .before .before .before in

@@ -10,7 +10,7 @@ use Rattle.kinds.specs.declared.Site.{Site}
 use Rattle.rules.specs.CallLaws.{InstallClear, install-clear}
 use Rattle.rules.specs.Install.{installCode}
 use Rattle.rules.specs.InstallLaws.{due-low, install-past, install-refused}
-use Rattle.rules.specs.Queue.{isDue, leastQueued}
+use Rattle.rules.specs.Queue.{isInstallable, leastQueued}
 use Rattle.rules.specs.Valid.{siteOk}
 use Rattle.lent.specs.Laws.{lent-lengths}
 use Rattle.lent.specs.Lent.{siteOf}
@@ -40,10 +40,10 @@ abbrev least : Site → ℕ
 least s = leastQueued (s .live) sizes.live
 
 abbrev codeAt : Site → ℕ → ℕ → ℕ
-codeAt s room given = installCode (siteOk s) room given (isDue (s .live) (least s)) (s .counters .installs)
+codeAt s room given = installCode (siteOk s) room given (isInstallable (s .live) (least s)) (s .counters .installs)
 
 code-at : (s : Site) (room given place code : ℕ) (ok due : Bool) → ok ≡ siteOk s → (ok ≡ true → place ≡ least s)
-    → due ≡ isDue (s .live) place → code ≡ installCode ok room given due (s .counters .installs) → code ≡ codeAt s room given
+    → due ≡ isInstallable (s .live) place → code ≡ installCode ok room given due (s .counters .installs) → code ≡ codeAt s room given
 unfolding installCode
 code-at s room given place code true due v p d e = rw (← v, ← p refl, ← d) e
 code-at s room given place code false due v p d e = rw (← v) e
@@ -53,12 +53,12 @@ first : (c : tie.After-install-code) → let s = begins c in
 first c =
     let s = begins c in
     let p = placed c in
-    code-at (handed s) _ _ _ _ _ _ (looked p .site-ok .ensures) (p .least-place .ensures) (c .before .is-due .ensures (s .args .live .now))
+    code-at (handed s) _ _ _ _ _ _ (looked p .site-ok .ensures) (p .least-place .ensures) (c .before .is-installable .ensures (s .args .live .now))
     (c .install-code .ensures)
 
 clear : (c : tie.Else1) → let s = begins (c .before) in
     let site = handed s in
-    let due = isDue (site .live) (least site) in
+    let due = isInstallable (site .live) (least site) in
     InstallClear (siteOk site) (length (s .args .out .now)) (length (s .args .base .now)) due (site .counters .installs)
 clear c = install-clear _ _ _ _ _ (sym (first (c .before)) ∙ c .if1 .left)
 
@@ -75,8 +75,8 @@ least-place-requires c κs e =
     let a = start (look .before) .args in
     lent-lengths (a .p) (a .live .now) (a .history .now) (sym (look .site-ok .ensures) ∙ e) .live
 
-is-due-requires : tie.Need-is-due-requires
-is-due-requires c κs = search needs
+is-installable-requires : tie.Need-is-installable-requires
+is-installable-requires c κs = search needs
 
 install-code-requires : tie.Need-install-code-requires
 install-code-requires c κs = search needs
@@ -146,7 +146,7 @@ install-spec =
     (tie.spec
     site-ok-requires
     least-place-requires
-    is-due-requires
+    is-installable-requires
     install-code-requires
     refused-requires
     same-length

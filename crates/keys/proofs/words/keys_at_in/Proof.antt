@@ -9,7 +9,7 @@ use lib.ListN.{getD}
 use lib.Dec.{eqb}
 use Rattle.laws.specs.Scan.{EachBelow, each-none, not-all-below, all-end}
 use Rattle.kinds.specs.Sizes as sizes
-use Rattle.rules.specs.House.{siteOf}
+use Rattle.rules.specs.House.{homeOf}
 use Rattle.rules.specs.Keys.{keysAt}
 use Rattle.lent.specs.Layout.{wordsFrom}
 use Rattle.lent.specs.Read.{words-at}
@@ -17,41 +17,41 @@ use Rattle.keys.proofs.words.keys_at_in.Statement.{statement}
 use Rattle.keys.proofs.words.keys_at_in.Tie as tie
 
 abbrev Inv-loop : tie.InvT-loop
-Inv-loop o own w at n i₀ i = (i ≤ n) × EachBelow (λ j. eqb (siteOf o (getD (wordsFrom w at sizes.writes) j 0)) own) i
+Inv-loop o own w at n i₀ i = (i ≤ n) × EachBelow (λ j. eqb (homeOf o (getD (wordsFrom w at sizes.writes) j 0)) own) i
 
 abbrev μ-loop : tie.MeasureT-loop
 μ-loop o own w at n i₀ i = n - i
 
 -- the turn of the loop that a place stands in, and the function's start
-abbrev turn : tie.After-site-of Inv-loop μ-loop → tie.In-loop Inv-loop μ-loop
+abbrev turn : tie.After-home-of Inv-loop μ-loop → tie.In-loop Inv-loop μ-loop
 turn c = c .before .before
 
 abbrev start : tie.In-loop Inv-loop μ-loop → tie.Start Inv-loop μ-loop
 start c = c .before .before .before
 
 -- the site found is that of the list's word
-found : (c : tie.After-site-of Inv-loop μ-loop) →
+found : (c : tie.After-home-of Inv-loop μ-loop) →
     (let l = turn c .before .loop in let a = start (turn c) .args in
-    c .site-of .result ≡ siteOf (a .o) (getD (wordsFrom (a .w .now) (a .at) sizes.writes) (l .i) 0))
+    c .home-of .result ≡ homeOf (a .o) (getD (wordsFrom (a .w .now) (a .at) sizes.writes) (l .i) 0))
 found c =
     let t = turn c in
     let a = start t .args in
-    rw (words-at (a .w .now) (a .at) sizes.writes (t .before .loop .i) (omega (arith, start t .pre .0))) (c .site-of .ensures)
+    rw (words-at (a .w .now) (a .at) sizes.writes (t .before .loop .i) (omega (arith, start t .pre .0))) (c .home-of .ensures)
 
 loop-holds : tie.Need-loop-holds Inv-loop μ-loop
 loop-holds c = (search needs, each-none _)
 
-add-site-of : tie.Need-add-site-of Inv-loop μ-loop
-add-site-of c = search needs
+add-home-of : tie.Need-add-home-of Inv-loop μ-loop
+add-home-of c = search needs
 
-mul-site-of : tie.Need-mul-site-of Inv-loop μ-loop
-mul-site-of c = search needs
+mul-home-of : tie.Need-mul-home-of Inv-loop μ-loop
+mul-home-of c = search needs
 
-shared-slice-read-site-of : tie.Need-shared-slice-read-site-of Inv-loop μ-loop
-shared-slice-read-site-of c = search needs
+shared-slice-read-home-of : tie.Need-shared-slice-read-home-of Inv-loop μ-loop
+shared-slice-read-home-of c = search needs
 
-site-of-requires : tie.Need-site-of-requires Inv-loop μ-loop
-site-of-requires c κs = search needs
+home-of-requires : tie.Need-home-of-requires Inv-loop μ-loop
+home-of-requires c κs = search needs
 
 returns : tie.Need-returns Inv-loop μ-loop
 unfolding keysAt
@@ -81,10 +81,10 @@ keys-at-in-spec =
     Inv-loop
     μ-loop
     loop-holds
-    add-site-of
-    mul-site-of
-    shared-slice-read-site-of
-    site-of-requires
+    add-home-of
+    mul-home-of
+    shared-slice-read-home-of
+    home-of-requires
     returns
     add-i
     loop-less

@@ -25,14 +25,14 @@ mul-key-2 c = search needs
 shared-slice-read-key : tie.Need-shared-slice-read-key
 shared-slice-read-key c = search needs
 
-site-of-requires : tie.Need-site-of-requires
-site-of-requires c κs = search needs
+home-of-requires : tie.Need-home-of-requires
+home-of-requires c κs = search needs
 
 returns-2 : tie.Need-returns-2
 unfolding partWriteOk
 returns-2 c =
     search (
-      ← c .site-of .ensures,
+      ← c .home-of .ensures,
       ← c .before .before .before .key-ascends .ensures,
       not-false (c .before .before .before .key-ascends .result) (c .before .before .if1 .left),
       pick-self,
@@ -49,5 +49,5 @@ part-write-ok-spec =
     add-key
     mul-key-2
     shared-slice-read-key
-    site-of-requires
+    home-of-requires
     returns-2)

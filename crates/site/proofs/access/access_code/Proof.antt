@@ -16,8 +16,8 @@ start c = c .before .before .before
 abbrev after-is-key : tie.Else2 → tie.After-is-key
 after-is-key c = c .before .before .before
 
-abbrev after-site-of : tie.Else3 → tie.After-site-of
-after-site-of c = c .before .before .before
+abbrev after-home-of : tie.Else3 → tie.After-home-of
+after-home-of c = c .before .before .before
 
 abbrev else1 : tie.Else4 → tie.Else1
 else1 c = c .before .before .before
@@ -35,8 +35,8 @@ passed-2 c = not-false (start (c .before) .args .ok) (c .if2 .left)
 passed-3 : (c : tie.Else3) → after-is-key (c .before) .is-key .result ≡ true
 passed-3 c = not-false (after-is-key (c .before) .is-key .result) (c .if3 .left)
 
-passed-4 : (c : tie.Else4) → eqb (after-site-of (c .before) .site-of .result) (start (c .before .before .before) .args .own) ≡ true
-passed-4 c = eq-eqb (after-site-of (c .before) .site-of .result) (start (c .before .before .before) .args .own) (c .if4 .left)
+passed-4 : (c : tie.Else4) → eqb (after-home-of (c .before) .home-of .result) (start (c .before .before .before) .args .own) ≡ true
+passed-4 c = eq-eqb (after-home-of (c .before) .home-of .result) (start (c .before .before .before) .args .own) (c .if4 .left)
 
 passed-5 : (c : tie.Else5) → leb sizes.live (start (else1 (c .before)) .args .place) ≡ false
 passed-5 c = lt-leb sizes.live (start (else1 (c .before)) .args .place) (c .if5 .left)
@@ -47,22 +47,22 @@ passed-6 c = eq-eqb (start (else1 (c .before .before)) .args .stage) stage.activ
 is-key-requires : tie.Need-is-key-requires
 is-key-requires c κs = search needs
 
-site-of-requires : tie.Need-site-of-requires
-site-of-requires c κs = search needs
+home-of-requires : tie.Need-home-of-requires
+home-of-requires c κs = search needs
 
 returns : tie.Need-returns
 unfolding accessCode
-returns c = simp (← c .before .site-of .ensures, ne-eqb (c .before .before .before .args .room) sizes.keys (c .if1 .taken))
+returns c = simp (← c .before .home-of .ensures, ne-eqb (c .before .before .before .args .room) sizes.keys (c .if1 .taken))
 
 returns-2 : tie.Need-returns-2
 unfolding accessCode
-returns-2 c = simp (← c .before .before .site-of .ensures, passed-1 (c .before), not-true (start (c .before) .args .ok) (c .if2 .taken))
+returns-2 c = simp (← c .before .before .home-of .ensures, passed-1 (c .before), not-true (start (c .before) .args .ok) (c .if2 .taken))
 
 returns-3 : tie.Need-returns-3
 unfolding accessCode
 returns-3 c =
     simp (
-      ← c .before .before .before .site-of .ensures,
+      ← c .before .before .before .home-of .ensures,
       passed-1 (c .before .before),
       passed-2 (c .before),
       ← after-is-key (c .before) .is-key .ensures,
@@ -73,19 +73,19 @@ returns-4 : tie.Need-returns-4
 unfolding accessCode
 returns-4 c =
     simp (
-      ← after-site-of (c .before) .site-of .ensures,
+      ← after-home-of (c .before) .home-of .ensures,
       passed-1 (c .before .before .before),
       passed-2 (c .before .before),
       ← after-is-key (c .before .before) .is-key .ensures,
       passed-3 (c .before),
-      ne-eqb (after-site-of (c .before) .site-of .result) (start (c .before .before .before) .args .own) (c .if4 .taken),
+      ne-eqb (after-home-of (c .before) .home-of .result) (start (c .before .before .before) .args .own) (c .if4 .taken),
     )
 
 returns-5 : tie.Need-returns-5
 unfolding accessCode
 returns-5 c =
     simp (
-      ← else1 (c .before) .before .site-of .ensures,
+      ← else1 (c .before) .before .home-of .ensures,
       passed-1 (else1 (c .before)),
       passed-2 (c .before .before .before),
       ← else1 (c .before) .before .before .is-key .ensures,
@@ -98,7 +98,7 @@ returns-6 : tie.Need-returns-6
 unfolding accessCode
 returns-6 c =
     simp (
-      ← else1 (c .before .before) .before .site-of .ensures,
+      ← else1 (c .before .before) .before .home-of .ensures,
       passed-1 (else1 (c .before .before)),
       passed-2 (else2 (c .before)),
       ← else1 (c .before .before) .before .before .is-key .ensures,
@@ -112,7 +112,7 @@ returns-7 : tie.Need-returns-7
 unfolding accessCode
 returns-7 c =
     simp (
-      ← else1 (c .before .before) .before .site-of .ensures,
+      ← else1 (c .before .before) .before .home-of .ensures,
       passed-1 (else1 (c .before .before)),
       passed-2 (else2 (c .before)),
       ← else1 (c .before .before) .before .before .is-key .ensures,
@@ -127,7 +127,7 @@ access-code-spec =
     tie.close
     (tie.spec
     is-key-requires
-    site-of-requires
+    home-of-requires
     returns
     returns-2
     returns-3

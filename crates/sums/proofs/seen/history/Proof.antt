@@ -20,11 +20,11 @@ sub-slot c = search needs
 rem-slot : tie.Need-rem-slot Inv-loop μ-loop
 rem-slot c = search needs
 
-mul-part : tie.Need-mul-part Inv-loop μ-loop
-mul-part c = search needs
+mul-piece : tie.Need-mul-piece Inv-loop μ-loop
+mul-piece c = search needs
 
-part-requires : tie.Need-part-requires Inv-loop μ-loop
-part-requires c κs = search needs
+piece-requires : tie.Need-piece-requires Inv-loop μ-loop
+piece-requires c κs = search needs
 
 entry-requires : tie.Need-entry-requires Inv-loop μ-loop
 entry-requires c κs = search needs
@@ -59,8 +59,8 @@ history-spec =
     loop-holds
     sub-slot
     rem-slot
-    mul-part
-    part-requires
+    mul-piece
+    piece-requires
     entry-requires
     together-requires
     sub-n

@@ -18,8 +18,8 @@ loop-holds c = search needs
 mul-part-mut : tie.Need-mul-part-mut Inv-loop μ-loop
 mul-part-mut c = search needs
 
-part-mut-requires : tie.Need-part-mut-requires Inv-loop μ-loop
-part-mut-requires c κs = search needs
+piece-mut-requires : tie.Need-piece-mut-requires Inv-loop μ-loop
+piece-mut-requires c κs = search needs
 
 put-entry-requires : tie.Need-put-entry-requires Inv-loop μ-loop
 put-entry-requires c κs = search needs
@@ -47,7 +47,7 @@ put-entries-spec =
     μ-loop
     loop-holds
     mul-part-mut
-    part-mut-requires
+    piece-mut-requires
     put-entry-requires
     add-i
     loop-less

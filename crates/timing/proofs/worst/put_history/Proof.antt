@@ -18,8 +18,8 @@ loop-holds c = search needs
 mul-part-mut : tie.Need-mul-part-mut Inv-loop μ-loop
 mul-part-mut c = search needs
 
-part-mut-requires : tie.Need-part-mut-requires Inv-loop μ-loop
-part-mut-requires c κs = search needs
+piece-mut-requires : tie.Need-piece-mut-requires Inv-loop μ-loop
+piece-mut-requires c κs = search needs
 
 put-slot-requires : tie.Need-put-slot-requires Inv-loop μ-loop
 put-slot-requires c κs = search needs
@@ -47,7 +47,7 @@ put-history-spec =
     μ-loop
     loop-holds
     mul-part-mut
-    part-mut-requires
+    piece-mut-requires
     put-slot-requires
     add-i
     loop-less

@@ -18,8 +18,8 @@ loop-holds c = search needs
 mul-part-mut : tie.Need-mul-part-mut Inv-loop μ-loop
 mul-part-mut c = search needs
 
-part-mut-requires : tie.Need-part-mut-requires Inv-loop μ-loop
-part-mut-requires c κs = search needs
+piece-mut-requires : tie.Need-piece-mut-requires Inv-loop μ-loop
+piece-mut-requires c κs = search needs
 
 put-place-requires : tie.Need-put-place-requires Inv-loop μ-loop
 put-place-requires c κs = search needs
@@ -27,8 +27,8 @@ put-place-requires c κs = search needs
 mul-part-mut-2 : tie.Need-mul-part-mut-2 Inv-loop μ-loop
 mul-part-mut-2 c = search needs
 
-part-mut-requires-2 : tie.Need-part-mut-requires-2 Inv-loop μ-loop
-part-mut-requires-2 c κs = search needs
+piece-mut-requires-2 : tie.Need-piece-mut-requires-2 Inv-loop μ-loop
+piece-mut-requires-2 c κs = search needs
 
 put-entries-requires : tie.Need-put-entries-requires Inv-loop μ-loop
 put-entries-requires c κs = search needs
@@ -59,10 +59,10 @@ put-live-spec =
     μ-loop
     loop-holds
     mul-part-mut
-    part-mut-requires
+    piece-mut-requires
     put-place-requires
     mul-part-mut-2
-    part-mut-requires-2
+    piece-mut-requires-2
     put-entries-requires
     add-i
     loop-less

@@ -1,0 +1,111 @@
+-- H1 to H20: where a line's call goes, what it hands in, and the refusals that arise before the store is asked. A place below the
+-- number of sites is a site, less 1; then comes the merger, then the copies.
+use Prim.Native.Nat.{ℕ, _+_, _-_, _*_, _≤_}
+use mathlib.Core.Path.{_≡_}
+use mathlib.Core.Bool.{Bool, true}
+use mathlib.Core.List.{[], _∷_}
+use borrow.Author.Tests.{leb-true}
+use lib.Dec.{leb}
+use Rattle.laws.specs.Choice.{pick, every, every-at}
+use Rattle.kinds.specs.Sizes as sizes
+use Rattle.kinds.specs.Reason as reason
+use Rattle.kinds.specs.declared.House.{House}
+use Rattle.rules.specs.House.{isSite, coordinatorOf}
+use Rattle.lines.specs.declared.Command.{Command}
+use Rattle.lines.specs.declared.Command.the-variants as command
+use Rattle.routing.specs.declared.route.Route.{Route}
+
+abbrev pub copies : ℕ
+copies = 8
+
+-- the places behind the sites
+abbrev pub merger : ℕ
+merger = sizes.sites
+
+abbrev pub firstCopy : ℕ
+firstCopy = merger + 1
+
+abbrev pub nowhere : ℕ
+nowhere = firstCopy + copies
+
+-- the queues: a channel for each two sites, a log for each site, the stream, and a cursor in it for each copy; none behind them
+abbrev pub channel : ℕ → ℕ → ℕ
+channel from to = from * sizes.sites + to
+
+abbrev pub log : ℕ → ℕ
+log site = sizes.sites * sizes.sites + site
+
+abbrev pub stream : ℕ
+stream = log sizes.sites
+
+abbrev pub cursor : ℕ → ℕ
+cursor copy = stream + 1 + copy
+
+abbrev pub none : ℕ
+none = cursor copies
+
+abbrev pub refuse : ℕ → Route
+refuse code = record { place = nowhere; queue = none; code = code }
+
+abbrev pub goes : ℕ → ℕ → Route
+goes place queue = record { place = place; queue = queue; code = 0 }
+
+-- a site of the house with a place
+unfoldable pub isPlaced : House → ℕ → Bool
+isPlaced o site = every (isSite o site ∷ leb site sizes.sites ∷ [])
+
+unfoldable pub toSite : House → ℕ → Route
+toSite o site = pick (isPlaced o site) (goes (site - 1) none) (refuse reason.malformed)
+
+-- a number whose coordinator the house lacks is held nowhere
+unfoldable pub toCoordinator : House → ℕ → Route
+toCoordinator o tx = pick (isSite o (coordinatorOf tx)) (toSite o (coordinatorOf tx)) (refuse reason.unknown)
+
+unfoldable pub toEnlister : House → ℕ → ℕ → Route
+toEnlister o tx site = pick (isSite o site) (toCoordinator o tx) (refuse reason.malformed)
+
+-- a message's receiver, with the channel from its sender
+unfoldable pub toReceiver : House → ℕ → ℕ → Route
+toReceiver o from to =
+    pick (every (isPlaced o from ∷ isPlaced o to ∷ [])) (goes (to - 1) (channel (from - 1) (to - 1))) (refuse reason.malformed)
+
+unfoldable pub fromLog : House → ℕ → Route
+fromLog o site = pick (isPlaced o site) (goes merger (log (site - 1))) (refuse reason.malformed)
+
+abbrev pub isCopy : ℕ → Bool
+isCopy copy = every (leb 1 copy ∷ leb copy copies ∷ [])
+
+unfoldable pub toCopy : ℕ → Route
+toCopy copy = pick (isCopy copy) (goes (firstCopy + (copy - 1)) none) (refuse reason.malformed)
+
+unfoldable pub fromStream : ℕ → Route
+fromStream copy = pick (isCopy copy) (goes (firstCopy + (copy - 1)) (cursor (copy - 1))) (refuse reason.malformed)
+
+unfoldable pub routeOf : House → Command → Route
+routeOf o (command.Sites n) = refuse reason.malformed
+routeOf o (command.Begin site) = toSite o site
+routeOf o (command.Enlist tx site) = toEnlister o tx site
+routeOf o (command.Read site tx key) = toSite o site
+routeOf o (command.Write site tx key value) = toSite o site
+routeOf o (command.Commit tx) = toCoordinator o tx
+routeOf o (command.Abandon tx) = toCoordinator o tx
+routeOf o (command.Take from to) = toReceiver o from to
+routeOf o (command.Install site) = toSite o site
+routeOf o (command.Report site) = toSite o site
+routeOf o (command.Merge site) = fromLog o site
+routeOf o command.Emit = goes merger none
+routeOf o (command.Replay copy) = fromStream copy
+routeOf o (command.Value copy key) = toCopy copy
+routeOf o command.Bad = refuse reason.malformed
+
+-- what a placed site says
+pub record Placed (site : ℕ) : Type 0 where
+  pub low : 1 ≤ site
+  pub high : site ≤ sizes.sites
+
+pub placed : (o : House) (site : ℕ) → isPlaced o site ≡ true → Placed site
+unfolding isPlaced isSite
+placed o site e =
+    let both = isSite o site ∷ leb site sizes.sites ∷ [] in
+    let inside = leb 1 site ∷ leb site (o .sites) ∷ [] in
+    record { low = leb-true 1 site (every-at inside 0 (every-at both 0 e)); high = leb-true site sizes.sites (every-at both 1 e) }

@@ -1,0 +1,174 @@
+// Where a line's call goes (H1 to H20), and the refusals that arise before the store is asked.
+use crate::post::COPIES;
+use crate::post::channel;
+use crate::post::cursor;
+use crate::post::log;
+use kinds::House;
+use kinds::reason::MALFORMED;
+use kinds::reason::UNKNOWN;
+use kinds::sizes::SITES;
+use lines::Command;
+use numbers::coordinator_of;
+use numbers::is_site;
+use spool::QUEUES;
+ghost use mathlib.Core.Path.{_≡_};
+ghost use Prim.Native.Nat.{_<_};
+ghost use Rattle.routing.specs.Route.{refuse as refuseOf, goes, none, isPlaced, toSite, toCoordinator, toEnlister, toReceiver, fromLog, toCopy, fromStream, routeOf};
+
+// A place below SITES is a site, less 1; one from FIRST_COPY to NOWHERE is a copy.
+pub const MERGER: usize = SITES;
+
+pub const FIRST_COPY: usize = SITES + 1;
+
+pub const NOWHERE: usize = FIRST_COPY + COPIES;
+
+// The place, the queue whose first item is handed in, or the cursor whose next one is (QUEUES for none), and the refusal where the
+// place is NOWHERE.
+pub struct Route {
+    pub place: usize,
+    pub queue: usize,
+    pub code: u64,
+}
+
+fn refuse(code: u64) -> Route
+    ensures { λ r. ⌜ r ≡ refuseOf code ⌝ }
+{
+    Route {
+        place: NOWHERE,
+        queue: QUEUES,
+        code,
+    }
+}
+
+fn to(place: usize) -> Route
+    ensures { λ r. ⌜ r ≡ goes place none ⌝ }
+{
+    Route {
+        place,
+        queue: QUEUES,
+        code: 0,
+    }
+}
+
+fn to_site(h: House, site: u64) -> Route
+    ensures { λ r. ⌜ r ≡ toSite h site ⌝ }
+{
+    if !is_placed(h, site) {
+        return refuse(MALFORMED);
+    }
+    to((site - 1) as usize)
+}
+
+// A site of the house with a place.
+fn is_placed(h: House, site: u64) -> bool
+    ensures { λ r. ⌜ r ≡ isPlaced h site ⌝ }
+{
+    if !is_site(h, site) {
+        return false;
+    }
+    site <= SITES as u64
+}
+
+// A number whose coordinator the house lacks is held nowhere.
+fn to_coordinator(h: House, tx: u64) -> Route
+    ensures { λ r. ⌜ r ≡ toCoordinator h tx ⌝ }
+{
+    let coordinator = coordinator_of(tx);
+    if !is_site(h, coordinator) {
+        return refuse(UNKNOWN);
+    }
+    to_site(h, coordinator)
+}
+
+fn to_enlister(h: House, tx: u64, site: u64) -> Route
+    ensures { λ r. ⌜ r ≡ toEnlister h tx site ⌝ }
+{
+    if !is_site(h, site) {
+        return refuse(MALFORMED);
+    }
+    to_coordinator(h, tx)
+}
+
+// A message's receiver.
+fn to_receiver(h: House, from: u64, to: u64) -> Route
+    ensures { λ r. ⌜ r ≡ toReceiver h from to ⌝ }
+{
+    if !is_placed(h, from) {
+        return refuse(MALFORMED);
+    }
+    if !is_placed(h, to) {
+        return refuse(MALFORMED);
+    }
+    let sender = (from - 1) as usize;
+    let receiver = (to - 1) as usize;
+    Route {
+        place: receiver,
+        queue: channel(sender, receiver),
+        code: 0,
+    }
+}
+
+fn from_log(h: House, site: u64) -> Route
+    ensures { λ r. ⌜ r ≡ fromLog h site ⌝ }
+{
+    if !is_placed(h, site) {
+        return refuse(MALFORMED);
+    }
+    let i = (site - 1) as usize;
+    Route {
+        place: MERGER,
+        queue: log(i),
+        code: 0,
+    }
+}
+
+fn to_copy(copy: u64) -> Route
+    ensures { λ r. ⌜ r ≡ toCopy copy ⌝ }
+{
+    if copy < 1 {
+        return refuse(MALFORMED);
+    }
+    if copy > COPIES as u64 {
+        return refuse(MALFORMED);
+    }
+    to(FIRST_COPY + (copy - 1) as usize)
+}
+
+// The next record of the stream goes to a copy.
+fn from_stream(copy: u64) -> Route
+    ensures { λ r. ⌜ r ≡ fromStream copy ⌝ }
+{
+    if copy < 1 {
+        return refuse(MALFORMED);
+    }
+    if copy > COPIES as u64 {
+        return refuse(MALFORMED);
+    }
+    let i = (copy - 1) as usize;
+    Route {
+        place: FIRST_COPY + i,
+        queue: cursor(i),
+        code: 0,
+    }
+}
+
+pub fn routed(h: House, c: Command) -> Route
+    ensures { λ r. ⌜ r ≡ routeOf h c ⌝ }
+{
+    match c {
+        Command::Begin(site) => to_site(h, site),
+        Command::Enlist(tx, site) => to_enlister(h, tx, site),
+        Command::Read(site, _, _) => to_site(h, site),
+        Command::Write(site, _, _, _) => to_site(h, site),
+        Command::Commit(tx) => to_coordinator(h, tx),
+        Command::Abandon(tx) => to_coordinator(h, tx),
+        Command::Take(from, site) => to_receiver(h, from, site),
+        Command::Install(site) => to_site(h, site),
+        Command::Report(site) => to_site(h, site),
+        Command::Merge(site) => from_log(h, site),
+        Command::Emit => to(MERGER),
+        Command::Replay(copy) => from_stream(copy),
+        Command::Value(copy, _) => to_copy(copy),
+        _ => refuse(MALFORMED),
+    }
+}
