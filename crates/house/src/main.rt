@@ -1,22 +1,18 @@
 // The program `house` (H1 to H20): plays the script on standard input, or each file that is named as a house of its own.
 mod run;
 
-use routing::LOST;
-use routing::UNWRITTEN;
+use files::fail;
+use files::finished;
+use files::open_argument;
+use files::reported;
 use libc::STDERR_FILENO;
 use pages::PAGE;
-use pages::flush;
 use run::play;
 use script::TEXT;
-use script::UNREADABLE;
-
-fn fail(what: &[u8]) {
-    io::write_all(STDERR_FILENO, b"house: ");
-    os::fail(what);
-}
+use script::UNKEPT;
 
 // Says that what is under way does not fit into memory, nor into the temporary file, where there is one.
-fn lost(spare: i32) {
+fn unkept(spare: i32) {
     if spare < 0 {
         io::write_all(
             STDERR_FILENO,
@@ -24,24 +20,19 @@ fn lost(spare: i32) {
         );
         return;
     }
-    fail(b"a temporary file, for messages and records that do not fit into memory");
+    fail(
+        b"house: ",
+        b"a temporary file, for messages and records that do not fit into memory",
+    );
 }
 
 // Says why a script ended before its end, and whether all went well.
-fn reported(state: u64, spare: i32, name: &[u8]) -> bool {
-    if state == UNREADABLE {
-        fail(name);
+fn explained(state: u64, spare: i32, name: &[u8]) -> bool {
+    if state == UNKEPT {
+        unkept(spare);
         return false;
     }
-    if state == UNWRITTEN {
-        fail(b"standard output");
-        return false;
-    }
-    if state == LOST {
-        lost(spare);
-        return false;
-    }
-    true
+    reported(state, b"house: ", name)
 }
 
 // Plays a script, and answers whether all went well. What it printed before a failure is written out too.
@@ -49,30 +40,18 @@ fn play_all(fd: i32, spare: i32, name: &[u8]) -> bool {
     let mut text = [0u8; TEXT];
     let mut page = [0u8; PAGE];
     let d = play(fd, spare, &mut text, &mut page);
-    let ok = reported(d.state, spare, name);
-    if flush(&page, d.used) {
-        return ok;
-    }
-    if ok {
-        fail(b"standard output");
-    }
-    false
+    let ok = explained(d.state, spare, name);
+    finished(&page, d.used, ok, b"house: ")
 }
 
 fn play_file(i: usize, spare: i32) -> bool {
     let mut path = io::buffer();
-    let n = os::arg(i, &mut path);
-    if os::errno() != 0 {
-        fail(b"the name of a script");
+    let o = open_argument(i, b"house: ", b"the name of a script", &mut path);
+    if o.fd < 0 {
         return false;
     }
-    let fd = os::open_read(&path[..n]);
-    if fd < 0 {
-        fail(&path[..n]);
-        return false;
-    }
-    let ok = play_all(fd, spare, &path[..n]);
-    libc::close(fd);
+    let ok = play_all(o.fd, spare, &path[..o.name]);
+    libc::close(o.fd);
     ok
 }
 

@@ -23,6 +23,7 @@ use pieces::front;
 use script::Input;
 use script::LINE;
 use script::TEXT;
+use script::UNWRITTEN;
 use script::next_scan;
 use verbs::HOUSE;
 use verbs::Line;
@@ -31,9 +32,6 @@ use verbs::SITE;
 use verbs::remark;
 use verbs::told;
 use verbs::verb;
-
-// The output fails.
-pub const UNWRITTEN: u64 = 5;
 
 // Words for the outgoing buffer, more than any call wants.
 pub const ROOM: usize = 8192;

@@ -23,6 +23,8 @@ use route::routed;
 use script::Input;
 use script::LINE;
 use script::TEXT;
+use script::UNKEPT;
+use script::UNWRITTEN;
 use script::next_line;
 use spool::First;
 use spool::ITEM;
@@ -34,11 +36,6 @@ ghost use Rattle.said.specs.Said.{saidOf};
 ghost use Rattle.pages.specs.Laid.{Laid, lineStart, full};
 ghost use Rattle.pages.specs.Line.{lineOf};
 ghost use Rattle.routing.specs.Route.{none};
-
-// Why a script ends, where `found` of its input does not say it: the temporary file or the output fails.
-pub const LOST: u64 = 4;
-
-pub const UNWRITTEN: u64 = 5;
 
 // A script under way: `state` is LINE until it ends, and then says why.
 pub struct Play {
@@ -151,7 +148,7 @@ fn fetched(
             next,
         },
         First::Nothing => idle(answered(d, page, Answer::Refused(NOTHING))),
-        First::Failed => idle(ended(d, LOST)),
+        First::Failed => idle(ended(d, UNKEPT)),
     }
 }
 
@@ -241,10 +238,10 @@ pub fn settled(
         return answered(d, page, answer);
     }
     if !passed(a, fd, store) {
-        return ended(d, LOST);
+        return ended(d, UNKEPT);
     }
     if !kept_front(a, fd, store, out, n) {
-        return ended(d, LOST);
+        return ended(d, UNKEPT);
     }
     answered(d, page, answer)
 }

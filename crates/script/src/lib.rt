@@ -9,7 +9,8 @@ ghost use Rattle.laws.specs.Choice.{pick};
 // Bytes of a block.
 pub const TEXT: usize = 65536;
 
-// Nothing found yet; a line; the end of the script; a script that cannot be read.
+// Nothing found yet; a line; the end of the script; a script that cannot be read; what is under way that cannot be kept; output that
+// cannot be written.
 pub const GOING: u64 = 0;
 
 pub const LINE: u64 = 1;
@@ -17,6 +18,10 @@ pub const LINE: u64 = 1;
 pub const END: u64 = 2;
 
 pub const UNREADABLE: u64 = 3;
+
+pub const UNKEPT: u64 = 4;
+
+pub const UNWRITTEN: u64 = 5;
 
 // The bytes from `at` to `end` of the block are unread.
 pub struct Input {
