@@ -1,7 +1,6 @@
 // A line as a call of a site, which is in a place: its number less 1.
 mod own;
 
-use deliver::message::message;
 use kinds::Core;
 use kinds::Reply;
 use kinds::sizes::HISTORY_WORDS;
@@ -16,6 +15,7 @@ use pieces::front;
 use pieces::piece;
 use pieces::piece_mut;
 use spool::ITEM;
+use store::message;
 ghost use mathlib.Core.Path.{_≡_};
 ghost use Prim.Native.Nat.{_+_, _<_};
 ghost use lib.Dec.{eqb};
@@ -124,7 +124,7 @@ fn start_at(
     let b = place * LISTS;
     let x = place * LIVE_WORDS;
     let y = place * HISTORY_WORDS;
-    let o = site::start::start(
+    let o = store::start_site(
         n,
         place as u64 + 1,
         &mut live[x..x + LIVE_WORDS],

@@ -24,14 +24,14 @@ pub fn own_call(
     ensures { λ _. ⌜ now (out .exit) ≡ overlay (now (out .entry)) (effectOf c (siteOf p (now (live .entry)) (now (history .entry))) (now (base .entry)) (now (lists .entry)) (length (now (out .entry))) .words) ⌝ }
 {
     match c {
-        Command::Begin(_) => site::begin::begin(p, live, history),
-        Command::Enlist(tx, to) => site::enlist::enlist(p, live, history, tx, to, out),
-        Command::Read(_, tx, key) => site::access::read(p, live, history, base, tx, key),
-        Command::Write(_, tx, key, value) => site::access::write(p, live, history, tx, key, value),
-        Command::Commit(tx) => saves::commit::commit(p, live, history, tx, lists, out),
-        Command::Abandon(tx) => saves::abandon::abandon(p, live, history, tx, out),
-        Command::Install(_) => installs::install(p, live, history, base, out),
-        Command::Report(_) => installs::report(p, live, history, out),
+        Command::Begin(_) => store::begin(p, live, history),
+        Command::Enlist(tx, to) => store::enlist(p, live, history, tx, to, out),
+        Command::Read(_, tx, key) => store::read(p, live, history, base, tx, key),
+        Command::Write(_, tx, key, value) => store::write(p, live, history, tx, key, value),
+        Command::Commit(tx) => store::commit(p, live, history, tx, lists, out),
+        Command::Abandon(tx) => store::abandon(p, live, history, tx, out),
+        Command::Install(_) => store::install(p, live, history, base, out),
+        Command::Report(_) => store::report(p, live, history, out),
         _ => shell::refused(p, MALFORMED),
     }
 }

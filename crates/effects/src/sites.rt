@@ -30,7 +30,7 @@ fn start(
     base: &mut [u64],
     lists: &mut [u64],
 ) -> Reply {
-    let o = site::start::start(l.b, l.c, live, history, base, lists);
+    let o = store::start_site(l.b, l.c, live, history, base, lists);
     let answer = o.answer;
     if is_refused(answer) {
         return Reply {
@@ -55,15 +55,15 @@ fn call(
 ) -> Reply {
     let v = l.verb;
     match v {
-        verb::BEGIN => site::begin::begin(p, live, history),
-        verb::ENLIST => site::enlist::enlist(p, live, history, l.b, l.c, out),
-        verb::READ => site::access::read(p, live, history, base, l.b, l.c),
-        verb::WRITE => site::access::write(p, live, history, l.b, l.c, l.d),
-        verb::COMMIT => saves::commit::commit(p, live, history, l.b, lists, out),
-        verb::ABANDON => saves::abandon::abandon(p, live, history, l.b, out),
-        verb::MESSAGE => deliver::message::message(p, live, history, m, lists, out),
-        verb::INSTALL => installs::install(p, live, history, base, out),
-        verb::REPORT => installs::report(p, live, history, out),
+        verb::BEGIN => store::begin(p, live, history),
+        verb::ENLIST => store::enlist(p, live, history, l.b, l.c, out),
+        verb::READ => store::read(p, live, history, base, l.b, l.c),
+        verb::WRITE => store::write(p, live, history, l.b, l.c, l.d),
+        verb::COMMIT => store::commit(p, live, history, l.b, lists, out),
+        verb::ABANDON => store::abandon(p, live, history, l.b, out),
+        verb::MESSAGE => store::message(p, live, history, m, lists, out),
+        verb::INSTALL => store::install(p, live, history, base, out),
+        verb::REPORT => store::report(p, live, history, out),
         _ => start(p, l, live, history, base, lists),
     }
 }

@@ -28,7 +28,7 @@ pub struct MergerDone {
 }
 
 fn start(g: Merger, sites: u64, queues: &mut [u64]) -> MergerOut {
-    let o = merger::start(sites, queues);
+    let o = store::start_merger(sites, queues);
     let answer = o.answer;
     if is_refused(answer) {
         return MergerOut {
@@ -43,8 +43,8 @@ fn start(g: Merger, sites: u64, queues: &mut [u64]) -> MergerOut {
 fn merger_call(g: Merger, l: Line, m: &[u64], queues: &mut [u64], out: &mut [u64]) -> MergerOut {
     let v = l.verb;
     match v {
-        verb::MERGE => merger::merge(g, queues, m),
-        verb::EMIT => merger::emit(g, queues, out),
+        verb::MERGE => store::merge(g, queues, m),
+        verb::EMIT => store::emit(g, queues, out),
         verb::OPEN => start(g, l.a, queues),
         _ => poke_merger(g, queues, l),
     }
@@ -91,9 +91,9 @@ pub fn at_merger(
 fn copy_call(l: Line, m: &[u64], copy: &mut [u64]) -> Answer {
     let v = l.verb;
     match v {
-        verb::REPLAY => copy::replay(copy, m),
-        verb::VALUE => copy::value(copy, l.b),
-        verb::BLANK => copy::start(copy),
+        verb::REPLAY => store::replay(copy, m),
+        verb::VALUE => store::value(copy, l.b),
+        verb::BLANK => store::start_copy(copy),
         _ => poke_copy(copy, l.b, l.c),
     }
 }

@@ -66,7 +66,7 @@ pub struct Waiting {
 }
 
 fn start_merger(n: u64, queues: &mut [u64]) -> Merger {
-    let o = merger::start(n, front_mut(queues, QUEUES));
+    let o = store::start_merger(n, front_mut(queues, QUEUES));
     let g = o.merger;
     g
 }

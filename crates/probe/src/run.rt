@@ -7,13 +7,6 @@ use kinds::sizes::KEYS;
 use kinds::sizes::LISTS;
 use kinds::sizes::LIVE_WORDS;
 use kinds::sizes::SITES;
-use outcomes::ROOM;
-use outcomes::Work;
-use outcomes::is_over;
-use outcomes::place_of;
-use pages::PAGE;
-use script::LINE;
-use script::TEXT;
 use others::BASES;
 use others::COPIED;
 use others::GATHERINGS;
@@ -24,6 +17,13 @@ use others::at_site;
 use others::next_of_site;
 use others::opened;
 use others::settled;
+use outcomes::ROOM;
+use outcomes::Work;
+use outcomes::is_over;
+use outcomes::place_of;
+use pages::PAGE;
+use script::LINE;
+use script::TEXT;
 ghost use mathlib.Core.Path.{_≡_};
 ghost use lib.ListN.{length};
 ghost use Rattle.kinds.specs.Sizes as sizes;
@@ -35,7 +35,7 @@ fn start_at(n: u64, place: usize) -> Core {
     let mut base = [0u64; KEYS];
     let mut lists = [0u64; LISTS];
     let own = std::num::wrapping_add_u64(place as u64, 1);
-    let o = site::start::start(n, own, &mut live, &mut history, &mut base, &mut lists);
+    let o = store::start_site(n, own, &mut live, &mut history, &mut base, &mut lists);
     let p = o.core;
     p
 }

@@ -45,7 +45,7 @@ fn start_at(
     base: &mut [u64],
     lists: &mut [u64],
 ) -> Core {
-    let o = site::start::start(
+    let o = store::start_site(
         PAIR as u64,
         own,
         half(live, i),
@@ -67,9 +67,9 @@ fn start(
 ) -> Store {
     let one = start_at(0, 1, live, history, base, lists);
     let two = start_at(1, 2, live, history, base, lists);
-    let o = merger::start(PAIR as u64, queues);
+    let o = store::start_merger(PAIR as u64, queues);
     let merger = o.merger;
-    copy::start(copy);
+    store::start_copy(copy);
     Store {
         one,
         two,

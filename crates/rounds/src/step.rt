@@ -97,23 +97,23 @@ fn at_site(
             words: 0,
             core: p,
         },
-        1 => site::begin::begin(p, live, history),
-        2 => site::enlist::enlist(p, live, history, tx, 2, out),
-        5 => site::access::write(p, live, history, tx, n % WRITTEN, n),
-        6 => site::access::write(p, live, history, tx, SITE_KEYS + n % WRITTEN, n),
-        7 => site::access::read(p, live, history, base, tx, UNWRITTEN),
-        8 => saves::commit::commit(p, live, history, tx, lists, out),
-        14 | 16 => installs::install(p, live, history, base, out),
-        18 | 20 => installs::report(p, live, history, out),
-        25 => saves::abandon::abandon(p, live, history, tx, out),
-        _ => deliver::message::message(p, live, history, m, lists, out),
+        1 => store::begin(p, live, history),
+        2 => store::enlist(p, live, history, tx, 2, out),
+        5 => store::write(p, live, history, tx, n % WRITTEN, n),
+        6 => store::write(p, live, history, tx, SITE_KEYS + n % WRITTEN, n),
+        7 => store::read(p, live, history, base, tx, UNWRITTEN),
+        8 => store::commit(p, live, history, tx, lists, out),
+        14 | 16 => store::install(p, live, history, base, out),
+        18 | 20 => store::report(p, live, history, out),
+        25 => store::abandon(p, live, history, tx, out),
+        _ => store::message(p, live, history, m, lists, out),
     }
 }
 
 // The merger's call. The words of m are the record to queue.
 fn at_merger(step: u64, g: Merger, queues: &mut [u64], m: &[u64], out: &mut [u64]) -> MergerOut {
     if step == 22 {
-        return merger::emit(g, queues, out);
+        return store::emit(g, queues, out);
     }
     if step == 26 {
         return MergerOut {
@@ -122,18 +122,18 @@ fn at_merger(step: u64, g: Merger, queues: &mut [u64], m: &[u64], out: &mut [u64
             merger: g,
         };
     }
-    merger::merge(g, queues, m)
+    store::merge(g, queues, m)
 }
 
 // The copy's call. The words of m are the record to replay.
 fn at_copy(step: u64, v: Save, copy: &mut [u64], m: &[u64]) -> Answer {
     if step == 24 {
-        return copy::value(copy, v.before % WRITTEN);
+        return store::value(copy, v.before % WRITTEN);
     }
     if step == 27 {
         return Answer::Done;
     }
-    copy::replay(copy, m)
+    store::replay(copy, m)
 }
 
 fn of_site(o: Reply, merger: Merger) -> Made {

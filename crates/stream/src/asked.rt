@@ -1,5 +1,4 @@
 // A line as a call of the merger, or of a copy.
-use routing::COPIES;
 use kinds::Answer;
 use kinds::Merger;
 use kinds::MergerOut;
@@ -9,6 +8,7 @@ use kinds::sizes::QUEUES;
 use lines::Command;
 use pieces::front;
 use pieces::piece_mut;
+use routing::COPIES;
 ghost use mathlib.Core.Path.{_≡_};
 ghost use Prim.Native.Nat.{_<_};
 ghost use lib.ListN.{length};
@@ -20,7 +20,7 @@ pub const HELD: usize = COPIES * COPY;
 pub fn start_merger(n: u64, queues: &mut [u64; QUEUES]) -> Merger
     ensures { λ r. ⌜ r ≡ mergerOutOf (mergerStartOf n (now (queues .entry))) .merger ⌝ }
 {
-    let o = merger::start(n, queues);
+    let o = store::start_merger(n, queues);
     let g = o.merger;
     g
 }
@@ -35,8 +35,8 @@ pub fn at_merger(
     out: &mut [u64],
 ) -> MergerOut {
     match c {
-        Command::Emit => merger::emit(g, queues, out),
-        _ => merger::merge(g, queues, front(m, n)),
+        Command::Emit => store::emit(g, queues, out),
+        _ => store::merge(g, queues, front(m, n)),
     }
 }
 
@@ -47,7 +47,7 @@ pub fn start_copies(held: &mut [u64])
     let mut i: usize = 0;
     while i < COPIES {
         let at = i * COPY;
-        copy::start(&mut held[at..at + COPY]);
+        store::start_copy(&mut held[at..at + COPY]);
         i += 1;
     }
 }
@@ -58,8 +58,8 @@ pub fn at_copy(c: Command, i: usize, held: &mut [u64], m: &[u64], n: usize) -> A
 {
     let words = piece_mut(held, i * COPY, COPY);
     match c {
-        Command::Replay(_) => copy::replay(words, front(m, n)),
-        Command::Value(_, key) => copy::value(words, key),
+        Command::Replay(_) => store::replay(words, front(m, n)),
+        Command::Value(_, key) => store::value(words, key),
         _ => Answer::Refused(MALFORMED),
     }
 }
