@@ -4,11 +4,7 @@ use pages::PAGE;
 use pages::flush;
 use script::UNREADABLE;
 use script::UNWRITTEN;
-ghost use Prim.Native.Nat.{_≤_};
-ghost use Rattle.files.specs.Sizes as sizes;
-
-// Bytes of the longest name, those of io's buffer.
-pub const NAME: usize = 4096;
+ghost use Rattle.io.specs.Counts.{Counts};
 
 // A file that is open, or a negative number, and the length of its name.
 pub struct Opened {
@@ -23,8 +19,8 @@ pub fn fail(program: &[u8], what: &[u8]) {
 }
 
 // Opens the file that argument i names, and says so where that fails.
-pub fn open_argument(i: usize, program: &[u8], what: &[u8], path: &mut [u8; NAME]) -> Opened
-    ensures { λ r. ⌜ r .name ≤ sizes.name ⌝ }
+pub fn open_argument(i: usize, program: &[u8], what: &[u8], path: &mut [u8]) -> Opened
+    ensures { λ r. ⌜ Counts (r .name) (now (path .exit)) ⌝ }
 {
     let n = os::arg(i, path);
     if os::errno() != 0 {
