@@ -7,10 +7,13 @@ use borrow.Author.Tests.{eq-eqb}
 use lib.Dec.{eqb}
 use lib.ListN.{length}
 use Rattle.laws.specs.Choice.{pick}
+use Rattle.laws.specs.Overlay.{overlay}
 use Rattle.kinds.specs.Reason as reason
 use Rattle.kinds.specs.Sizes as sizes
 use Rattle.kinds.specs.State.{subAt}
 use Rattle.kinds.specs.declared.Answer.the-variants.{Found}
+use Rattle.kinds.specs.declared.Core.{Core}
+use Rattle.kinds.specs.declared.Reply.{Reply}
 use Rattle.kinds.specs.declared.Site.{Site}
 use Rattle.rules.specs.Effect.{Effect, refused, unless}
 use Rattle.rules.specs.Begin.{beginCode, begun, beginOf}
@@ -25,6 +28,7 @@ use Rattle.rules.specs.Commit.{commitOf, abandonOf}
 use Rattle.rules.specs.Install.{installOf, reportOf}
 use Rattle.rules.specs.World as world
 use Rattle.rules.specs.World.{World, Call, step, siteStep, logStep, upd}
+use Rattle.lent.specs.Lent.{siteOf, Replied}
 use Rattle.lines.specs.declared.Command.{Command}
 use Rattle.lines.specs.declared.Command.the-variants as command
 
@@ -80,6 +84,12 @@ listsLeft command.Emit e lists = lists
 listsLeft (command.Replay copy) e lists = lists
 listsLeft (command.Value copy key) e lists = lists
 listsLeft command.Bad e lists = lists
+
+-- What a line's call leaves of its site's own words and of the buffer: the reply r, and w′ to out′ where w to out were.
+abbrev pub OwnLeaves : Command → Core → (w h base lists out : List ℕ) → Reply → (w′ h′ base′ lists′ out′ : List ℕ) → Type 0
+OwnLeaves c p w h base lists out r w′ h′ base′ lists′ out′ =
+    let e = effectOf c (siteOf p w h) base lists (length out) in
+    Replied p w h r w′ h′ e × ((base′ ≡ baseLeft c e base) × ((lists′ ≡ listsLeft c e lists) × (out′ ≡ overlay out (e .words))))
 
 -- The call of a site's line in a list of calls, at site s with the outgoing buffer out.
 pub data Makes : Command → ℕ → List ℕ → Call → Type 0 where

@@ -11,3 +11,9 @@ pub record Tables (w h b l : List ℕ) : Type 0 where
   pub history : length h ≡ sizes.sites * sizes.historyWords
   pub base : length b ≡ sizes.sites * sizes.keys
   pub lists : length l ≡ sizes.sites * sizes.lists
+
+-- a message is lent no base values
+pub record Taking (w h l : List ℕ) : Type 0 where
+  pub live : length w ≡ sizes.sites * sizes.liveWords
+  pub history : length h ≡ sizes.sites * sizes.historyWords
+  pub lists : length l ≡ sizes.sites * sizes.lists

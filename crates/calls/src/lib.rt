@@ -12,19 +12,18 @@ use kinds::sizes::SITES;
 use lines::Command;
 use own::own_call;
 use pieces::front;
-use pieces::piece;
-use pieces::piece_mut;
 use spool::ITEM;
 use store::message;
 ghost use mathlib.Core.Path.{_≡_};
 ghost use Prim.Native.Nat.{_+_, _<_};
 ghost use lib.Dec.{eqb};
-ghost use lib.ListN.{length};
+ghost use lib.ListN.{length, take};
 ghost use Rattle.laws.specs.Choice.{pick};
 ghost use Rattle.kinds.specs.Sizes as sizes;
 ghost use Rattle.rules.specs.Install.{startCode};
 ghost use Rattle.lent.specs.Fresh.{freshCore};
-ghost use Rattle.calls.specs.Tables.{Tables};
+ghost use Rattle.calls.specs.Tables.{Tables, Taking};
+ghost use Rattle.calls.specs.Places.{words, LineLeaves, MessageLeaves};
 
 // Live parts, histories, base values and gathered lists of all sites, each one behind the other.
 pub const LIVES: usize = SITES * LIVE_WORDS;
@@ -46,13 +45,27 @@ fn in_place(
     lists: &mut [u64],
     out: &mut [u64],
 ) -> Reply
-    requires { ⌜ place < sizes.sites ⌝ }
+    requires { ⌜ (place < sizes.sites) × Tables (now live) (now history) (now base) (now lists) ⌝ }
+    ensures { λ r. ⌜
+        LineLeaves c place p
+        (words (now (live .entry)) (now (history .entry)) (now (base .entry)) (now (lists .entry))) (now (out .entry))
+        r
+        (words (now (live .exit)) (now (history .exit)) (now (base .exit)) (now (lists .exit))) (now (out .exit))
+        ⌝ }
 {
-    let w = piece_mut(live, place * LIVE_WORDS, LIVE_WORDS);
-    let h = piece_mut(history, place * HISTORY_WORDS, HISTORY_WORDS);
-    let b = piece_mut(base, place * KEYS, KEYS);
-    let l = piece_mut(lists, place * LISTS, LISTS);
-    own_call(p, c, w, h, b, l, out)
+    let live_at = place * LIVE_WORDS;
+    let history_at = place * HISTORY_WORDS;
+    let base_at = place * KEYS;
+    let lists_at = place * LISTS;
+    own_call(
+        p,
+        c,
+        &mut live[live_at..live_at + LIVE_WORDS],
+        &mut history[history_at..history_at + HISTORY_WORDS],
+        &mut base[base_at..base_at + KEYS],
+        &mut lists[lists_at..lists_at + LISTS],
+        out,
+    )
 }
 
 // A line's call of the site in a place, but for `take`.
@@ -67,10 +80,17 @@ pub fn at_site(
     out: &mut [u64; OUTGOING],
 ) -> Reply
     requires { ⌜ place < sizes.sites ⌝ }
+    ensures { λ r. ⌜
+        LineLeaves c place p
+        (words (now (live .entry)) (now (history .entry)) (now (base .entry)) (now (lists .entry))) (now (out .entry))
+        r
+        (words (now (live .exit)) (now (history .exit)) (now (base .exit)) (now (lists .exit))) (now (out .exit))
+        ⌝ }
 {
     in_place(p, c, place, live, history, base, lists, out)
 }
 
+// The site in a place takes the message m, with the words of all sites but the base values.
 fn take_in_place(
     p: Core,
     place: usize,
@@ -80,14 +100,23 @@ fn take_in_place(
     m: &[u64],
     out: &mut [u64],
 ) -> Reply
-    requires { ⌜ place < sizes.sites ⌝ }
+    requires { ⌜ (place < sizes.sites) × Taking (now live) (now history) (now lists) ⌝ }
+    ensures { λ r. ⌜
+        MessageLeaves (now (m .entry)) place p
+        (now (live .entry)) (now (history .entry)) (now (lists .entry)) (now (out .entry))
+        r
+        (now (live .exit)) (now (lists .exit)) (now (out .exit))
+        ⌝ }
 {
+    let live_at = place * LIVE_WORDS;
+    let history_at = place * HISTORY_WORDS;
+    let lists_at = place * LISTS;
     message(
         p,
-        piece_mut(live, place * LIVE_WORDS, LIVE_WORDS),
-        piece(history, place * HISTORY_WORDS, HISTORY_WORDS),
+        &mut live[live_at..live_at + LIVE_WORDS],
+        &history[history_at..history_at + HISTORY_WORDS],
         m,
-        piece_mut(lists, place * LISTS, LISTS),
+        &mut lists[lists_at..lists_at + LISTS],
         out,
     )
 }
@@ -104,6 +133,12 @@ pub fn take_at(
     out: &mut [u64; OUTGOING],
 ) -> Reply
     requires { ⌜ place < sizes.sites ⌝ }
+    ensures { λ r. ⌜
+        MessageLeaves (take n (now (m .entry))) place p
+        (now (live .entry)) (now (history .entry)) (now (lists .entry)) (now (out .entry))
+        r
+        (now (live .exit)) (now (lists .exit)) (now (out .exit))
+        ⌝ }
 {
     take_in_place(p, place, live, history, lists, front(m, n), out)
 }

@@ -3,11 +3,7 @@ use kinds::Core;
 use kinds::Reply;
 use kinds::reason::MALFORMED;
 use lines::Command;
-ghost use mathlib.Core.Path.{_≡_};
-ghost use lib.ListN.{length};
-ghost use Rattle.laws.specs.Overlay.{overlay};
-ghost use Rattle.lent.specs.Lent.{siteOf, Replied};
-ghost use Rattle.calls.specs.Calls.{effectOf, baseLeft, listsLeft};
+ghost use Rattle.calls.specs.Calls.{OwnLeaves};
 
 pub fn own_call(
     p: Core,
@@ -18,10 +14,12 @@ pub fn own_call(
     lists: &mut [u64],
     out: &mut [u64],
 ) -> Reply
-    ensures { λ r. ⌜ Replied p (now (live .entry)) (now (history .entry)) r (now (live .exit)) (now (history .exit)) (effectOf c (siteOf p (now (live .entry)) (now (history .entry))) (now (base .entry)) (now (lists .entry)) (length (now (out .entry)))) ⌝ }
-    ensures { λ _. ⌜ now (base .exit) ≡ baseLeft c (effectOf c (siteOf p (now (live .entry)) (now (history .entry))) (now (base .entry)) (now (lists .entry)) (length (now (out .entry)))) (now (base .entry)) ⌝ }
-    ensures { λ _. ⌜ now (lists .exit) ≡ listsLeft c (effectOf c (siteOf p (now (live .entry)) (now (history .entry))) (now (base .entry)) (now (lists .entry)) (length (now (out .entry)))) (now (lists .entry)) ⌝ }
-    ensures { λ _. ⌜ now (out .exit) ≡ overlay (now (out .entry)) (effectOf c (siteOf p (now (live .entry)) (now (history .entry))) (now (base .entry)) (now (lists .entry)) (length (now (out .entry))) .words) ⌝ }
+    ensures { λ r. ⌜
+        OwnLeaves c p
+        (now (live .entry)) (now (history .entry)) (now (base .entry)) (now (lists .entry)) (now (out .entry))
+        r
+        (now (live .exit)) (now (history .exit)) (now (base .exit)) (now (lists .exit)) (now (out .exit))
+        ⌝ }
 {
     match c {
         Command::Begin(_) => store::begin(p, live, history),

@@ -29,7 +29,7 @@ use script::TEXT;
 use script::next_line;
 use spool::ITEM;
 use spool::STORE;
-use stream::HELD;
+use stream::ALL_COPIES;
 use stream::copied;
 use stream::merged;
 use stream::start_copies;
@@ -107,7 +107,7 @@ fn turns(
     base: &mut [u64; BASES],
     lists: &mut [u64; GATHERINGS],
     queues: &mut [u64; QUEUES],
-    held: &mut [u64; HELD],
+    tables: &mut [u64; ALL_COPIES],
 ) -> Play
     requires { ⌜ length started ≡ sizes.sites ⌝ }
 {
@@ -123,7 +123,7 @@ fn turns(
         let i = a.place;
         let c = a.command;
         if i < SITES {
-            // A message apart from the other calls: one function for all is too long to be laid in here, and the site is copied to it.
+            // A message apart from the other calls: one function for all is too long to be inlined, and the core would be copied to it.
             let o = if let Command::Take(_, _) = c {
                 take_at(sites[i], i, live, history, lists, &item, a.words, &mut out)
             } else {
@@ -142,7 +142,7 @@ fn turns(
             play = o.play;
             continue;
         }
-        play = copied(a, fd, store, &item, held, &out, page);
+        play = copied(a, fd, store, &item, tables, &out, page);
         if play.state != LINE {
             break;
         }
@@ -163,11 +163,11 @@ fn rest(
     let mut base = [0u64; BASES];
     let mut lists = [0u64; GATHERINGS];
     let mut queues = [0u64; QUEUES];
-    let mut held = [0u64; HELD];
+    let mut tables = [0u64; ALL_COPIES];
     let n = d.house.sites;
     let sites = start_sites(n, &mut live, &mut history, &mut base, &mut lists);
     let g = start_merger(n, &mut queues);
-    start_copies(&mut held);
+    start_copies(&mut tables);
     turns(
         d,
         sites,
@@ -181,7 +181,7 @@ fn rest(
         &mut base,
         &mut lists,
         &mut queues,
-        &mut held,
+        &mut tables,
     )
 }
 

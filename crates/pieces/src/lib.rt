@@ -1,6 +1,10 @@
 // Parts of lent words. Where there are too few, all are lent.
+ghost use mathlib.Core.Path.{_≡_};
+ghost use lib.ListN.{take};
 
-pub fn front(ws: &[u64], n: usize) -> &[u64] {
+pub fn front(ws: &[u64], n: usize) -> &[u64]
+    ensures { λ r. ⌜ now r ≡ take n (now (ws .entry)) ⌝ }
+{
     if n < ws.len() {
         return &ws[0..n];
     }

@@ -16,7 +16,7 @@ use Rattle.rules.specs.KeysLaws.{by-order}
 use Rattle.rules.specs.History.{slotOf, remembered, forgotten, forgetInto}
 use Rattle.rules.specs.Install.{baseAfter}
 use Rattle.rules.specs.World.{World}
-use Rattle.rules.proofs.Protocol.{Protocol, inst}
+use Rattle.rules.proofs.ProtocolTables.{Protocol, inst}
 use Rattle.rules.proofs.Invariants.{at}
 use Rattle.rules.proofs.Refines.{HistoryIs, Refines}
 use Rattle.rules.proofs.BookKept.{at-same}

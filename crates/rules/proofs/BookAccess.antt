@@ -16,7 +16,8 @@ use Rattle.rules.specs.Book as book
 use Rattle.rules.specs.Book.{Fact}
 use Rattle.rules.specs.Claim.{LastWrite}
 use Rattle.rules.proofs.Tables.{upd₂, upd₂-same, upd₂-cases, a-cons, all-one, is-append}
-use Rattle.rules.proofs.Protocol.{Protocol, inst, Accessed, reads, writes}
+use Rattle.rules.proofs.ProtocolTables.{Protocol, inst}
+use Rattle.rules.proofs.Protocol.{Accessed, reads, writes}
 use Rattle.rules.proofs.BookLists.{none-is, OfKind, last-kept, last-fresh}
 use Rattle.rules.proofs.Booked.{home, UsedIn, Booked}
 use Rattle.rules.proofs.BookKept.{commits-kept, begins-kept, installs-kept, sees-kept, at-same}

@@ -15,7 +15,7 @@ use Rattle.rules.specs.Book as book
 use Rattle.rules.specs.Book.{Fact}
 use Rattle.rules.specs.Claim.{Before, LastWrite}
 use Rattle.rules.proofs.Tables.{upd₂, upd₂-same, upd₂-cases, all-one, upd₂-both, all-is, is-append}
-use Rattle.rules.proofs.Protocol.{Protocol, inst}
+use Rattle.rules.proofs.ProtocolTables.{Protocol, inst}
 use Rattle.rules.proofs.Frames.{kept₂, was₂}
 use Rattle.rules.proofs.BookLists.{is-kept, is-last, OfKind, old, before-second, before-kept, before-here, before-append, not-alone}
 use Rattle.rules.proofs.BookLists.{last-kept}

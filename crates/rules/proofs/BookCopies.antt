@@ -16,7 +16,7 @@ use Rattle.rules.specs.World.{World}
 use Rattle.rules.specs.Book.{Fact}
 use Rattle.rules.specs.Claim.{Committed, Wrote, LastWrite, UpTo, LeftBy, unwritten, written, LastReplay, Reaches, start, commit}
 use Rattle.rules.specs.Claim.{CopyHolds}
-use Rattle.rules.proofs.Protocol.{Protocol}
+use Rattle.rules.proofs.ProtocolTables.{Protocol}
 use Rattle.rules.proofs.StreamClaims.{rankIn, WroteIn, LeftUpTo}
 use Rattle.rules.proofs.RefineCopies.{CopyStands}
 

@@ -15,7 +15,7 @@ use Rattle.rules.specs.Book as book
 use Rattle.rules.specs.Book.{Fact}
 use Rattle.rules.specs.Claim.{Before}
 use Rattle.rules.proofs.Tables.{upd-same, upd-cases, all-one, last-cases, is-append}
-use Rattle.rules.proofs.Protocol.{Protocol, rPart, inst}
+use Rattle.rules.proofs.ProtocolTables.{Protocol, rPart, inst}
 use Rattle.rules.proofs.Invariants.{at}
 use Rattle.rules.proofs.StepParts.{parts-append, inst-cases}
 use Rattle.rules.proofs.BookLists.{is-kept, is-last, before-append, not-alone, OfKind}

@@ -11,7 +11,8 @@ use Rattle.rules.specs.Install.{entryOf}
 use Rattle.rules.specs.Book as book
 use Rattle.rules.specs.Book.{Fact}
 use Rattle.rules.proofs.Tables.{regroup}
-use Rattle.rules.proofs.Protocol.{Protocol, inst, AtStage, courseAt, Move, begin, enlist, access, request, abort, cast, decide}
+use Rattle.rules.proofs.ProtocolTables.{Protocol, inst}
+use Rattle.rules.proofs.Protocol.{AtStage, courseAt, Move, begin, enlist, access, request, abort, cast, decide}
 use Rattle.rules.proofs.Protocol.{install, report, joins, full, joined, prepared, lost, unknown, gathers, certified, rejects, votes}
 use Rattle.rules.proofs.Protocol.{commits, aborts, passes, freshProtocol}
 use Rattle.rules.proofs.Told.{told, toldStep, toldSteps}

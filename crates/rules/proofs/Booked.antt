@@ -14,7 +14,7 @@ use Rattle.rules.specs.World.{Member}
 use Rattle.rules.specs.Book as book
 use Rattle.rules.specs.Book.{Fact}
 use Rattle.rules.specs.Claim.{Before, LastWrite}
-use Rattle.rules.proofs.Protocol.{Protocol, inst}
+use Rattle.rules.proofs.ProtocolTables.{Protocol, inst}
 use Rattle.rules.proofs.Invariants.{at}
 
 -- the site that holds key k

@@ -26,7 +26,7 @@ use Rattle.rules.specs.World as world
 use Rattle.rules.specs.Book as book
 use Rattle.rules.specs.Book.{Fact}
 use Rattle.rules.proofs.Tables.{upd-same, upd-other, All, a-nil, a-cons, all-append, all-one, all-is, upd-self}
-use Rattle.rules.proofs.Protocol.{Protocol}
+use Rattle.rules.proofs.ProtocolTables.{Protocol}
 use Rattle.rules.proofs.Invariants.{Invariant}
 use Rattle.rules.proofs.Refines.{Refines}
 use Rattle.rules.proofs.RefineStep.{toldBy, by-code}

@@ -13,7 +13,8 @@ use Rattle.kinds.specs.Stage as stage
 use Rattle.kinds.specs.declared.Entry.{Entry}
 use Rattle.kinds.specs.State.{pastEntry}
 use Rattle.rules.specs.Install.{entryOf}
-use Rattle.rules.proofs.Protocol.{Protocol, Rec, rPart, partsOf, inst, AtStage, LeastQueued, Move}
+use Rattle.rules.proofs.ProtocolTables.{Protocol, Rec, rPart, partsOf, inst}
+use Rattle.rules.proofs.Protocol.{AtStage, LeastQueued, Move}
 use Rattle.rules.proofs.Invariants.{Held, at, Installed, Parts, Courses, Invariant}
 use Rattle.rules.proofs.Later.{Later, later}
 use Rattle.rules.proofs.StepParts.{parts-append, parts-state, parts-step}

@@ -8,7 +8,8 @@ use native.Mathlib.Omega.{arith}
 use Rattle.laws.specs.Choice.{unset}
 use Rattle.kinds.specs.Stage as stage
 use Rattle.rules.specs.House.{coordinatorOf}
-use Rattle.rules.proofs.Protocol.{Protocol, AtStage}
+use Rattle.rules.proofs.ProtocolTables.{Protocol}
+use Rattle.rules.proofs.Protocol.{AtStage}
 use Rattle.rules.proofs.Invariants.{In, Installed, Parts, Account, Invariant}
 
 module _ {sites : ℕ} {p : Protocol} (k : Parts sites p) (a : Account p) (u : ℕ) (n : 0 < p .num u) where

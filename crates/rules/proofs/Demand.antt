@@ -14,7 +14,7 @@ use Rattle.rules.specs.KeysLaws.{conflict-dependent}
 use Rattle.rules.specs.World.{World}
 use Rattle.rules.specs.Book.{Fact}
 use Rattle.rules.specs.Claim.{Dependent, on-write-of-other, on-own-write, Saw, Ordered, WritersInOrder, NoneHalfSeen, Holds}
-use Rattle.rules.proofs.Protocol.{Protocol, inst}
+use Rattle.rules.proofs.ProtocolTables.{Protocol, inst}
 use Rattle.rules.proofs.Invariants.{at, Seen, Invariant}
 use Rattle.rules.proofs.Committed.{low-coordinator, coordinator-has}
 use Rattle.rules.proofs.MachineClaims.{pair-once, later-saw, independent}

@@ -20,7 +20,7 @@ use Rattle.rules.specs.MergerLaws as laws
 use Rattle.rules.specs.MergerLaws.{LeastOf, least-is, least-some}
 use Rattle.rules.specs.World.{World, step, mergerStep, recordIn}
 use Rattle.rules.specs.World as world
-use Rattle.rules.proofs.Protocol.{Protocol}
+use Rattle.rules.proofs.ProtocolTables.{Protocol}
 use Rattle.rules.proofs.Refines.{partHeadOf}
 use Rattle.rules.proofs.Stream as stream
 use Rattle.rules.proofs.Stream.{Stream}

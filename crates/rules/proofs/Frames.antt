@@ -14,7 +14,8 @@ use Rattle.kinds.specs.Sizes as sizes
 use Rattle.rules.specs.House.{coordinatorOf, serialOf, txOf, inMask}
 use Rattle.rules.specs.World.{upd}
 use Rattle.rules.proofs.Tables.{upd₂, upd-cases, upd₂-cases, all-at}
-use Rattle.rules.proofs.Protocol.{Protocol, Msg, mJoin, mAbort, Next, others}
+use Rattle.rules.proofs.ProtocolTables.{Protocol, Msg, mJoin, mAbort}
+use Rattle.rules.proofs.Protocol.{Next, others}
 use Rattle.rules.proofs.Invariants.{Parts, MsgOk, Posts, Account, Invariant}
 
 -- Flags.

@@ -33,7 +33,8 @@ use Rattle.rules.specs.Deliver.{arrivalCauses, arrivalCode, nextCauses, 
 use Rattle.rules.specs.Deliver.{joinTurn, spoken, joinAt, takeJoin, joinedInTurn, takeJoined, takePrepare, concInTurn, gatherChange}
 use Rattle.rules.specs.Deliver.{takeConc, takeCert, voteInTurn, takeVote, takeCommit, takeAbort, keeping, takeHeld, takeOther}
 use Rattle.rules.specs.Deliver.{takeKind}
-use Rattle.rules.proofs.Protocol.{Protocol, Msg, mJoin, mJoined, mPrepare, mConc, mCert, mVote, mCommit, mAbort, Next, AtStage}
+use Rattle.rules.proofs.ProtocolTables.{Protocol, Msg, mJoin, mJoined, mPrepare, mConc, mCert, mVote, mCommit, mAbort}
+use Rattle.rules.proofs.Protocol.{Next, AtStage}
 use Rattle.rules.proofs.Protocol.{courseAt}
 use Rattle.rules.proofs.Invariants.{Invariant}
 use Rattle.rules.proofs.Refines.{kindOf, txIn, entriesIn, sliceOf, SiteIs}

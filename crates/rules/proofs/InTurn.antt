@@ -10,7 +10,8 @@ use Rattle.kinds.specs.Stage as stage
 use Rattle.kinds.specs.declared.Course.{Course}
 use Rattle.rules.specs.House.{coordinatorOf, inMask}
 use Rattle.rules.specs.Course.{isOutstanding}
-use Rattle.rules.proofs.Protocol.{Protocol, Msg, mJoin, mJoined, mPrepare, mConc, mCert, mVote, mCommit, mAbort, Next, AtStage}
+use Rattle.rules.proofs.ProtocolTables.{Protocol, Msg, mJoin, mJoined, mPrepare, mConc, mCert, mVote, mCommit, mAbort}
+use Rattle.rules.proofs.Protocol.{Next, AtStage}
 use Rattle.rules.proofs.Protocol.{courseAt, took}
 use Rattle.rules.proofs.Invariants.{Held, Invariant}
 use Rattle.rules.proofs.Frames.{said, ends, new-join}

@@ -14,8 +14,9 @@ use Rattle.rules.specs.House.{coordinatorOf, serialOf, inMask}
 use Rattle.rules.specs.Message.{entryTx, entryMask, entryMark, entryCount}
 use Rattle.rules.specs.Keys.{wroteKey, dependent}
 use Rattle.rules.proofs.Tables.{All}
-use Rattle.rules.proofs.Protocol.{Protocol, Msg, mJoin, mJoined, mPrepare, mConc, mCert, mVote, mCommit, mAbort, Rec, rPart, rState}
-use Rattle.rules.proofs.Protocol.{inst, AtStage, courseAt, Whole, Within, Listed}
+use Rattle.rules.proofs.ProtocolTables.{Protocol, Msg, mJoin, mJoined, mPrepare, mConc, mCert, mVote, mCommit, mAbort, Rec, rPart, rState}
+use Rattle.rules.proofs.ProtocolTables.{inst}
+use Rattle.rules.proofs.Protocol.{AtStage, courseAt, Whole, Within, Listed}
 
 -- t's part is held at s: neither installed nor aborted there
 abbrev pub Held : Protocol → ℕ → ℕ → Type 0

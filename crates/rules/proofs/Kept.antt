@@ -29,7 +29,7 @@ use Rattle.rules.specs.CallLaws.{access-clear, enlist-clear, request-cle
 use Rattle.rules.specs.World.{World, Call, step, siteStep, logStep, mergerStep, mergeStep, copyStep, replayStep, freshWorld}
 use Rattle.rules.specs.World as world
 use Rattle.rules.proofs.Tables.{upd-both, upd-cases, All, a-nil, all-append}
-use Rattle.rules.proofs.Protocol.{Protocol}
+use Rattle.rules.proofs.ProtocolTables.{Protocol}
 use Rattle.rules.proofs.Invariants.{Invariant}
 use Rattle.rules.proofs.Refines.{Refines}
 use Rattle.rules.proofs.RefineStep.{by-code}

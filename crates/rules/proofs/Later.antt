@@ -13,7 +13,8 @@ use Rattle.kinds.specs.declared.Sub.{Sub}
 use Rattle.rules.specs.House.{coordinatorOf}
 use Rattle.rules.specs.World.{upd}
 use Rattle.rules.proofs.Tables.{upd₂, upd-cases, upd₂-same, upd-both, upd₂-both}
-use Rattle.rules.proofs.Protocol.{Protocol, Msg, mJoin, Rec, Next, AtStage, courseAt, Move, begin, enlist, access, request, abort}
+use Rattle.rules.proofs.ProtocolTables.{Protocol, Msg, mJoin, Rec}
+use Rattle.rules.proofs.Protocol.{Next, AtStage, courseAt, Move, begin, enlist, access, request, abort}
 use Rattle.rules.proofs.Protocol.{cast, decide, install, report, joins, full, joined, prepared, lost, unknown, gathers, certified}
 use Rattle.rules.proofs.Protocol.{rejects, votes, commits, aborts, passes}
 use Rattle.rules.proofs.Invariants.{Invariant}

@@ -3,6 +3,7 @@ pub mod Tables
 pub mod Masks
 pub mod Entries
 -- The protocol as moves, and its invariant.
+pub mod ProtocolTables
 pub mod Protocol
 pub mod Invariants
 -- What a move changes: what stays, what is new, and the messages.

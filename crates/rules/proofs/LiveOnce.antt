@@ -23,7 +23,7 @@ use Rattle.rules.specs.CallLaws.{write-clear}
 use Rattle.rules.specs.World.{World, step, siteStep}
 use Rattle.rules.specs.World as world
 use Rattle.rules.proofs.Tables.{upd-cases}
-use Rattle.rules.proofs.Protocol.{Protocol}
+use Rattle.rules.proofs.ProtocolTables.{Protocol}
 use Rattle.rules.proofs.Invariants.{Held, Invariant}
 use Rattle.rules.proofs.Refines.{IsFree, Refines}
 use Rattle.rules.proofs.RefineStep.{by-code}

@@ -29,7 +29,7 @@ use Rattle.rules.specs.World.{World, step, mergeStep, mergerStep}
 use Rattle.rules.specs.World as world
 use Rattle.rules.specs.Progress.{Follows, LogsAscend}
 use Rattle.rules.proofs.Tables.{all-at, All}
-use Rattle.rules.proofs.Protocol.{Protocol, Rec, rPart, rState}
+use Rattle.rules.proofs.ProtocolTables.{Protocol, Rec, rPart, rState}
 use Rattle.rules.proofs.Invariants.{Invariant, StandsBefore}
 use Rattle.rules.proofs.Committed.{low-coordinator}
 use Rattle.rules.proofs.Refines.{recWords, partHeadOf}

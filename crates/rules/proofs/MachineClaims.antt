@@ -15,7 +15,8 @@ use Rattle.laws.specs.Pair.{rank}
 use Rattle.rules.specs.House.{coordinatorOf, serialOf}
 use Rattle.rules.specs.Message.{entryMark}
 use Rattle.rules.specs.Keys.{wroteKey, dependent}
-use Rattle.rules.proofs.Protocol.{Protocol, inst, Listed, Within}
+use Rattle.rules.proofs.ProtocolTables.{Protocol, inst}
+use Rattle.rules.proofs.Protocol.{Listed, Within}
 use Rattle.rules.proofs.Invariants.{Held, at, Installed, Seen, Invariant}
 use Rattle.rules.proofs.Committed.{committed-alive, committed-in, committed-yes, low-coordinator}
 

@@ -11,7 +11,8 @@ use Rattle.kinds.specs.Stage as stage
 use Rattle.rules.specs.House.{coordinatorOf, inMask, maskOf}
 use Rattle.rules.specs.Course.{withParticipant}
 use Rattle.rules.proofs.Tables.{upd₂, upd-same, upd₂-same, upd₂-cases, here₂}
-use Rattle.rules.proofs.Protocol.{Protocol, Msg, mJoin, mJoined, mPrepare, mConc, mCert, mVote, mCommit, mAbort, Next, others}
+use Rattle.rules.proofs.ProtocolTables.{Protocol, Msg, mJoin, mJoined, mPrepare, mConc, mCert, mVote, mCommit, mAbort}
+use Rattle.rules.proofs.Protocol.{Next, others}
 use Rattle.rules.proofs.Protocol.{AtStage, courseAt, Move, begin, enlist, access, request, abort, cast, decide, install, report}
 use Rattle.rules.proofs.Protocol.{joins, full, joined, prepared, lost, unknown, gathers, certified, rejects, votes, commits, aborts}
 use Rattle.rules.proofs.Protocol.{passes}

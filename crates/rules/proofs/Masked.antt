@@ -12,7 +12,8 @@ use Rattle.kinds.specs.State.{noSub, withCourse}
 use Rattle.rules.specs.House.{coordinatorOf, inMask, maskOf}
 use Rattle.rules.specs.Course.{newSub, withParticipant, withReply, withDecision, withQueueMark, withRequest, withStage}
 use Rattle.rules.proofs.Tables.{upd₂, upd₂-cases}
-use Rattle.rules.proofs.Protocol.{Protocol, mPrepare, Next, courseAt, Move, begin, enlist, access, request, abort, cast, decide}
+use Rattle.rules.proofs.ProtocolTables.{Protocol, mPrepare}
+use Rattle.rules.proofs.Protocol.{Next, courseAt, Move, begin, enlist, access, request, abort, cast, decide}
 use Rattle.rules.proofs.Protocol.{install, report, joins, full, joined, prepared, lost, unknown, gathers, certified, rejects, votes}
 use Rattle.rules.proofs.Protocol.{commits, aborts, passes}
 use Rattle.rules.proofs.Invariants.{Held, In, Invariant}

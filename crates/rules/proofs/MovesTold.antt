@@ -14,7 +14,8 @@ use Rattle.rules.specs.Install.{entryOf}
 use Rattle.rules.specs.World.{Member, here}
 use Rattle.rules.specs.Book.{Fact}
 use Rattle.rules.proofs.Tables.{upd₂, upd₂-cases}
-use Rattle.rules.proofs.Protocol.{Protocol, inst, Move, Accessed, reads, writes, begin, enlist, access, request, abort, cast, decide}
+use Rattle.rules.proofs.ProtocolTables.{Protocol, inst}
+use Rattle.rules.proofs.Protocol.{Move, Accessed, reads, writes, begin, enlist, access, request, abort, cast, decide}
 use Rattle.rules.proofs.Protocol.{install, report, joins, full, joined, prepared, lost, unknown, gathers, certified, rejects, votes}
 use Rattle.rules.proofs.Protocol.{commits, aborts, passes, freshProtocol}
 use Rattle.rules.proofs.Told.{told, toldStep, toldSteps}

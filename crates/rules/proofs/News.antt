@@ -12,7 +12,8 @@ use Rattle.rules.specs.House.{coordinatorOf, inMask}
 use Rattle.rules.specs.Live.{allHeard}
 use Rattle.rules.specs.Course.{withDecision}
 use Rattle.rules.proofs.Tables.{upd-same, upd-other, upd-cases, here₂, upd-both, upd₂-both}
-use Rattle.rules.proofs.Protocol.{Protocol, AtStage, courseAt, Covers, Certified, Within, Move, begin, enlist, access, request}
+use Rattle.rules.proofs.ProtocolTables.{Protocol}
+use Rattle.rules.proofs.Protocol.{AtStage, courseAt, Covers, Certified, Within, Move, begin, enlist, access, request}
 use Rattle.rules.proofs.Protocol.{abort, cast, decide, install, report, joins, full, joined, prepared, lost, unknown, gathers}
 use Rattle.rules.proofs.Protocol.{certified, rejects, votes, commits, aborts, passes}
 use Rattle.rules.proofs.Invariants.{Held, Invariant}

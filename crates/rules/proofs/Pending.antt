@@ -11,7 +11,8 @@ use lib.ListN.{length, getD, drop}
 use Rattle.laws.specs.Choice.{pick, by-test, set-not}
 use Rattle.rules.specs.House.{inMask}
 use Rattle.rules.proofs.Tables.{upd₂, upd₂-same, upd₂-cases, Other₂, upd₂-other}
-use Rattle.rules.proofs.Protocol.{Msg, others}
+use Rattle.rules.proofs.ProtocolTables.{Msg}
+use Rattle.rules.proofs.Protocol.{others}
 use Rattle.rules.proofs.Frames.{others-cases}
 use Rattle.rules.proofs.Refines.{txIn}
 

@@ -10,7 +10,8 @@ use Rattle.kinds.specs.declared.Course.{Course}
 use Rattle.kinds.specs.declared.Sub.{Sub}
 use Rattle.rules.specs.House.{coordinatorOf, inMask}
 use Rattle.rules.proofs.Tables.{upd₂, upd₂-cases, Other₂}
-use Rattle.rules.proofs.Protocol.{Protocol, Msg, Next, others, courseAt}
+use Rattle.rules.proofs.ProtocolTables.{Protocol, Msg}
+use Rattle.rules.proofs.Protocol.{Next, others, courseAt}
 use Rattle.rules.proofs.Invariants.{In, Invariant}
 use Rattle.rules.proofs.Refines.{txIn}
 use Rattle.rules.proofs.Pending.{pending, taken-first, taken-not, taken-elsewhere, posted-last, posted-not, posted-elsewhere}

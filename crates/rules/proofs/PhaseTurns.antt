@@ -7,7 +7,7 @@ use mathlib.Core.List.{List, [], _∷_, _++_}
 use native.Mathlib.Omega.{arith}
 use Rattle.kinds.specs.Stage as stage
 use Rattle.kinds.specs.declared.Course.{Course}
-use Rattle.rules.proofs.Protocol.{Msg, mJoin, mJoined, mPrepare, mConc, mCert, mVote, mCommit, mAbort}
+use Rattle.rules.proofs.ProtocolTables.{Msg, mJoin, mJoined, mPrepare, mConc, mCert, mVote, mCommit, mAbort}
 use Rattle.rules.proofs.Invariants.{In}
 use Rattle.rules.proofs.Phases.{Waits, AskedAt, Ready, RepliedAt, Agrees, Phase, idle, asked, replied, deciding, aborting, overtaken}
 use Rattle.rules.proofs.Phases.{aborted}

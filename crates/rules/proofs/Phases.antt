@@ -7,7 +7,8 @@ use mathlib.Core.List.{List, [], _∷_}
 use Rattle.kinds.specs.Stage as stage
 use Rattle.kinds.specs.declared.Course.{Course}
 use Rattle.rules.specs.House.{coordinatorOf}
-use Rattle.rules.proofs.Protocol.{Protocol, Msg, mJoin, mJoined, mPrepare, mConc, mCert, mVote, mCommit, mAbort, courseAt}
+use Rattle.rules.proofs.ProtocolTables.{Protocol, Msg, mJoin, mJoined, mPrepare, mConc, mCert, mVote, mCommit, mAbort}
+use Rattle.rules.proofs.Protocol.{courseAt}
 use Rattle.rules.proofs.Invariants.{In}
 use Rattle.rules.proofs.Pending.{pending}
 

@@ -21,7 +21,7 @@ use Rattle.rules.specs.World as world
 use Rattle.rules.specs.Book.{Fact}
 use Rattle.rules.specs.Progress.{NoneOutOfTurn, MessagesProgress}
 use Rattle.rules.proofs.Tables.{All, a-nil, all-append, all-is}
-use Rattle.rules.proofs.Protocol.{Protocol, Msg}
+use Rattle.rules.proofs.ProtocolTables.{Protocol, Msg}
 use Rattle.rules.proofs.Invariants.{Invariant}
 use Rattle.rules.proofs.Refines.{Refines}
 use Rattle.rules.proofs.RefineStep.{by-code, inside}

@@ -14,7 +14,6 @@ use Rattle.kinds.specs.Stage as stage
 use Rattle.kinds.specs.declared.Keys.{Keys}
 use Rattle.kinds.specs.declared.Course.{Course}
 use Rattle.kinds.specs.declared.Sub.{Sub}
-use Rattle.kinds.specs.declared.Entry.{Entry}
 use Rattle.kinds.specs.State.{noSub, noKeys, pastEntry, withCourse, withKeys, Value}
 use Rattle.rules.specs.House.{coordinatorOf, homeOf, txOf, inMask, maskOf}
 use Rattle.rules.specs.Message.{entryTx, entryMask, entryMark, entryCount}
@@ -27,118 +26,7 @@ use Rattle.rules.specs.World.{upd}
 use Rattle.rules.specs.Book as book
 use Rattle.rules.specs.Book.{Fact}
 use Rattle.rules.proofs.Tables.{upd₂}
-
--- A message from one site to another, without its channel number.
-pub data Msg : Type 0 where
-  mJoin : (tx : ℕ) → Msg
-  mJoined : (tx reason : ℕ) → Msg
-  mPrepare : (tx clock mask : ℕ) → Msg
-  mConc : (tx : ℕ) (es : List ℕ) → Msg
-  mCert : (tx : ℕ) (es : List ℕ) → Msg
-  mVote : (tx clock reason : ℕ) → Msg
-  mCommit : (tx number : ℕ) → Msg
-  mAbort : (tx : ℕ) → Msg
-
--- A record of a site's log.
-pub data Rec : Type 0 where
-  rPart : Entry → Rec
-  rState : ℕ → Rec
-
-abbrev pub partsOf : List Rec → List Entry
-partsOf [] = []
-partsOf (rPart e ∷ l) = e ∷ partsOf l
-partsOf (rState n ∷ l) = partsOf l
-
--- The tables. The first group is the sites': `live s t` is the part of transaction t at site s, free where it is not held;
--- `gathered t` the entries that t's coordinator holds; `post a b` every message ever written from a to b, of which b has taken
--- `taken a b`. The second group is the account that the proofs keep: `has s t` where t's part began at s, with the snapshot
--- `snap s t` and the keys `keys s t`; `mask t` the participants once the commit is requested; `list s t` the list that s made;
--- `cert t` the joined list; `yes s t` with its mark; `num t` the commit number; `dead t` where its coordinator aborted it.
-pub record Protocol : Type 0 where
-  pub clock : ℕ → ℕ
-  pub serial : ℕ → ℕ
-  pub live : ℕ → ℕ → Sub
-  pub gathered : ℕ → List ℕ
-  pub post : ℕ → ℕ → List Msg
-  pub taken : ℕ → ℕ → ℕ
-  pub log : ℕ → List Rec
-  pub has : ℕ → ℕ → Bool
-  pub snap : ℕ → ℕ → ℕ
-  pub keys : ℕ → ℕ → Keys
-  pub asked : ℕ → Bool
-  pub mask : ℕ → ℕ
-  pub made : ℕ → ℕ → Bool
-  pub list : ℕ → ℕ → List ℕ
-  pub certed : ℕ → Bool
-  pub cert : ℕ → List ℕ
-  pub yes : ℕ → ℕ → Bool
-  pub queueMark : ℕ → ℕ → ℕ
-  pub num : ℕ → ℕ
-  pub dead : ℕ → Bool
-
-abbrev pub inst : Protocol → ℕ → List Entry
-inst p s = partsOf (p .log s)
-
--- One table changed.
-abbrev pub set-clock : (ℕ → ℕ) → Protocol → Protocol
-set-clock x p = record { clock = x; serial = p .serial; live = p .live; gathered = p .gathered; post = p .post; taken = p .taken; log = p .log; has = p .has; snap = p .snap; keys = p .keys; asked = p .asked; mask = p .mask; made = p .made; list = p .list; certed = p .certed; cert = p .cert; yes = p .yes; queueMark = p .queueMark; num = p .num; dead = p .dead }
-
-abbrev pub set-serial : (ℕ → ℕ) → Protocol → Protocol
-set-serial x p = record { clock = p .clock; serial = x; live = p .live; gathered = p .gathered; post = p .post; taken = p .taken; log = p .log; has = p .has; snap = p .snap; keys = p .keys; asked = p .asked; mask = p .mask; made = p .made; list = p .list; certed = p .certed; cert = p .cert; yes = p .yes; queueMark = p .queueMark; num = p .num; dead = p .dead }
-
-abbrev pub set-live : (ℕ → ℕ → Sub) → Protocol → Protocol
-set-live x p = record { clock = p .clock; serial = p .serial; live = x; gathered = p .gathered; post = p .post; taken = p .taken; log = p .log; has = p .has; snap = p .snap; keys = p .keys; asked = p .asked; mask = p .mask; made = p .made; list = p .list; certed = p .certed; cert = p .cert; yes = p .yes; queueMark = p .queueMark; num = p .num; dead = p .dead }
-
-abbrev pub set-gathered : (ℕ → List ℕ) → Protocol → Protocol
-set-gathered x p = record { clock = p .clock; serial = p .serial; live = p .live; gathered = x; post = p .post; taken = p .taken; log = p .log; has = p .has; snap = p .snap; keys = p .keys; asked = p .asked; mask = p .mask; made = p .made; list = p .list; certed = p .certed; cert = p .cert; yes = p .yes; queueMark = p .queueMark; num = p .num; dead = p .dead }
-
-abbrev pub set-post : (ℕ → ℕ → List Msg) → Protocol → Protocol
-set-post x p = record { clock = p .clock; serial = p .serial; live = p .live; gathered = p .gathered; post = x; taken = p .taken; log = p .log; has = p .has; snap = p .snap; keys = p .keys; asked = p .asked; mask = p .mask; made = p .made; list = p .list; certed = p .certed; cert = p .cert; yes = p .yes; queueMark = p .queueMark; num = p .num; dead = p .dead }
-
-abbrev pub set-taken : (ℕ → ℕ → ℕ) → Protocol → Protocol
-set-taken x p = record { clock = p .clock; serial = p .serial; live = p .live; gathered = p .gathered; post = p .post; taken = x; log = p .log; has = p .has; snap = p .snap; keys = p .keys; asked = p .asked; mask = p .mask; made = p .made; list = p .list; certed = p .certed; cert = p .cert; yes = p .yes; queueMark = p .queueMark; num = p .num; dead = p .dead }
-
-abbrev pub set-log : (ℕ → List Rec) → Protocol → Protocol
-set-log x p = record { clock = p .clock; serial = p .serial; live = p .live; gathered = p .gathered; post = p .post; taken = p .taken; log = x; has = p .has; snap = p .snap; keys = p .keys; asked = p .asked; mask = p .mask; made = p .made; list = p .list; certed = p .certed; cert = p .cert; yes = p .yes; queueMark = p .queueMark; num = p .num; dead = p .dead }
-
-abbrev pub set-has : (ℕ → ℕ → Bool) → Protocol → Protocol
-set-has x p = record { clock = p .clock; serial = p .serial; live = p .live; gathered = p .gathered; post = p .post; taken = p .taken; log = p .log; has = x; snap = p .snap; keys = p .keys; asked = p .asked; mask = p .mask; made = p .made; list = p .list; certed = p .certed; cert = p .cert; yes = p .yes; queueMark = p .queueMark; num = p .num; dead = p .dead }
-
-abbrev pub set-snap : (ℕ → ℕ → ℕ) → Protocol → Protocol
-set-snap x p = record { clock = p .clock; serial = p .serial; live = p .live; gathered = p .gathered; post = p .post; taken = p .taken; log = p .log; has = p .has; snap = x; keys = p .keys; asked = p .asked; mask = p .mask; made = p .made; list = p .list; certed = p .certed; cert = p .cert; yes = p .yes; queueMark = p .queueMark; num = p .num; dead = p .dead }
-
-abbrev pub set-keys : (ℕ → ℕ → Keys) → Protocol → Protocol
-set-keys x p = record { clock = p .clock; serial = p .serial; live = p .live; gathered = p .gathered; post = p .post; taken = p .taken; log = p .log; has = p .has; snap = p .snap; keys = x; asked = p .asked; mask = p .mask; made = p .made; list = p .list; certed = p .certed; cert = p .cert; yes = p .yes; queueMark = p .queueMark; num = p .num; dead = p .dead }
-
-abbrev pub set-asked : (ℕ → Bool) → Protocol → Protocol
-set-asked x p = record { clock = p .clock; serial = p .serial; live = p .live; gathered = p .gathered; post = p .post; taken = p .taken; log = p .log; has = p .has; snap = p .snap; keys = p .keys; asked = x; mask = p .mask; made = p .made; list = p .list; certed = p .certed; cert = p .cert; yes = p .yes; queueMark = p .queueMark; num = p .num; dead = p .dead }
-
-abbrev pub set-mask : (ℕ → ℕ) → Protocol → Protocol
-set-mask x p = record { clock = p .clock; serial = p .serial; live = p .live; gathered = p .gathered; post = p .post; taken = p .taken; log = p .log; has = p .has; snap = p .snap; keys = p .keys; asked = p .asked; mask = x; made = p .made; list = p .list; certed = p .certed; cert = p .cert; yes = p .yes; queueMark = p .queueMark; num = p .num; dead = p .dead }
-
-abbrev pub set-made : (ℕ → ℕ → Bool) → Protocol → Protocol
-set-made x p = record { clock = p .clock; serial = p .serial; live = p .live; gathered = p .gathered; post = p .post; taken = p .taken; log = p .log; has = p .has; snap = p .snap; keys = p .keys; asked = p .asked; mask = p .mask; made = x; list = p .list; certed = p .certed; cert = p .cert; yes = p .yes; queueMark = p .queueMark; num = p .num; dead = p .dead }
-
-abbrev pub set-list : (ℕ → ℕ → List ℕ) → Protocol → Protocol
-set-list x p = record { clock = p .clock; serial = p .serial; live = p .live; gathered = p .gathered; post = p .post; taken = p .taken; log = p .log; has = p .has; snap = p .snap; keys = p .keys; asked = p .asked; mask = p .mask; made = p .made; list = x; certed = p .certed; cert = p .cert; yes = p .yes; queueMark = p .queueMark; num = p .num; dead = p .dead }
-
-abbrev pub set-certed : (ℕ → Bool) → Protocol → Protocol
-set-certed x p = record { clock = p .clock; serial = p .serial; live = p .live; gathered = p .gathered; post = p .post; taken = p .taken; log = p .log; has = p .has; snap = p .snap; keys = p .keys; asked = p .asked; mask = p .mask; made = p .made; list = p .list; certed = x; cert = p .cert; yes = p .yes; queueMark = p .queueMark; num = p .num; dead = p .dead }
-
-abbrev pub set-cert : (ℕ → List ℕ) → Protocol → Protocol
-set-cert x p = record { clock = p .clock; serial = p .serial; live = p .live; gathered = p .gathered; post = p .post; taken = p .taken; log = p .log; has = p .has; snap = p .snap; keys = p .keys; asked = p .asked; mask = p .mask; made = p .made; list = p .list; certed = p .certed; cert = x; yes = p .yes; queueMark = p .queueMark; num = p .num; dead = p .dead }
-
-abbrev pub set-yes : (ℕ → ℕ → Bool) → Protocol → Protocol
-set-yes x p = record { clock = p .clock; serial = p .serial; live = p .live; gathered = p .gathered; post = p .post; taken = p .taken; log = p .log; has = p .has; snap = p .snap; keys = p .keys; asked = p .asked; mask = p .mask; made = p .made; list = p .list; certed = p .certed; cert = p .cert; yes = x; queueMark = p .queueMark; num = p .num; dead = p .dead }
-
-abbrev pub set-queue-mark : (ℕ → ℕ → ℕ) → Protocol → Protocol
-set-queue-mark x p = record { clock = p .clock; serial = p .serial; live = p .live; gathered = p .gathered; post = p .post; taken = p .taken; log = p .log; has = p .has; snap = p .snap; keys = p .keys; asked = p .asked; mask = p .mask; made = p .made; list = p .list; certed = p .certed; cert = p .cert; yes = p .yes; queueMark = x; num = p .num; dead = p .dead }
-
-abbrev pub set-num : (ℕ → ℕ) → Protocol → Protocol
-set-num x p = record { clock = p .clock; serial = p .serial; live = p .live; gathered = p .gathered; post = p .post; taken = p .taken; log = p .log; has = p .has; snap = p .snap; keys = p .keys; asked = p .asked; mask = p .mask; made = p .made; list = p .list; certed = p .certed; cert = p .cert; yes = p .yes; queueMark = p .queueMark; num = x; dead = p .dead }
-
-abbrev pub set-dead : (ℕ → Bool) → Protocol → Protocol
-set-dead x p = record { clock = p .clock; serial = p .serial; live = p .live; gathered = p .gathered; post = p .post; taken = p .taken; log = p .log; has = p .has; snap = p .snap; keys = p .keys; asked = p .asked; mask = p .mask; made = p .made; list = p .list; certed = p .certed; cert = p .cert; yes = p .yes; queueMark = p .queueMark; num = p .num; dead = x }
+use Rattle.rules.proofs.ProtocolTables.{Msg, Protocol, inst, set-clock, set-serial, set-live, set-gathered, set-post, set-taken, set-log, set-has, set-snap, set-keys, set-asked, set-mask, set-made, set-list, set-certed, set-cert, set-yes, set-queue-mark, set-num, set-dead, mJoin, mJoined, mPrepare, mConc, mCert, mVote, mCommit, mAbort, rPart, rState}
 
 -- Pieces of the moves.
 

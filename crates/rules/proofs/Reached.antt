@@ -1,6 +1,7 @@
 -- The whole invariant, after any moves from the fresh protocol.
 use Prim.Native.Nat.{ℕ, _≤_}
-use Rattle.rules.proofs.Protocol.{Protocol, Move, Moves, stop, more, freshProtocol}
+use Rattle.rules.proofs.ProtocolTables.{Protocol}
+use Rattle.rules.proofs.Protocol.{Move, Moves, stop, more, freshProtocol}
 use Rattle.rules.proofs.Invariants.{Invariant}
 use Rattle.rules.proofs.StepParts.{parts-step, parts-fresh}
 use Rattle.rules.proofs.StepPosts.{posts-step, posts-fresh}

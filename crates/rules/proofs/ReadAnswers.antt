@@ -29,7 +29,7 @@ use Rattle.rules.specs.World as world
 use Rattle.rules.specs.Book.{Fact}
 use Rattle.rules.specs.Claim.{Wrote, LastWrite, UpTo, Saw}
 use Rattle.rules.specs.Reads.{SawWriter, SeenLeft, unwritten, written, ReadLeft, own as own-write, seen as seen-write}
-use Rattle.rules.proofs.Protocol.{Protocol, inst}
+use Rattle.rules.proofs.ProtocolTables.{Protocol, inst}
 use Rattle.rules.proofs.Invariants.{Held, at, Invariant}
 use Rattle.rules.proofs.MachineClaims.{seen-lower}
 use Rattle.rules.proofs.Refines.{Refines}

@@ -19,7 +19,8 @@ use Rattle.rules.specs.Book.{Fact}
 use Rattle.rules.specs.Claim.{Committed}
 use Rattle.rules.specs.Progress.{Drained, InStream, RecordsProgress, recordAt}
 use Rattle.rules.proofs.Tables.{all-at, All, a-nil}
-use Rattle.rules.proofs.Protocol.{Protocol, rState, freshProtocol, Rec, rPart}
+use Rattle.rules.proofs.ProtocolTables.{Protocol, rState, Rec, rPart}
+use Rattle.rules.proofs.Protocol.{freshProtocol}
 use Rattle.rules.proofs.Refines.{recWords, partHeadOf}
 use Rattle.rules.proofs.Stream as stream
 use Rattle.rules.proofs.Stream.{Stream, freshStream}

@@ -36,7 +36,8 @@ use Rattle.rules.specs.World as world
 use Rattle.rules.specs.Book as book
 use Rattle.rules.specs.Book.{Fact}
 use Rattle.rules.proofs.Tables.{a-nil, row-same, row-other}
-use Rattle.rules.proofs.Protocol.{Protocol, inst, Accessed, access, stop, more}
+use Rattle.rules.proofs.ProtocolTables.{Protocol, inst}
+use Rattle.rules.proofs.Protocol.{Accessed, access, stop, more}
 use Rattle.rules.proofs.Protocol as protocol
 use Rattle.rules.proofs.Invariants.{at}
 use Rattle.rules.proofs.KeysTold.{read-wrote, read-value, read-sized, read-kept, read-new, write-reads, write-sized, Sets}

@@ -15,7 +15,8 @@ use Rattle.rules.specs.Effect.{Effect, turnAt, settle}
 use Rattle.rules.specs.Course.{sendAll}
 use Rattle.rules.specs.World.{World, siteStep}
 use Rattle.rules.specs.Book.{Fact}
-use Rattle.rules.proofs.Protocol.{Protocol, Msg, others, Whole, Moves, stop, more, courseAt}
+use Rattle.rules.proofs.ProtocolTables.{Protocol, Msg}
+use Rattle.rules.proofs.Protocol.{others, Whole, Moves, stop, more, courseAt}
 use Rattle.rules.proofs.Told.{told, toldAll}
 use Rattle.rules.proofs.Invariants.{In, Held, Invariant}
 use Rattle.rules.proofs.Refines.{kindOf, txIn, clockIn, argumentIn, entriesIn, Posted, ChannelsAre, Slice, sliceOf, SiteIs, Refines}

@@ -15,7 +15,8 @@ use Rattle.rules.specs.World.{World, upd, step, siteStep, messagesIn, sp
 use Rattle.rules.specs.World as world
 use Rattle.rules.specs.Book as book
 use Rattle.rules.proofs.Tables.{upd-same, upd-other, a-nil, row-same, row-other}
-use Rattle.rules.proofs.Protocol.{Protocol, inst, beganAt, set-serial, begin, stop, more}
+use Rattle.rules.proofs.ProtocolTables.{Protocol, inst, set-serial}
+use Rattle.rules.proofs.Protocol.{beganAt, begin, stop, more}
 use Rattle.rules.proofs.Invariants.{Invariant}
 use Rattle.rules.proofs.Frames.{new-tx}
 use Rattle.rules.proofs.Refines.{IsFree, Refines}

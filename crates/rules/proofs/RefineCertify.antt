@@ -26,7 +26,8 @@ use Rattle.rules.specs.Certify.{candidates, concurrent, voteOf}
 use Rattle.rules.specs.CertifyLaws.{concurrent-whole, lists-prepared, lists-installed, yes-clear, yes-recorded, recorded-is}
 use Rattle.rules.specs.CertifyLaws.{candidates-marks}
 use Rattle.rules.specs.EntryLaws.{Listing, Marks, joined-mark, joined-within}
-use Rattle.rules.proofs.Protocol.{Protocol, inst, Covers, Certified, Within, Listed}
+use Rattle.rules.proofs.ProtocolTables.{Protocol, inst}
+use Rattle.rules.proofs.Protocol.{Covers, Certified, Within, Listed}
 use Rattle.rules.proofs.Invariants.{Parts, at}
 use Rattle.rules.proofs.Refines.{IsFree, HistoryIs, sliceOf, SiteIs}
 use Rattle.rules.proofs.RefineLive.{part-is, held-there}

@@ -30,7 +30,8 @@ use Rattle.rules.specs.CallLaws.{request-clear, commit-clear, abandon-cl
 use Rattle.rules.specs.World.{World, step, siteStep}
 use Rattle.rules.specs.World as world
 use Rattle.rules.specs.Book as book
-use Rattle.rules.proofs.Protocol.{Protocol, AtStage, more}
+use Rattle.rules.proofs.ProtocolTables.{Protocol}
+use Rattle.rules.proofs.Protocol.{AtStage, more}
 use Rattle.rules.proofs.Invariants.{Invariant}
 use Rattle.rules.proofs.Refines.{Refines}
 use Rattle.rules.proofs.RefineStep.{Follows, toldBy, by-code, inside, stays}

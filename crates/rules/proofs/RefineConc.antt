@@ -31,7 +31,8 @@ use Rattle.rules.specs.Deliver.{arrived}
 use Rattle.rules.specs.World.{upd}
 use Rattle.rules.specs.Book as book
 use Rattle.rules.proofs.Tables.{upd₂-same, upd-same, upd-other, row-same, row-other}
-use Rattle.rules.proofs.Protocol.{Protocol, mConc, Next, AtStage, courseAt, Within, withCourseAt, set-gathered, took, gathers}
+use Rattle.rules.proofs.ProtocolTables.{Protocol, mConc, set-gathered}
+use Rattle.rules.proofs.Protocol.{Next, AtStage, courseAt, Within, withCourseAt, took, gathers}
 use Rattle.rules.proofs.Invariants.{Invariant}
 use Rattle.rules.proofs.Masks.{outstanding-unheard}
 use Rattle.rules.proofs.Frames.{said}

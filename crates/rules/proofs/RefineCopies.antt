@@ -18,7 +18,7 @@ use Rattle.rules.specs.MergerKept.{fresh-holds}
 use Rattle.rules.specs.Copy.{copyNumber, copyCoordinator, copyValue, valueCode, valueOf, copyStartOf}
 use Rattle.rules.specs.World.{World, freshWorld}
 use Rattle.rules.proofs.Tables.{a-nil}
-use Rattle.rules.proofs.Protocol.{Protocol}
+use Rattle.rules.proofs.ProtocolTables.{Protocol}
 use Rattle.rules.proofs.RefineFresh.{refines-fresh}
 use Rattle.rules.proofs.Stream as stream
 use Rattle.rules.proofs.Stream.{Stream, freshStream}

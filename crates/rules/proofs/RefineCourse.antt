@@ -26,8 +26,10 @@ use Rattle.rules.specs.Course.{withCourseOf, sendAll, abortStep, commitS
 use Rattle.rules.specs.World.{upd}
 use Rattle.rules.specs.Book as book
 use Rattle.rules.proofs.Tables.{upd₂, upd₂-same, upd-same, upd-other, row-other}
-use Rattle.rules.proofs.Protocol.{Protocol, Msg, mAbort, mCert, mCommit, others, courseAt, AtStage, Whole, Within, Certified, abort}
-use Rattle.rules.proofs.Protocol.{cast, decide, stop, more, postedAll, withCourseAt, set-certed, set-cert, set-yes, set-queue-mark}
+use Rattle.rules.proofs.ProtocolTables.{Protocol, Msg, mAbort, mCert, mCommit}
+use Rattle.rules.proofs.Protocol.{others, courseAt, AtStage, Whole, Within, Certified, abort}
+use Rattle.rules.proofs.ProtocolTables.{set-certed, set-cert, set-yes, set-queue-mark}
+use Rattle.rules.proofs.Protocol.{cast, decide, stop, more, postedAll, withCourseAt}
 use Rattle.rules.proofs.Invariants.{In, Held, Invariant}
 use Rattle.rules.proofs.Masks.{none-in, all-heard}
 use Rattle.rules.proofs.Frames.{others-cases}

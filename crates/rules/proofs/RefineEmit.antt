@@ -32,7 +32,7 @@ use Rattle.rules.specs.MergerWords.{popped-place, kept-place}
 use Rattle.rules.specs.World.{World, step, mergerStep, recordIn}
 use Rattle.rules.specs.World as world
 use Rattle.rules.proofs.Tables.{All, a-nil, all-append, all-one}
-use Rattle.rules.proofs.Protocol.{Protocol}
+use Rattle.rules.proofs.ProtocolTables.{Protocol}
 use Rattle.rules.proofs.Invariants.{In}
 use Rattle.rules.proofs.Committed.{committed-asked}
 use Rattle.rules.proofs.Refines.{IsRecord, entryWords, partHeadOf, Refines}

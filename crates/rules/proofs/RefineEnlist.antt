@@ -22,7 +22,8 @@ use Rattle.rules.specs.CourseLaws.{no-entries}
 use Rattle.rules.specs.World.{World, step, siteStep}
 use Rattle.rules.specs.World as world
 use Rattle.rules.proofs.Tables.{row-other}
-use Rattle.rules.proofs.Protocol.{Protocol, mJoin, courseAt, enlist, stop, more}
+use Rattle.rules.proofs.ProtocolTables.{Protocol, mJoin}
+use Rattle.rules.proofs.Protocol.{courseAt, enlist, stop, more}
 use Rattle.rules.proofs.Refines.{Refines}
 use Rattle.rules.proofs.RefineSite.{site-channels, channels-one}
 use Rattle.rules.proofs.RefineStep.{Follows, by-code, inside, stays, site-step}

@@ -22,7 +22,8 @@ use Rattle.rules.specs.Course.{raise, quietly, withCourseOf, withReply, 
 use Rattle.rules.specs.Deliver.{arrived, voteInTurn}
 use Rattle.rules.specs.Book as book
 use Rattle.rules.proofs.Tables.{upd₂-same}
-use Rattle.rules.proofs.Protocol.{Protocol, mVote, Next, AtStage, courseAt, withCourseAt, took, raised}
+use Rattle.rules.proofs.ProtocolTables.{Protocol, mVote}
+use Rattle.rules.proofs.Protocol.{Next, AtStage, courseAt, withCourseAt, took, raised}
 use Rattle.rules.proofs.Invariants.{Invariant}
 use Rattle.rules.proofs.Frames.{said}
 use Rattle.rules.proofs.Reached.{invariant-moves}

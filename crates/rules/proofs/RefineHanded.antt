@@ -27,7 +27,8 @@ use Rattle.rules.specs.CallLaws.{arrival-clear, next-clear}
 use Rattle.rules.specs.World.{World, step, siteStep, here, Handed}
 use Rattle.rules.specs.World as world
 use Rattle.rules.proofs.Tables.{All, a-nil, a-cons, all-is}
-use Rattle.rules.proofs.Protocol.{Protocol, Msg, mAbort, Rec, rPart, rState, Next}
+use Rattle.rules.proofs.ProtocolTables.{Protocol, Msg, mAbort, Rec, rPart, rState}
+use Rattle.rules.proofs.Protocol.{Next}
 use Rattle.rules.proofs.Invariants.{Invariant}
 use Rattle.rules.proofs.Frames.{in-range}
 use Rattle.rules.proofs.Refines.{entriesIn, encode, Posted, recWords, entryWords, partHeadOf, IsRecord, sliceOf, SiteIs, Refines}

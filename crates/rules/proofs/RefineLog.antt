@@ -36,7 +36,8 @@ use Rattle.rules.specs.World.{World, upd, step, logStep, recordIn}
 use Rattle.rules.specs.World as world
 use Rattle.rules.specs.Book as book
 use Rattle.rules.proofs.Tables.{upd-same, upd-other, row-other}
-use Rattle.rules.proofs.Protocol.{Protocol, Rec, rPart, rState, partsOf, LeastQueued, StateAt, install, report, stop, more, Bound}
+use Rattle.rules.proofs.ProtocolTables.{Protocol, Rec, rPart, rState, partsOf}
+use Rattle.rules.proofs.Protocol.{LeastQueued, StateAt, install, report, stop, more, Bound}
 use Rattle.rules.proofs.StepParts.{parts-append, parts-state}
 use Rattle.rules.proofs.Refines.{IsFree, HistoryIs, LiveIs, recWords, entryWords, partHeadOf, Refines}
 use Rattle.rules.proofs.RefineTurn.{part-place, site-gone}

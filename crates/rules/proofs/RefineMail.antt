@@ -23,7 +23,8 @@ use Rattle.rules.specs.SendLaws.{words-to-some, words-to-none, messages-
 use Rattle.rules.specs.Course.{headOf, sendTo, sendAll}
 use Rattle.rules.specs.World.{splitWords, messagesIn}
 use Rattle.rules.proofs.Tables.{All, a-nil, a-cons, upd₂, upd₂-same, upd₂-cases}
-use Rattle.rules.proofs.Protocol.{Msg, mAbort, others, Whole}
+use Rattle.rules.proofs.ProtocolTables.{Msg, mAbort}
+use Rattle.rules.proofs.Protocol.{others, Whole}
 use Rattle.rules.proofs.Invariants.{In}
 use Rattle.rules.proofs.Frames.{others-cases}
 use Rattle.rules.proofs.Refines.{kindOf, txIn, clockIn, argumentIn, entriesIn, encode, Posted, ChannelsAre}

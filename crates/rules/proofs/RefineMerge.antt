@@ -30,7 +30,7 @@ use Rattle.rules.specs.MergerKept.{Holds, merge-kept}
 use Rattle.rules.specs.World.{World, Handed, upd, step, mergerStep, mergeStep, stepTaken, sameWords, recordIn}
 use Rattle.rules.specs.World as world
 use Rattle.rules.proofs.Tables.{upd-cases, upd-same, upd-other, all-at, all-is}
-use Rattle.rules.proofs.Protocol.{Protocol, Rec, rPart, rState}
+use Rattle.rules.proofs.ProtocolTables.{Protocol, Rec, rPart, rState}
 use Rattle.rules.proofs.Frames.{in-range}
 use Rattle.rules.proofs.Refines.{recWords, entryWords, partHeadOf}
 use Rattle.rules.proofs.Stream as stream

@@ -33,7 +33,8 @@ use Rattle.rules.specs.Copy.{copyNumber, copyCoordinator, copyValue}
 use Rattle.rules.specs.World.{World, Member, here, there, sameWords}
 use Rattle.rules.specs.Book.{Fact}
 use Rattle.rules.proofs.Tables.{All}
-use Rattle.rules.proofs.Protocol.{Protocol, Msg, mJoin, mJoined, mPrepare, mConc, mCert, mVote, mCommit, mAbort, Moves, stop, more}
+use Rattle.rules.proofs.ProtocolTables.{Protocol, Msg, mJoin, mJoined, mPrepare, mConc, mCert, mVote, mCommit, mAbort}
+use Rattle.rules.proofs.Protocol.{Moves, stop, more}
 use Rattle.rules.proofs.Frames.{in-range}
 use Rattle.rules.proofs.Refines.{encode, Posted, entryWords, partHeadOf, Refines}
 use Rattle.rules.proofs.RefineStep.{Follows}

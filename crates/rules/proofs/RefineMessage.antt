@@ -43,7 +43,8 @@ use Rattle.rules.specs.Deliver.{takeCert, voteInTurn, takeVote, takeComm
 use Rattle.rules.specs.World.{World, siteStep}
 use Rattle.rules.specs.Book as book
 use Rattle.rules.specs.Book.{Fact}
-use Rattle.rules.proofs.Protocol.{Protocol, Msg, mJoin, mJoined, mPrepare, mConc, mCert, mVote, mCommit, mAbort, Next}
+use Rattle.rules.proofs.ProtocolTables.{Protocol, Msg, mJoin, mJoined, mPrepare, mConc, mCert, mVote, mCommit, mAbort}
+use Rattle.rules.proofs.Protocol.{Next}
 use Rattle.rules.proofs.Invariants.{Invariant}
 use Rattle.rules.proofs.Frames.{said}
 use Rattle.rules.proofs.Refines.{IsFree, kindOf, txIn, clockIn, argumentIn, entriesIn, sliceOf, SiteIs, Refines}

@@ -15,7 +15,8 @@ use Rattle.rules.specs.Course.{takenFrom, raise, quietly, withSubOf, wit
 use Rattle.rules.specs.Deliver.{arrived}
 use Rattle.rules.specs.World.{upd}
 use Rattle.rules.proofs.Tables.{upd-same, upd-other, row-other}
-use Rattle.rules.proofs.Protocol.{Protocol, Msg, mJoined, mVote, mCommit, mAbort, Next, AtStage, courseAt, withCourseAt, withLive}
+use Rattle.rules.proofs.ProtocolTables.{Protocol, Msg, mJoined, mVote, mCommit, mAbort}
+use Rattle.rules.proofs.Protocol.{Next, AtStage, courseAt, withCourseAt, withLive}
 use Rattle.rules.proofs.Protocol.{took, raised, joined, votes, commits, aborts, passes}
 use Rattle.rules.proofs.Refines.{sliceOf, SiteIs}
 use Rattle.rules.proofs.RefineTurn.{AtPlace, course-is, site-course, site-gone, decision-stage}

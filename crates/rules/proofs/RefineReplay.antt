@@ -28,7 +28,7 @@ use Rattle.rules.specs.Copy.{copyNumber, copyCoordinator, copyValue, rep
 use Rattle.rules.specs.World.{World, Handed, step, copyStep, replayStep, stepTaken}
 use Rattle.rules.specs.World as world
 use Rattle.rules.proofs.Tables.{all-at, upd-cases, upd-both, all-is}
-use Rattle.rules.proofs.Protocol.{Rec, rPart, rState}
+use Rattle.rules.proofs.ProtocolTables.{Rec, rPart, rState}
 use Rattle.rules.proofs.Refines.{recWords, partHeadOf}
 use Rattle.rules.proofs.Stream as stream
 use Rattle.rules.proofs.Stream.{Item, Stream, itemRank}

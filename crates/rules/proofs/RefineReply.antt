@@ -24,8 +24,10 @@ use Rattle.rules.specs.Deliver.{arrived}
 use Rattle.rules.specs.World.{upd}
 use Rattle.rules.specs.Book as book
 use Rattle.rules.proofs.Tables.{upd-other, row-same, row-other}
-use Rattle.rules.proofs.Protocol.{Protocol, mJoin, mJoined, mPrepare, mConc, mCert, mVote, Next, AtStage, courseAt, Covers}
-use Rattle.rules.proofs.Protocol.{Certified, inst, joins, full, prepared, lost, unknown, certified, rejects}
+use Rattle.rules.proofs.ProtocolTables.{Protocol, mJoin, mJoined, mPrepare, mConc, mCert, mVote}
+use Rattle.rules.proofs.Protocol.{Next, AtStage, courseAt, Covers}
+use Rattle.rules.proofs.ProtocolTables.{inst}
+use Rattle.rules.proofs.Protocol.{Certified, joins, full, prepared, lost, unknown, certified, rejects}
 use Rattle.rules.proofs.Refines.{IsFree, sliceOf, SiteIs}
 use Rattle.rules.proofs.RefineLive.{Spot}
 use Rattle.rules.proofs.RefineSite.{site-sub, new-sub, new-stage}

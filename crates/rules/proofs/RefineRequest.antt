@@ -32,8 +32,10 @@ use Rattle.rules.specs.Course.{withCourseOf, sendAll, withRequest, prepa
 use Rattle.rules.specs.World.{upd}
 use Rattle.rules.specs.Book as book
 use Rattle.rules.proofs.Tables.{upd₂, upd₂-same, upd-same, upd-other, row-same, row-other}
-use Rattle.rules.proofs.Protocol.{Protocol, Msg, mPrepare, inst, Within, Moves, courseAt, AtStage, Certified, postedAll}
-use Rattle.rules.proofs.Protocol.{withCourseAt, set-gathered, set-asked, set-mask, set-made, set-list, request, stop, more}
+use Rattle.rules.proofs.ProtocolTables.{Protocol, Msg, mPrepare, inst}
+use Rattle.rules.proofs.Protocol.{Within, Moves, courseAt, AtStage, Certified, postedAll}
+use Rattle.rules.proofs.ProtocolTables.{set-gathered, set-asked, set-mask, set-made, set-list}
+use Rattle.rules.proofs.Protocol.{withCourseAt, request, stop, more}
 use Rattle.rules.proofs.Invariants.{In, Invariant}
 use Rattle.rules.proofs.Reached.{invariant-moves}
 use Rattle.rules.proofs.Refines.{IsFree, kindOf, clockIn, argumentIn, entriesIn, sliceOf, SiteIs}

@@ -20,7 +20,8 @@ use Rattle.rules.specs.SendLaws.{length-steps, steps-at}
 use Rattle.rules.specs.Course.{newSub, sentTo, takenFrom}
 use Rattle.rules.specs.World.{upd}
 use Rattle.rules.proofs.Tables.{upd₂, upd₂-cases, upd₂-same}
-use Rattle.rules.proofs.Protocol.{Msg, others}
+use Rattle.rules.proofs.ProtocolTables.{Msg}
+use Rattle.rules.proofs.Protocol.{others}
 use Rattle.rules.proofs.Refines.{IsFree, Sized, ChannelsAre, Slice, SiteIs}
 use Rattle.rules.proofs.RefineLive.{Spot, live-set, lists-set}
 

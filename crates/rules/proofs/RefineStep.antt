@@ -17,7 +17,8 @@ use Rattle.rules.specs.World.{World, Call, siteStep, logStep, messagesIn
 use Rattle.rules.specs.World as world
 use Rattle.rules.specs.Book.{Fact, factsOf}
 use Rattle.rules.proofs.Tables.{upd-cases, All, all-map, all-append, upd-three}
-use Rattle.rules.proofs.Protocol.{Protocol, Msg, mAbort, Moves, stop}
+use Rattle.rules.proofs.ProtocolTables.{Protocol, Msg, mAbort}
+use Rattle.rules.proofs.Protocol.{Moves, stop}
 use Rattle.rules.proofs.Told.{toldAll}
 use Rattle.rules.proofs.Refines.{Posted, encode, recWords, sliceOf, SiteIs, Refines}
 

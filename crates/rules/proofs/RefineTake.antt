@@ -11,7 +11,8 @@ use Rattle.kinds.specs.State.{withClock}
 use Rattle.rules.specs.House.{coordinatorOf}
 use Rattle.rules.specs.Course.{takenFrom, sentTo, sendTo}
 use Rattle.rules.proofs.Tables.{upd₂, row-other, column-other}
-use Rattle.rules.proofs.Protocol.{Protocol, Msg, Rec, Whole, Move, stop, more}
+use Rattle.rules.proofs.ProtocolTables.{Protocol, Msg, Rec}
+use Rattle.rules.proofs.Protocol.{Whole, Move, stop, more}
 use Rattle.rules.proofs.Told.{told}
 use Rattle.rules.proofs.Refines.{kindOf, txIn, clockIn, argumentIn, entriesIn, Posted, sliceOf, Slice, SiteIs}
 use Rattle.rules.proofs.RefineSite.{site-channels, site-clock, channels-one, channels-taken}

@@ -17,7 +17,8 @@ use Rattle.rules.specs.House.{coordinatorOf}
 use Rattle.rules.specs.Live.{placeOf}
 use Rattle.rules.specs.Course.{withQueueMark, withDecision}
 use Rattle.rules.proofs.Tables.{upd₂, row-same}
-use Rattle.rules.proofs.Protocol.{Protocol, courseAt}
+use Rattle.rules.proofs.ProtocolTables.{Protocol}
+use Rattle.rules.proofs.Protocol.{courseAt}
 use Rattle.rules.proofs.Refines.{IsFree, Sized, LiveIs, Slice, SiteIs}
 use Rattle.rules.proofs.RefineLive.{Spot, place-held, place-spot, place-none}
 use Rattle.rules.proofs.RefineSite.{live-in, site-sub}

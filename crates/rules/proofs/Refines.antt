@@ -29,8 +29,8 @@ use Rattle.rules.specs.Install.{stateWords}
 use Rattle.rules.specs.Valid.{siteOk}
 use Rattle.rules.specs.World.{World}
 use Rattle.rules.proofs.Tables.{All}
-use Rattle.rules.proofs.Protocol.{Protocol, Msg, mJoin, mJoined, mPrepare, mConc, mCert, mVote, mCommit, mAbort, Rec, rPart, rState}
-use Rattle.rules.proofs.Protocol.{partsOf}
+use Rattle.rules.proofs.ProtocolTables.{Protocol, Msg, mJoin, mJoined, mPrepare, mConc, mCert, mVote, mCommit, mAbort, Rec, rPart, rState}
+use Rattle.rules.proofs.ProtocolTables.{partsOf}
 
 -- The words of a message of the protocol, from a to b with channel number n.
 abbrev pub kindOf : Msg → ℕ

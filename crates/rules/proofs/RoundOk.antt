@@ -9,7 +9,8 @@ use Rattle.kinds.specs.Stage as stage
 use Rattle.kinds.specs.declared.Course.{Course}
 use Rattle.rules.specs.House.{coordinatorOf, inMask, maskOf}
 use Rattle.rules.specs.Course.{withParticipant, withReply}
-use Rattle.rules.proofs.Protocol.{Protocol, courseAt, Whole, Within}
+use Rattle.rules.proofs.ProtocolTables.{Protocol}
+use Rattle.rules.proofs.Protocol.{courseAt, Whole, Within}
 use Rattle.rules.proofs.Invariants.{In, Rounds}
 use Rattle.rules.proofs.Masks.{none-in, in-or-left, in-more, or-small, in-small}
 

@@ -7,7 +7,7 @@ use Rattle.rules.specs.World.{World, Call, Handed, Lawful, step, run, fr
 use Rattle.rules.specs.World as world
 use Rattle.rules.specs.Book.{Fact, factsOf, bookFrom}
 use Rattle.rules.proofs.Tables.{regroup}
-use Rattle.rules.proofs.Protocol.{Protocol}
+use Rattle.rules.proofs.ProtocolTables.{Protocol}
 use Rattle.rules.proofs.Stream.{Stream, Steps, freshStream}
 use Rattle.rules.proofs.StreamReached.{Standing, standing-steps, standing-fresh}
 use Rattle.rules.proofs.Told.{toldSteps}

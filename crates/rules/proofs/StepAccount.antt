@@ -12,7 +12,8 @@ use Rattle.kinds.specs.Stage as stage
 use Rattle.kinds.specs.State.{noSub}
 use Rattle.rules.specs.House.{coordinatorOf, inMask}
 use Rattle.rules.specs.Install.{entryOf}
-use Rattle.rules.proofs.Protocol.{Protocol, inst, courseAt, Whole, Within, Move, freshProtocol}
+use Rattle.rules.proofs.ProtocolTables.{Protocol, inst}
+use Rattle.rules.proofs.Protocol.{courseAt, Whole, Within, Move, freshProtocol}
 use Rattle.rules.proofs.Invariants.{Held, at, Installed, In, Account, Invariant}
 use Rattle.rules.proofs.Masks.{all-heard}
 use Rattle.rules.proofs.Frames.{said}

@@ -14,7 +14,8 @@ use Rattle.kinds.specs.State.{noSub, pastEntry}
 use Rattle.rules.specs.House.{coordinatorOf}
 use Rattle.rules.specs.Install.{entryOf}
 use Rattle.rules.proofs.Tables.{All, a-nil, a-cons, all-map, all-append, all-one}
-use Rattle.rules.proofs.Protocol.{Protocol, Rec, rPart, rState, partsOf, AtStage, courseAt, Move, freshProtocol}
+use Rattle.rules.proofs.ProtocolTables.{Protocol, Rec, rPart, rState, partsOf}
+use Rattle.rules.proofs.Protocol.{AtStage, courseAt, Move, freshProtocol}
 use Rattle.rules.proofs.Invariants.{at, RecLow, Clocks, Invariant}
 use Rattle.rules.proofs.Turns.{Turn, t-stays, t-moves, t-reads, t-aborts, t-installs, t-begins, Logged, l-same, l-part, l-state}
 use Rattle.rules.proofs.News.{YesNow, NumNow}

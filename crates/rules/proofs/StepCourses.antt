@@ -13,7 +13,8 @@ use Rattle.rules.specs.Message.{entryCount}
 use Rattle.rules.specs.Course.{newSub, withParticipant, withReply, withDecision, withQueueMark, withRequest, withStage}
 use Rattle.rules.specs.World.{upd}
 use Rattle.rules.proofs.Tables.{upd₂, upd-same, upd-cases, upd₂-cases, upd-both, upd₂-both, upd₂-three}
-use Rattle.rules.proofs.Protocol.{Protocol, set-asked, set-mask, set-made, set-yes, set-queue-mark, set-num, withLive, withCourseAt}
+use Rattle.rules.proofs.ProtocolTables.{Protocol, set-asked, set-mask, set-made, set-yes, set-queue-mark, set-num}
+use Rattle.rules.proofs.Protocol.{withLive, withCourseAt}
 use Rattle.rules.proofs.Protocol.{AtStage, courseAt, Move, begin, enlist, access, request, abort, cast, decide, install, report}
 use Rattle.rules.proofs.Protocol.{joins, full, joined, prepared, lost, unknown, gathers, certified, rejects, votes, commits, aborts}
 use Rattle.rules.proofs.Protocol.{passes, freshProtocol}

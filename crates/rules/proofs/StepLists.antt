@@ -17,7 +17,8 @@ use Rattle.rules.specs.House.{inMask}
 use Rattle.rules.specs.Message.{entryTx, entryMask, entryMark, entryCount}
 use Rattle.rules.specs.Keys.{dependent}
 use Rattle.rules.specs.Live.{isPrepared}
-use Rattle.rules.proofs.Protocol.{Protocol, inst, AtStage, Covers, Listed, Move, freshProtocol}
+use Rattle.rules.proofs.ProtocolTables.{Protocol, inst}
+use Rattle.rules.proofs.Protocol.{AtStage, Covers, Listed, Move, freshProtocol}
 use Rattle.rules.proofs.Invariants.{Held, at, InstalledAs, Installed, Seen, Account, Lists, Invariant}
 use Rattle.rules.proofs.News.{MadeNow, YesNow}
 use Rattle.rules.proofs.Changes.{Change, change, stands, snap-kept, keys-kept, saw}

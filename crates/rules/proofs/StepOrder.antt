@@ -19,7 +19,8 @@ use Rattle.rules.specs.Live.{isQueued}
 use Rattle.rules.specs.Queue.{queuedBefore}
 use Rattle.rules.specs.Install.{entryOf}
 use Rattle.rules.proofs.Tables.{All, a-nil, a-cons, all-append, all-one, all-map}
-use Rattle.rules.proofs.Protocol.{Protocol, Rec, rPart, rState, partsOf, AtStage, LeastQueued, Move, freshProtocol, courseAt, Bound}
+use Rattle.rules.proofs.ProtocolTables.{Protocol, Rec, rPart, rState, partsOf}
+use Rattle.rules.proofs.Protocol.{AtStage, LeastQueued, Move, freshProtocol, courseAt, Bound}
 use Rattle.rules.proofs.Invariants.{at, Installed, RecLow, RecBelow, Ascending, Order, Invariant, Held, Courses, Account}
 use Rattle.rules.proofs.Invariants.{StandsBefore}
 use Rattle.rules.proofs.Turns.{Logged, l-same, l-part, l-state, installed-last, Turn, t-stays, t-moves, t-reads, t-aborts}

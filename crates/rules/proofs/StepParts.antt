@@ -19,10 +19,13 @@ use Rattle.rules.specs.Course.{newSub}
 use Rattle.rules.specs.Install.{entryOf}
 use Rattle.rules.specs.World.{upd}
 use Rattle.rules.proofs.Tables.{upd₂, upd-same, upd-cases, upd₂-cases, upd₂-same, upd₂-both, last-cases}
-use Rattle.rules.proofs.Protocol.{Protocol, Rec, rPart, rState, partsOf, inst, AtStage, beganAt, withLive, set-serial, set-keys}
-use Rattle.rules.proofs.Protocol.{set-log, took, Move, begin, enlist, access, request, abort, cast, decide, install, report, joins}
+use Rattle.rules.proofs.ProtocolTables.{Protocol, Rec, rPart, rState, partsOf, inst, set-serial, set-keys}
+use Rattle.rules.proofs.Protocol.{AtStage, beganAt, withLive}
+use Rattle.rules.proofs.ProtocolTables.{set-log}
+use Rattle.rules.proofs.Protocol.{took, Move, begin, enlist, access, request, abort, cast, decide, install, report, joins}
 use Rattle.rules.proofs.Protocol.{full, joined, prepared, lost, unknown, gathers, certified, rejects, votes, commits, aborts, passes}
-use Rattle.rules.proofs.Protocol.{freshProtocol, mJoin, Next}
+use Rattle.rules.proofs.ProtocolTables.{mJoin}
+use Rattle.rules.proofs.Protocol.{freshProtocol, Next}
 use Rattle.rules.proofs.Invariants.{Held, at, Parts, Invariant}
 use Rattle.rules.proofs.Frames.{kept₂, said, ends, tx-coordinator, tx-serial, new-tx, new-join}
 

@@ -17,7 +17,8 @@ use Rattle.rules.specs.Live.{allHeard}
 use Rattle.rules.specs.Course.{newSub, withParticipant, withReply, withDecision, withQueueMark, withRequest, withStage}
 use Rattle.rules.specs.World.{upd}
 use Rattle.rules.proofs.Tables.{upd₂, upd-same, upd-other, upd₂-same, upd₂-cases, upd₂-other}
-use Rattle.rules.proofs.Protocol.{Protocol, Msg, mJoin, mJoined, mPrepare, mConc, mCert, mVote, mCommit, mAbort, inst, AtStage}
+use Rattle.rules.proofs.ProtocolTables.{Protocol, Msg, mJoin, mJoined, mPrepare, mConc, mCert, mVote, mCommit, mAbort, inst}
+use Rattle.rules.proofs.Protocol.{AtStage}
 use Rattle.rules.proofs.Protocol.{courseAt, Move, begin, enlist, access, request, abort, cast, decide, install, report, joins, full}
 use Rattle.rules.proofs.Protocol.{joined, prepared, lost, unknown, gathers, certified, rejects, votes, commits, aborts, passes}
 use Rattle.rules.proofs.Protocol.{freshProtocol}

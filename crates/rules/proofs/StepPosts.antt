@@ -10,7 +10,8 @@ use Rattle.laws.specs.Choice.{set-not}
 use Rattle.kinds.specs.State.{noSub}
 use Rattle.rules.specs.House.{coordinatorOf, inMask}
 use Rattle.rules.proofs.Tables.{All, a-nil, all-map, all-append, all-one, all-at, last-cases}
-use Rattle.rules.proofs.Protocol.{Protocol, Msg, mJoin, mJoined, mPrepare, mConc, mCert, mVote, mCommit, mAbort, courseAt, Move}
+use Rattle.rules.proofs.ProtocolTables.{Protocol, Msg, mJoin, mJoined, mPrepare, mConc, mCert, mVote, mCommit, mAbort}
+use Rattle.rules.proofs.Protocol.{courseAt, Move}
 use Rattle.rules.proofs.Protocol.{freshProtocol}
 use Rattle.rules.proofs.Invariants.{Held, In, MsgOk, Posts, Invariant}
 use Rattle.rules.proofs.Frames.{in-range}

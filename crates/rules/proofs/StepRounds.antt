@@ -15,7 +15,8 @@ use Rattle.kinds.specs.State.{noSub}
 use Rattle.rules.specs.House.{coordinatorOf, inMask, maskOf}
 use Rattle.rules.specs.Course.{newSub, withParticipant, withReply, withDecision, withQueueMark, withRequest, isOutstanding}
 use Rattle.rules.proofs.Tables.{upd₂, upd-same, upd-other, upd₂-same, upd₂-cases, Other₂}
-use Rattle.rules.proofs.Protocol.{Protocol, AtStage, courseAt, Whole, Move, begin, enlist, access, request, abort, cast, decide}
+use Rattle.rules.proofs.ProtocolTables.{Protocol}
+use Rattle.rules.proofs.Protocol.{AtStage, courseAt, Whole, Move, begin, enlist, access, request, abort, cast, decide}
 use Rattle.rules.proofs.Protocol.{install, report, joins, full, joined, prepared, lost, unknown, gathers, certified, rejects, votes}
 use Rattle.rules.proofs.Protocol.{commits, aborts, passes, freshProtocol}
 use Rattle.rules.proofs.Invariants.{Held, In, Rounds, Invariant}

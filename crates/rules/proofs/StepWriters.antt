@@ -12,7 +12,8 @@ use Rattle.kinds.specs.State.{noSub}
 use Rattle.rules.specs.KeysLaws.{none-written}
 use Rattle.rules.specs.Keys.{wroteKey}
 use Rattle.rules.specs.Install.{entryOf}
-use Rattle.rules.proofs.Protocol.{Protocol, inst, Move, freshProtocol}
+use Rattle.rules.proofs.ProtocolTables.{Protocol, inst}
+use Rattle.rules.proofs.Protocol.{Move, freshProtocol}
 use Rattle.rules.proofs.Invariants.{Held, at, Writers, Invariant}
 use Rattle.rules.proofs.Turns.{Unwritten, Turn, t-stays, t-moves, t-reads, t-aborts, t-installs, t-begins}
 use Rattle.rules.proofs.Changes.{Change, change, InstalledNow, stands, stood, part-new, snap-kept, keys-kept}

@@ -13,7 +13,8 @@ use Rattle.kinds.specs.declared.Entry.{Entry}
 use Rattle.kinds.specs.State.{noKeys}
 use Rattle.rules.specs.House.{coordinatorOf, inMask}
 use Rattle.rules.specs.World.{upd}
-use Rattle.rules.proofs.Protocol.{Protocol, Rec, rPart, rState, Move, freshProtocol}
+use Rattle.rules.proofs.ProtocolTables.{Protocol, Rec, rPart, rState}
+use Rattle.rules.proofs.Protocol.{Move, freshProtocol}
 
 -- What is emitted of a transaction: its number, its participants, and the keys of its part at each of them.
 pub record Item : Type 0 where

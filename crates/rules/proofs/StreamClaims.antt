@@ -18,7 +18,7 @@ use Rattle.kinds.specs.declared.House.{House}
 use Rattle.kinds.specs.declared.Keys.{Keys}
 use Rattle.rules.specs.House.{coordinatorOf, inMask, homeOf}
 use Rattle.rules.specs.Keys.{wroteKey, wroteValue}
-use Rattle.rules.proofs.Protocol.{Protocol}
+use Rattle.rules.proofs.ProtocolTables.{Protocol}
 use Rattle.rules.proofs.Invariants.{In, Invariant}
 use Rattle.rules.proofs.Committed.{committed-asked, committed-in}
 use Rattle.rules.proofs.Stream.{Item, Merger, itemRank}

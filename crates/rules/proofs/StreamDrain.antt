@@ -12,7 +12,8 @@ use Rattle.kinds.specs.Stage as stage
 use Rattle.kinds.specs.declared.Entry.{Entry}
 use Rattle.rules.specs.House.{coordinatorOf}
 use Rattle.rules.proofs.Tables.{all-take}
-use Rattle.rules.proofs.Protocol.{Protocol, inst, AtStage}
+use Rattle.rules.proofs.ProtocolTables.{Protocol, inst}
+use Rattle.rules.proofs.Protocol.{AtStage}
 use Rattle.rules.proofs.Invariants.{at, Installed, Invariant}
 use Rattle.rules.proofs.Stream.{Merger, rankOf, itemRank}
 use Rattle.rules.proofs.StreamInv.{itemAt, Out, Streamed, gone, inst-split, head-at, not-gone}

@@ -12,7 +12,7 @@ use Rattle.kinds.specs.declared.Entry.{Entry}
 use Rattle.kinds.specs.State.{pastEntry}
 use Rattle.rules.specs.House.{coordinatorOf}
 use Rattle.rules.proofs.Tables.{All, a-nil, a-cons, all-left, all-right, all-take, all-head}
-use Rattle.rules.proofs.Protocol.{Protocol, Rec, rPart, rState, partsOf, inst}
+use Rattle.rules.proofs.ProtocolTables.{Protocol, Rec, rPart, rState, partsOf, inst}
 use Rattle.rules.proofs.Invariants.{at, In, RecLow, RecBelow, Invariant, Ascending, StandsBefore}
 use Rattle.rules.proofs.Committed.{low-coordinator, committed-in}
 use Rattle.rules.proofs.Stream.{Merger, rankOf, DueAt}

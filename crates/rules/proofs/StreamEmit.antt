@@ -17,7 +17,8 @@ use Rattle.kinds.specs.Stage as stage
 use Rattle.kinds.specs.declared.Entry.{Entry}
 use Rattle.rules.specs.House.{coordinatorOf, inMask}
 use Rattle.rules.proofs.Tables.{last-cases}
-use Rattle.rules.proofs.Protocol.{Protocol, inst, AtStage}
+use Rattle.rules.proofs.ProtocolTables.{Protocol, inst}
+use Rattle.rules.proofs.Protocol.{AtStage}
 use Rattle.rules.proofs.Invariants.{at, In, Installed, Invariant}
 use Rattle.rules.proofs.Committed.{low-coordinator, committed-asked, coordinator-site}
 use Rattle.rules.proofs.Stream.{Item, Merger, rankOf, itemRank, DueAt, SameHead, WholeAt, Emits, headKeys, behindHead, itemOf}

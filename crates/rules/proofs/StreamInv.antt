@@ -16,7 +16,7 @@ use Rattle.kinds.specs.declared.Entry.{Entry}
 use Rattle.kinds.specs.State.{noKeys, pastEntry}
 use Rattle.rules.specs.House.{coordinatorOf, inMask}
 use Rattle.rules.proofs.Tables.{All, a-nil}
-use Rattle.rules.proofs.Protocol.{Protocol, Rec, rPart, rState, partsOf, inst}
+use Rattle.rules.proofs.ProtocolTables.{Protocol, Rec, rPart, rState, partsOf, inst}
 use Rattle.rules.proofs.Invariants.{at, In, Invariant}
 use Rattle.rules.proofs.StepParts.{parts-append}
 use Rattle.rules.proofs.Committed.{low-coordinator}

@@ -13,7 +13,7 @@ use Rattle.kinds.specs.declared.Entry.{Entry}
 use Rattle.kinds.specs.State.{pastEntry}
 use Rattle.rules.specs.World.{upd}
 use Rattle.rules.proofs.Tables.{All, a-nil, a-cons}
-use Rattle.rules.proofs.Protocol.{Protocol, Rec, rPart, rState, partsOf}
+use Rattle.rules.proofs.ProtocolTables.{Protocol, Rec, rPart, rState, partsOf}
 use Rattle.rules.proofs.Invariants.{RecBelow, Ascending, Invariant, StandsBefore}
 use Rattle.rules.proofs.Changes.{change}
 use Rattle.rules.proofs.Stream.{Merger, rankOf, Merging, takePart, takeState, emit, Stream, Steps, stop, more, moves, merges}

@@ -5,7 +5,8 @@ use mathlib.Core.List.{List, [], _∷_, _++_, append-nil}
 use native.Mathlib.Omega.{arith}
 use lib.ListN.{length, length-append}
 use Rattle.rules.proofs.Tables.{upd-cases}
-use Rattle.rules.proofs.Protocol.{Protocol, freshProtocol}
+use Rattle.rules.proofs.ProtocolTables.{Protocol}
+use Rattle.rules.proofs.Protocol.{freshProtocol}
 use Rattle.rules.proofs.Invariants.{Invariant}
 use Rattle.rules.proofs.Changes.{change}
 use Rattle.rules.proofs.Reached.{invariant-step, invariant-fresh}

@@ -15,7 +15,7 @@ use Rattle.kinds.specs.declared.Entry.{Entry}
 use Rattle.rules.specs.House.{coordinatorOf}
 use Rattle.rules.specs.World.{upd}
 use Rattle.rules.proofs.Tables.{all-map, all-append, all-one}
-use Rattle.rules.proofs.Protocol.{Protocol, Rec, rPart, rState}
+use Rattle.rules.proofs.ProtocolTables.{Protocol, Rec, rPart, rState}
 use Rattle.rules.proofs.Invariants.{Invariant}
 use Rattle.rules.proofs.StepParts.{parts-append}
 use Rattle.rules.proofs.Turns.{Logged, l-same, l-part, l-state}

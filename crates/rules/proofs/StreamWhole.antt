@@ -11,7 +11,8 @@ use Rattle.laws.specs.Choice.{by-test, set-not}
 use Rattle.kinds.specs.Stage as stage
 use Rattle.kinds.specs.declared.Entry.{Entry}
 use Rattle.rules.specs.House.{coordinatorOf, inMask}
-use Rattle.rules.proofs.Protocol.{Protocol, inst, AtStage}
+use Rattle.rules.proofs.ProtocolTables.{Protocol, inst}
+use Rattle.rules.proofs.Protocol.{AtStage}
 use Rattle.rules.proofs.Invariants.{Held, at, In, Installed, Invariant}
 use Rattle.rules.proofs.Committed.{committed-asked, committed-alive, committed-in}
 use Rattle.rules.proofs.StepOrder.{yes-queued}

@@ -4,7 +4,8 @@ use mathlib.Core.List.{List, [], _∷_, _++_}
 use Rattle.rules.specs.House.{coordinatorOf}
 use Rattle.rules.specs.Book as book
 use Rattle.rules.specs.Book.{Fact}
-use Rattle.rules.proofs.Protocol.{Protocol, Move, Moves, courseAt, begin, enlist, access, request, abort, cast, decide, install}
+use Rattle.rules.proofs.ProtocolTables.{Protocol}
+use Rattle.rules.proofs.Protocol.{Move, Moves, courseAt, begin, enlist, access, request, abort, cast, decide, install}
 use Rattle.rules.proofs.Protocol.{report, joins, full, joined, prepared, lost, unknown, gathers, certified, rejects, votes, commits}
 use Rattle.rules.proofs.Protocol.{aborts, passes, stop, more}
 use Rattle.rules.proofs.Stream as stream

@@ -14,7 +14,8 @@ use Rattle.rules.specs.Keys.{wroteKey}
 use Rattle.rules.specs.Course.{newSub, withParticipant, withReply, withDecision, withQueueMark, withRequest, withStage}
 use Rattle.rules.specs.Install.{entryOf}
 use Rattle.rules.proofs.Tables.{upd₂, upd-same, upd-cases, upd₂-same, upd₂-cases, Other₂, here₂, upd₂-other}
-use Rattle.rules.proofs.Protocol.{Protocol, Rec, rPart, rState, partsOf, inst, AtStage, courseAt, LeastQueued, StateAt, Move, begin}
+use Rattle.rules.proofs.ProtocolTables.{Protocol, Rec, rPart, rState, partsOf, inst}
+use Rattle.rules.proofs.Protocol.{AtStage, courseAt, LeastQueued, StateAt, Move, begin}
 use Rattle.rules.proofs.Protocol.{enlist, access, request, abort, cast, decide, install, report, joins, full, joined, prepared, lost}
 use Rattle.rules.proofs.Protocol.{unknown, gathers, certified, rejects, votes, commits, aborts, passes}
 use Rattle.rules.proofs.Invariants.{Held, at, Installed, Invariant}

@@ -26,7 +26,8 @@ use Rattle.rules.specs.CallLaws.{install-clear, report-clear}
 use Rattle.rules.specs.World.{World, Call, step, siteStep, logStep, mergerStep, mergeStep, copyStep, replayStep, recordIn}
 use Rattle.rules.specs.World as world
 use Rattle.rules.proofs.Tables.{upd-cases, All, all-append, all-one}
-use Rattle.rules.proofs.Protocol.{Protocol, AtStage}
+use Rattle.rules.proofs.ProtocolTables.{Protocol}
+use Rattle.rules.proofs.Protocol.{AtStage}
 use Rattle.rules.proofs.Invariants.{Invariant}
 use Rattle.rules.proofs.Refines.{Refines}
 use Rattle.rules.proofs.RefineTurn.{part-place}

@@ -1,7 +1,7 @@
 // The lines that no site takes part in: those of the merger, and of the copies that its stream goes to.
 mod asked;
 
-pub use asked::HELD;
+pub use asked::ALL_COPIES;
 use asked::at_copy;
 use asked::at_merger;
 pub use asked::start_copies;
@@ -21,6 +21,7 @@ ghost use mathlib.Core.Path.{_≡_};
 ghost use Prim.Native.Nat.{_-_};
 ghost use lib.Dec.{ltb};
 ghost use Rattle.laws.specs.Choice.{pick};
+ghost use Rattle.routing.specs.Route.{firstCopy, copies};
 
 // What a line of the merger leaves.
 pub struct Streamed {
@@ -51,7 +52,7 @@ pub fn merged(
 
 // The copy in a place, less 1; COPIES or more where none is.
 fn copy_in(place: usize) -> usize
-    ensures { λ r. ⌜ r ≡ pick (ltb place 9) 8 (place - 9) ⌝ }
+    ensures { λ r. ⌜ r ≡ pick (ltb place firstCopy) copies (place - firstCopy) ⌝ }
 {
     if place < FIRST_COPY {
         return COPIES;
@@ -65,7 +66,7 @@ pub fn copied(
     fd: i32,
     store: &mut [u64; STORE],
     item: &[u64; ITEM],
-    held: &mut [u64; HELD],
+    tables: &mut [u64; ALL_COPIES],
     out: &[u64; OUTGOING],
     page: &mut [u8; PAGE],
 ) -> Play {
@@ -75,6 +76,6 @@ pub fn copied(
         return d;
     }
     let c = a.command;
-    let answer = at_copy(c, i, held, item, a.words);
+    let answer = at_copy(c, i, tables, item, a.words);
     settled(a, answer, 0, out, fd, store, page)
 }

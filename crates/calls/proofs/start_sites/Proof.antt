@@ -9,10 +9,10 @@ use Rattle.calls.proofs.start_sites.Statement.{statement}
 use Rattle.calls.proofs.start_sites.Tie as tie
 
 abbrev Inv-loop : tie.InvT-loop
-Inv-loop n live₀ history₀ base₀ lists₀ sites₀ i₀ live history base lists sites i = Tables live history base lists × (length sites ≡ sizes.sites)
+Inv-loop _ _ _ _ _ _ _ live history base lists sites i = Tables live history base lists × (length sites ≡ sizes.sites)
 
 abbrev μ-loop : tie.MeasureT-loop
-μ-loop n live₀ history₀ base₀ lists₀ sites₀ i₀ live history base lists sites i = sizes.sites - i
+μ-loop _ _ _ _ _ _ _ _ _ _ _ _ i = sizes.sites - i
 
 -- the turn's start, seen from its end
 abbrev called : tie.After-slice-known12 Inv-loop μ-loop → tie.After-start-at2 Inv-loop μ-loop

@@ -1,8 +1,8 @@
-use mathlib.Core.Path.{_≡_, refl, sym, _∙_}
+-- Each arm leaves what the call that it makes promises.
+use mathlib.Core.Path.{_≡_, refl}
 use borrow.Author.Needs.{needs}
 use Prim.Native.Nat.{ℕ}
 use mathlib.Core.List.{List, [], _∷_}
-use lib.ListN.{length}
 use denote.Enum.Declared.{tagOf}
 use types.Run.{OneOf, miss}
 use Rattle.laws.specs.Overlay.{overlay, overlay-none}
@@ -14,7 +14,7 @@ use Rattle.lent.specs.Lent.{siteOf, Replied}
 use Rattle.lines.proofs.Command.{the-type}
 use Rattle.lines.specs.declared.Command.{Command}
 use Rattle.lines.specs.declared.Command.the-variants as command
-use Rattle.calls.specs.Calls.{effectOf, baseLeft, listsLeft, begin-quiet, read-quiet, write-quiet}
+use Rattle.calls.specs.Calls.{OwnLeaves, effectOf, baseLeft, listsLeft, begin-quiet, read-quiet, write-quiet}
 use Rattle.calls.proofs.own.own_call.Statement.{statement}
 use Rattle.calls.proofs.own.own_call.Tie as tie
 
@@ -28,9 +28,7 @@ others = 0 ∷ 7 ∷ 10 ∷ 11 ∷ 12 ∷ 13 ∷ 14 ∷ []
 
 -- what the line leaves, where its effect is a refusal
 abbrev Leaves : Core → Command → List ℕ → List ℕ → List ℕ → List ℕ → List ℕ → Reply → Type 0
-Leaves p c w h base lists out r =
-    let e = effectOf c (siteOf p w h) base lists (length out) in
-    Replied p w h r w h e × ((base ≡ baseLeft c e base) × ((lists ≡ listsLeft c e lists) × (out ≡ overlay out (e .words))))
+Leaves p c w h base lists out r = OwnLeaves c p w h base lists out r w h base lists out
 
 other : (p : Core) (c : Command) (w h base lists out : List ℕ) (r : Reply) → OneOf others (tagOf the-type c)
     → Replied p w h r w h (refused reason.malformed (siteOf p w h) []) → Leaves p c w h base lists out r

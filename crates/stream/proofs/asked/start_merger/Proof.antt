@@ -1,4 +1,4 @@
--- The merger is what its start hands back.
+-- The merger and its queues are what the start hands back.
 use borrow.Author.Needs.{needs}
 use mathlib.Core.Path.{ap}
 use Rattle.stream.proofs.asked.start_merger.Statement.{statement}
@@ -8,7 +8,9 @@ start-requires : tie.Need-start-requires
 start-requires c κs = search needs
 
 returns : tie.Need-returns
-returns c = ap (λ o. o .merger) (c .before .start .ensures .0)
+returns c =
+    let call = c .before in
+    (ap (λ o. o .merger) (call .start .ensures .0), call .start .ensures .1)
 
 pub start-merger-spec : {M : Type 1} → statement M
 start-merger-spec = tie.close (tie.spec start-requires returns)
