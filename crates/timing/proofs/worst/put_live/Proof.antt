@@ -15,8 +15,8 @@ abbrev μ-loop : tie.MeasureT-loop
 loop-holds : tie.Need-loop-holds Inv-loop μ-loop
 loop-holds c = search needs
 
-mul-part-mut : tie.Need-mul-part-mut Inv-loop μ-loop
-mul-part-mut c = search needs
+mul-piece-mut : tie.Need-mul-piece-mut Inv-loop μ-loop
+mul-piece-mut c = search needs
 
 piece-mut-requires : tie.Need-piece-mut-requires Inv-loop μ-loop
 piece-mut-requires c κs = search needs
@@ -24,8 +24,8 @@ piece-mut-requires c κs = search needs
 put-place-requires : tie.Need-put-place-requires Inv-loop μ-loop
 put-place-requires c κs = search needs
 
-mul-part-mut-2 : tie.Need-mul-part-mut-2 Inv-loop μ-loop
-mul-part-mut-2 c = search needs
+mul-piece-mut-2 : tie.Need-mul-piece-mut-2 Inv-loop μ-loop
+mul-piece-mut-2 c = search needs
 
 piece-mut-requires-2 : tie.Need-piece-mut-requires-2 Inv-loop μ-loop
 piece-mut-requires-2 c κs = search needs
@@ -58,10 +58,10 @@ put-live-spec =
     Inv-loop
     μ-loop
     loop-holds
-    mul-part-mut
+    mul-piece-mut
     piece-mut-requires
     put-place-requires
-    mul-part-mut-2
+    mul-piece-mut-2
     piece-mut-requires-2
     put-entries-requires
     add-i
