@@ -11,7 +11,7 @@ use Rattle.laws.specs.Choice.{every}
 use Rattle.rules.specs.World.{Member}
 use Rattle.rules.specs.Book.{Fact, began, used, wrote, committed, installed, replayed}
 use Rattle.rules.specs.Claim.{Demand3, Committed, Dependent, on-write-of-other, Parts, Saw, NoneHalfSeen}
-use Rattle.rules.proofs.Theorem.{demand3}
+use Rattle.rules.proofs.demand.Theorem.{demand3}
 use Rattle.played.specs.Second.{secondCalls, secondBook, spanning, halfSeeing, later}
 use Rattle.played.specs.Seen.{SawBoth, SawHalf}
 use Rattle.played.proofs.Playable.{is-at}

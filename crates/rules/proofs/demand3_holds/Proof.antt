@@ -1,5 +1,5 @@
 -- Demand 3 is the theorem.
-use Rattle.rules.proofs.Theorem.{demand3}
+use Rattle.rules.proofs.demand.Theorem.{demand3}
 use Rattle.rules.proofs.demand3_holds.Statement.{statement}
 use Rattle.rules.proofs.demand3_holds.Tie as tie
 

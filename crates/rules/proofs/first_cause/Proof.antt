@@ -1,5 +1,5 @@
 -- The first cause, as every call and every start returns it.
-use Rattle.rules.proofs.FirstCause.{first-cause}
+use Rattle.rules.proofs.refusals.FirstCause.{first-cause}
 use Rattle.rules.proofs.first_cause.Statement.{statement}
 use Rattle.rules.proofs.first_cause.Tie as tie
 

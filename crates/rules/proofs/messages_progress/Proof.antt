@@ -1,5 +1,5 @@
 -- The claim is the theorem.
-use Rattle.rules.proofs.Progress.{messages-progress}
+use Rattle.rules.proofs.messages.Progress.{messages-progress}
 use Rattle.rules.proofs.messages_progress.Statement.{statement}
 use Rattle.rules.proofs.messages_progress.Tie as tie
 

@@ -1,5 +1,5 @@
 -- The claim is the theorem.
-use Rattle.rules.proofs.ReadsRight.{reads-right}
+use Rattle.rules.proofs.reads.ReadsRight.{reads-right}
 use Rattle.rules.proofs.reads_right.Statement.{statement}
 use Rattle.rules.proofs.reads_right.Tie as tie
 

@@ -1,5 +1,5 @@
 -- The claim is the theorem.
-use Rattle.rules.proofs.Records.{records-progress}
+use Rattle.rules.proofs.records.Records.{records-progress}
 use Rattle.rules.proofs.records_progress.Statement.{statement}
 use Rattle.rules.proofs.records_progress.Tie as tie
 

@@ -1,5 +1,5 @@
 -- Refusals leave all as it was.
-use Rattle.rules.proofs.Unaltered.{refused-leaves}
+use Rattle.rules.proofs.refusals.Unaltered.{refused-leaves}
 use Rattle.rules.proofs.refused_leaves.Statement.{statement}
 use Rattle.rules.proofs.refused_leaves.Tie as tie
 

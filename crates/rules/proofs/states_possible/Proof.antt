@@ -1,5 +1,5 @@
 -- The claim is the theorem.
-use Rattle.rules.proofs.Possible.{possible}
+use Rattle.rules.proofs.possible.Possible.{possible}
 use Rattle.rules.proofs.states_possible.Statement.{statement}
 use Rattle.rules.proofs.states_possible.Tie as tie
 

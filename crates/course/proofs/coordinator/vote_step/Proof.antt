@@ -4,7 +4,6 @@ use borrow.Author.Tests.{eq-eqb, ne-eqb}
 use mathlib.Core.Path.{_∙_, _≡_, ap, sym}
 use Rattle.kinds.specs.declared.Course.{Course}
 use Rattle.laws.specs.Overlay.{overlay-none}
-use Rattle.rules.proofs.Invariants.{at}
 use Rattle.rules.specs.Course.{quietly, voteDecides, voteStep, withReply}
 use Rattle.rules.specs.CourseLaws.{all-course}
 use Rattle.course.proofs.coordinator.vote_step.Statement.{statement}

@@ -1,0 +1,4 @@
+-- Tables and lists, masks and entries.
+pub mod Tables
+pub mod Masks
+pub mod Entries

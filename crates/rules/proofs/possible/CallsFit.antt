@@ -1,0 +1,186 @@
+-- The calls of a site that are no messages leave it possible, and write messages that pass the check.
+use Prim.Native.Nat.{ℕ, _+_, _≤_, _<_}
+use mathlib.Core.Path.{_≡_, refl}
+use mathlib.Core.Bool.{true, false}
+use mathlib.Core.List.{List, []}
+use native.Mathlib.Omega.{arith}
+use borrow.Author.Tests.{le-leb}
+use lib.ListN.{length, getD, set}
+use lib.Seq.{getD-set-same, getD-set-other}
+use Rattle.laws.specs.Choice.{by-test, by-same, set-not}
+use Rattle.kinds.specs.Sizes as sizes
+use Rattle.kinds.specs.State.{Value, subAt, withKeys, withSerial}
+use Rattle.kinds.specs.declared.House.{House}
+use Rattle.kinds.specs.declared.Keys.{Keys}
+use Rattle.kinds.specs.declared.Counters.{Counters}
+use Rattle.kinds.specs.declared.Site.{Site}
+use Rattle.rules.specs.House.{isSite, isTx, isMask, maskOf, homeOf}
+use Rattle.rules.specs.Keys.{keysOk, wroteKey, readKey, withRead, withWrite}
+use Rattle.rules.specs.Live.{placeOf, freePlace, stageAt}
+use Rattle.rules.specs.History.{isForgotten}
+use Rattle.rules.specs.Valid.{siteOk, listAt, countersOk}
+use Rattle.rules.specs.ValidLaws.{ValidKeys, ValidSite, counters-own, counters-serial}
+use Rattle.rules.specs.Effect.{turnAt}
+use Rattle.rules.specs.Course.{newSub, withSubOf}
+use Rattle.rules.specs.Begin.{nextTx, beginCode, begun, beginOf, begin-clear}
+use Rattle.rules.specs.Access.{accessCode, readCode, readVersion, readAt, readOf, writeCodeAt, written, writeAt, writeOf}
+use Rattle.rules.specs.CallLaws.{access-clear, read-clear, write-clear}
+use Rattle.rules.specs.MergerWords.{above}
+use Rattle.rules.proofs.protocol.Frames.{tx-coordinator, tx-serial}
+use Rattle.rules.proofs.refine.Refines.{Sized}
+use Rattle.rules.proofs.refine.RefineLive.{place-held}
+use Rattle.rules.proofs.refine.RefineMail.{none}
+use Rattle.rules.proofs.possible.ValidMade.{site-mask, keys-made, keys-back, no-keys, site-tests}
+use Rattle.rules.proofs.possible.CourseFits.{new-fits}
+use Rattle.rules.proofs.possible.StepsFit.{Fits, TurnFits, quietly-fits}
+use Rattle.rules.proofs.possible.SitesFit.{Sound, EffectFits, site-ok, site-valid, part-at, old-fits, held-there, changed-fits}
+use Rattle.rules.proofs.possible.SitesFit.{unless-fits}
+
+-- Begin: one serial more, and a transaction of this site.
+serial-fits : (o : House) (c : Counters) (n : ℕ) → countersOk o c ≡ true → n ≤ sizes.lastSerial → countersOk o (withSerial c n) ≡ true
+unfolding countersOk
+serial-fits o c n e h =
+    let old = le-leb (c .serial) sizes.lastSerial (omega (arith, counters-serial o c e)) in
+    rw (le-leb n sizes.lastSerial h) (rw old at e)
+
+next-possible : (o : House) (c : Counters) → isSite o (c .own) ≡ true → c .serial < sizes.lastSerial → isTx o (nextTx c) ≡ true
+unfolding isTx nextTx
+next-possible o c e h =
+    let n = c .serial + 1 in
+    rw (tx-coordinator (c .own) n (omega arith), tx-serial (c .own) n (omega arith), e, le-leb 1 n (omega arith))
+
+-- a part that begins: no reply yet, and no keys
+pub new-part : (s : Site) (es : List ℕ) (c : Counters) (t mask : ℕ) → ValidSite s → c .own ≡ s .counters .own
+    → c .installs ≡ s .counters .installs → countersOk (s .house) c ≡ true → isMask (s .house) mask ≡ true → isTx (s .house) t ≡ true
+    → Fits s es c (newSub t mask (s .counters .installs))
+unfolding newSub
+new-part s es c t mask v own installs counters m tx =
+    record {
+      own = own;
+      installs = installs;
+      counters = counters;
+      course = new-fits (s .house) (s .counters .own) (v .house) t mask (s .counters .installs) m;
+      keys = no-keys (s .house) (s .counters .own);
+      tx = λ n. tx;
+      entries = λ i h. absurd (omega arith);
+    }
+
+-- Keys of this site: one more among the first n.
+key-more : (o : House) (own k n : ℕ) (keys : List ℕ) → n < length keys → homeOf o k ≡ own
+    → ((j : ℕ) → j < n → homeOf o (getD keys j 0) ≡ own) → (j : ℕ) → j < n + 1 → homeOf o (getD (set keys n k) j 0) ≡ own
+key-more o own k n keys low e old j h =
+    by-same j n
+    (λ z. rw (z, getD-set-same keys n k 0 low) e)
+    (λ z. rw (getD-set-other keys n j k 0 z) (old j (above j n (omega arith) z)))
+
+module _ (o : House) (own k : ℕ) (b : Keys) (v : ValidKeys o own b) (z : Sized b) (here : homeOf o k ≡ own) where
+  read-keys : (readKey b k ≡ false → b .read < sizes.reads) → keysOk o own (withRead b k) ≡ true
+  unfolding withRead
+  read-keys room =
+      by-test (readKey b k)
+      (λ t. rw t (keys-back o own b v))
+      (λ t. rw t
+      (let more = key-more o own k (b .read) (b .reads) (omega (arith, room t, z .reads-size)) here (v .read-here) in
+      keys-made o own _ (omega (arith, room t)) (v .few-wrote) more (v .wrote-here)))
+
+  write-keys : (w : Value) → (wroteKey b k ≡ false → b .wrote < sizes.writes) → keysOk o own (withWrite b k w) ≡ true
+  unfolding withWrite
+  write-keys w room =
+      by-test (wroteKey b k)
+      (λ t. rw t (keys-made o own _ (v .few-read) (v .few-wrote) (v .read-here) (v .wrote-here)))
+      (λ t. rw t
+      (let more = key-more o own k (b .wrote) (b .writes) (omega (arith, room t, z .writes-size)) here (v .wrote-here) in
+      keys-made o own _ (v .few-read) (omega (arith, room t)) (v .read-here) more))
+
+module _ {s : Site} {lists : List ℕ} (y : Sound s lists) where
+  abbrev o : House
+  o = s .house
+
+  abbrev own : ℕ
+  own = s .counters .own
+
+  pub begin-fits : EffectFits s (beginOf s) lists
+  unfolding beginOf begun
+  begin-fits =
+      let place = freePlace (s .live) in
+      let n = s .counters .serial + 1 in
+      let counters = site-tests s (site-ok y) .counters in
+      let here = counters-own o (s .counters) counters in
+      unless-fits y (beginCode (siteOk s) (s .counters) place) [] _
+      (λ z.
+      let c = begin-clear (siteOk s) (s .counters) place z in
+      changed-fits y place (c .free) _ []
+      (record {
+        turn = new-part s (listAt lists place) (withSerial (s .counters) n) (nextTx (s .counters)) (maskOf own) (site-valid y) refl refl
+            (serial-fits o (s .counters) n counters (omega (arith, c .unspent)))
+            (site-mask o own here) (next-possible o (s .counters) here (c .unspent));
+        words = none;
+      }))
+
+  -- The part of t with other keys.
+  module _ (t : ℕ) (low : placeOf (s .live) t < sizes.live) where
+    abbrev place : ℕ
+    place = placeOf (s .live) t
+
+    keys-sized : Sized (subAt s place .keys)
+    keys-sized = let (q, f, e) = place-held (y .live) t low in rw q (y .live .sized t f)
+
+    keys-turn : (b : Keys) → keysOk o own b ≡ true
+        → TurnFits s (listAt lists place) (withSubOf (turnAt s place) (withKeys (subAt s place) b))
+    unfolding turnAt
+    keys-turn b e =
+        let x = old-fits y place low (held-there y t low) in
+        record {
+          own = x .own;
+          installs = x .installs;
+          counters = x .counters;
+          course = x .course;
+          keys = e;
+          tx = x .tx;
+          entries = x .entries;
+        }
+
+    version-fits : (base : List Value) (k : ℕ) → homeOf o k ≡ own
+        → (readKey (subAt s place .keys) k ≡ false → subAt s place .keys .read < sizes.reads)
+        → EffectFits s (readVersion s base place k) lists
+    unfolding readVersion
+    version-fits base k here room =
+        let b = subAt s place .keys in
+        let more = read-keys o own k b (part-at y place low .keys) keys-sized here room in
+        changed-fits y place low _ [] (record { turn = keys-turn (withRead b k) more; words = none })
+
+    written-fits : (k : ℕ) (v : Value) → homeOf o k ≡ own
+        → (wroteKey (subAt s place .keys) k ≡ false → subAt s place .keys .wrote < sizes.writes)
+        → EffectFits s (written s place k v) lists
+    unfolding written
+    written-fits k v here room =
+        let b = subAt s place .keys in
+        let more = write-keys o own k b (part-at y place low .keys) keys-sized here v room in
+        changed-fits y place low _ [] (quietly-fits s (listAt lists place) _ (keys-turn (withWrite b k v) more))
+
+  pub read-fits : (base : List Value) (t k : ℕ) → EffectFits s (readOf s base t k) lists
+  unfolding readOf readAt
+  read-fits base t k =
+      let place = placeOf (s .live) t in
+      let b = subAt s place in
+      unless-fits y (accessCode (siteOk s) (length base) o own k place (stageAt (s .live) place)) [] _
+      (λ z.
+      let c = access-clear _ _ _ _ _ _ _ z in
+      by-test (wroteKey (b .keys) k)
+      (λ e. rw e (record { handed = y .handed; words = none }))
+      (λ e. rw e
+      (unless-fits y (readCode (isForgotten (s .counters .installs) (b .snapshot)) (readKey (b .keys) k) (b .keys .read)) [] _
+      (λ r. version-fits t (c .held) base k (c .here) (read-clear _ _ _ r .room)))))
+
+  pub write-fits : (t k : ℕ) (v : Value) → EffectFits s (writeOf s t k v) lists
+  unfolding writeOf writeAt writeCodeAt
+  write-fits t k v =
+      let place = placeOf (s .live) t in
+      unless-fits y (accessCode (siteOk s) sizes.keys o own k place (stageAt (s .live) place)) [] _
+      (λ z.
+      let c = access-clear _ _ _ _ _ _ _ z in
+      by-test (wroteKey (subAt s place .keys) k)
+      (λ e. rw e (written-fits t (c .held) k v (c .here) (λ f. absurd (set-not _ e f))))
+      (λ e. rw e
+      (unless-fits y (writeCodeAt s place k) [] _
+      (λ r. written-fits t (c .held) k v (c .here) (λ f. write-clear _ _ _ _ r .room)))))

@@ -1,0 +1,70 @@
+-- Reads, proved: after any lawful list each key of a part stands once among its writes, and each site's base values are what its forgotten
+-- installs left. So a read finds its version in the history, or below it.
+use Prim.Native.Nat.{ℕ, _≤_}
+use mathlib.Core.Path.{sym, _∙_}
+use mathlib.Core.Logic.{inl, inr}
+use lib.ListN.{getD-replicate}
+use Rattle.kinds.specs.Sizes as sizes
+use Rattle.rules.specs.History.{forgotten}
+use Rattle.rules.specs.Install.{startCode}
+use Rattle.rules.specs.World.{World, freshWorld}
+use Rattle.rules.specs.Reads.{ReadsRight}
+use Rattle.rules.proofs.protocol.Protocol.{freshProtocol}
+use Rattle.rules.proofs.book.BookKept.{at-same}
+use Rattle.rules.proofs.refine.RefineFresh.{fresh-table}
+use Rattle.rules.proofs.stream.Stream.{Stream, Steps, freshStream}
+use Rattle.rules.proofs.stream.StreamReached.{Standing, standing-steps}
+use Rattle.rules.proofs.refine.RefineMerger.{StreamIs}
+use Rattle.rules.proofs.demand.Stands.{Keeps, list-stands}
+use Rattle.rules.proofs.book.Told.{toldSteps}
+use Rattle.rules.proofs.reads.MovesTold.{WritesOnce, writes-fresh, writes-steps, installs-steps, stays-steps}
+use Rattle.rules.proofs.reads.Versions.{left-none}
+use Rattle.rules.proofs.reads.BasesKept.{BasesAre, bases-kept, bases-installed}
+use Rattle.rules.proofs.reads.LiveOnce.{once-held}
+use Rattle.rules.proofs.reads.CallsKept.{KeysStay, BasesStay, call-kept}
+use Rattle.rules.proofs.reads.ReadAnswers.{read-is, read-left}
+
+-- A house whose reads are right.
+record Reads (sites : ℕ) (w : World) (v : Stream) : Type 0 where
+  once : WritesOnce (v .protocol)
+  bases : BasesAre sites w (v .protocol)
+
+-- After some steps that lead to the world x.
+module _ {sites : ℕ} {w x : World} {v u : Stream} (few : sites ≤ 8) (i : StreamIs sites w v) (z : Standing sites v) (r : Reads sites w v)
+    (ss : Steps sites v u)
+    (y : StreamIs sites x u) where
+  once-after : KeysStay sites x (toldSteps ss) → WritesOnce (u .protocol)
+  once-after (inl n) = writes-steps few z ss n (r .once)
+  once-after (inr (n, o)) =
+      let same = installs-steps few z ss n in
+      record {
+        held = once-held (y .refines) (standing-steps few ss z .invariant) o;
+        entry = λ s j h. rw (at-same (v .protocol) (u .protocol) same s j) (r .once .entry s j (rw (same s) at h));
+      }
+
+  bases-after : BasesStay w x (toldSteps ss) → BasesAre sites x (u .protocol)
+  bases-after (inl (n, e)) = bases-kept sites w x (v .protocol) (u .protocol) e (installs-steps few z ss n) (r .bases)
+  bases-after (inr (s, k)) = bases-installed (i .refines) (y .refines) (r .once) (stays-steps few z ss) (r .bases) s k
+
+call-reads : {sites : ℕ} → sites ≤ 8 → Keeps (Reads sites) sites
+call-reads few w v u c h i z ss e j m =
+    let k = call-kept (i .refines) (z .invariant) (m .once) c in
+    record { once = once-after few i z m ss j (rw e (k .keys)); bases = bases-after few i z m ss j (rw e (k .bases)) }
+
+-- nothing is forgotten of no installs
+bases-fresh : (sites : ℕ) → BasesAre sites (freshWorld sites) freshProtocol
+unfolding freshWorld freshProtocol forgotten
+bases-fresh sites s k l h low =
+    rw (fresh-table (startCode sites s sizes.keys sizes.lists) sizes.keys)
+    (getD-replicate {A = ℕ} sizes.keys k 0 0 low ∙ sym (left-none _ k))
+
+fresh-reads : (sites : ℕ) → Reads sites (freshWorld sites) freshStream
+unfolding freshStream
+fresh-reads sites = record { once = writes-fresh; bases = bases-fresh sites }
+
+pub reads-right : ReadsRight
+unfolding ReadsRight
+reads-right sites calls some few lawful s t k v e =
+    let x = list-stands (Reads sites) few (call-reads few) some (fresh-reads sites) calls lawful in
+    read-left few (x .standing .invariant) (x .booked) s t k v
+    (read-is (x .is .refines) (x .standing .invariant) (x .more .bases) s t k v e)

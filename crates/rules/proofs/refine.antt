@@ -1,0 +1,37 @@
+-- The rules against the protocol: each call of a site as moves.
+pub mod Refines
+pub mod RefineLive
+pub mod RefineStep
+pub mod RefineFresh
+pub mod RefineSite
+pub mod KeysTold
+pub mod RefineMail
+pub mod RefineTurn
+pub mod RefineCertify
+pub mod RefineActs
+pub mod RefineCourse
+pub mod RefineLists
+pub mod RefineRequest
+pub mod RefineTake
+pub mod RefineQuiet
+pub mod RefineReply
+pub mod RefineJoined
+pub mod RefineGather
+pub mod RefineConc
+pub mod RefineBegin
+pub mod RefineAccess
+pub mod RefineEnlist
+pub mod RefineCommit
+pub mod RefineMessage
+pub mod RefineHanded
+pub mod RefineLog
+-- The rules against the merger and the copies, and every call as steps.
+pub mod RefineMerger
+pub mod RefineQueue
+pub mod RefineMerge
+pub mod RefineHeads
+pub mod RefineEmit
+pub mod RefineLaid
+pub mod RefineReplay
+pub mod RefineCopies
+pub mod RefineCalls

@@ -1,0 +1,3 @@
+-- Refusals leave all as it was, and the first cause is returned.
+pub mod Unaltered
+pub mod FirstCause
