@@ -9,6 +9,7 @@ use pieces::word;
 use slices::copy_words;
 ghost use Prim.Native.Nat.{_+_, _≤_, _<_};
 ghost use lib.ListN.{length};
+ghost use Rattle.hand.specs.Sizes as sizes;
 
 // Words of the store.
 pub const STORE: usize = 131072;
@@ -26,7 +27,7 @@ const LONGEST: u64 = 8192;
 
 // Writes an item with what stands before it.
 fn label(place: &mut [u64], kind: u64, item: &[u64])
-    requires { ⌜ 2 + length (now item) ≤ length (now place) ⌝ }
+    requires { ⌜ sizes.label + length (now item) ≤ length (now place) ⌝ }
 {
     put(place, 0, kind);
     put(place, 1, item.len() as u64);
@@ -83,7 +84,7 @@ pub fn keep_letters(store: &mut [u64], used: usize, ws: &[u64]) -> usize {
 }
 
 fn item_word(store: &[u64; STORE], at: usize, i: usize) -> u64
-    requires { ⌜ (at < 131072) × (i < 16) ⌝ }
+    requires { ⌜ (at < sizes.store) × (i < 16) ⌝ }
 {
     let j = at + i;
     if j < STORE {
@@ -94,7 +95,7 @@ fn item_word(store: &[u64; STORE], at: usize, i: usize) -> u64
 
 // Where the item behind this one begins.
 fn behind(store: &[u64; STORE], at: usize) -> usize
-    requires { ⌜ at < 131072 ⌝ }
+    requires { ⌜ at < sizes.store ⌝ }
     ensures { λ r. ⌜ at < r ⌝ }
 {
     let n = item_word(store, at, 1);
@@ -105,7 +106,7 @@ fn behind(store: &[u64; STORE], at: usize) -> usize
 }
 
 fn is_letter(store: &[u64; STORE], at: usize, from: u64, to: u64, number: u64) -> bool
-    requires { ⌜ at < 131072 ⌝ }
+    requires { ⌜ at < sizes.store ⌝ }
 {
     if item_word(store, at, 0) != LETTER {
         return false;
@@ -136,7 +137,7 @@ pub fn find_letter(store: &[u64; STORE], used: usize, from: u64, to: u64, number
 }
 
 fn is_record(store: &[u64; STORE], at: usize, site: u64) -> bool
-    requires { ⌜ at < 131072 ⌝ }
+    requires { ⌜ at < sizes.store ⌝ }
 {
     if item_word(store, at, 0) != RECORD {
         return false;

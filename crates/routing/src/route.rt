@@ -13,7 +13,8 @@ use numbers::is_site;
 use spool::QUEUES;
 ghost use mathlib.Core.Path.{_≡_};
 ghost use Prim.Native.Nat.{_<_};
-ghost use Rattle.routing.specs.Route.{refuse as refuseOf, goes, none, isPlaced, toSite, toCoordinator, toEnlister, toReceiver, fromLog, toCopy, fromStream, routeOf};
+ghost use Rattle.routing.specs.Route.{refuse as refuseOf, goes, none, isPlaced, toSite, toCoordinator, toEnlister, toReceiver};
+ghost use Rattle.routing.specs.Route.{fromLog, toCopy, fromStream, routeOf};
 
 // A place below SITES is a site, less 1; one from FIRST_COPY to NOWHERE is a copy.
 pub const MERGER: usize = SITES;

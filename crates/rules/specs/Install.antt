@@ -83,7 +83,8 @@ installedAt s base place =
 unfoldable pub installOf : Site → ℕ → List Value → Effect
 installOf s room base =
     let place = leastQueued (s .live) sizes.live in
-    unless (installCode (siteOk s) room (length base) (isInstallable (s .live) place) (s .counters .installs)) s base (installedAt s base place)
+    unless (installCode (siteOk s) room (length base) (isInstallable (s .live) place) (s .counters .installs)) s base
+    (installedAt s base place)
 
 -- Report: the state number as a state record.
 abbrev pub reportCauses : Bool → ℕ → List Cause

@@ -28,7 +28,8 @@ use Rattle.rules.specs.Install.{installCode, reportCode, installedAt, installOf
 use Rattle.rules.specs.Merger.{sourceAt, headsOf, leastSite, mergeCode, mergePartCode, mergeStateCode, emitCode, dueCode, mergerStartCode}
 use Rattle.rules.specs.Merger.{mergerStartOf, mergePart, mergeState, mergeOf, emitDue, emitOf}
 use Rattle.rules.specs.Copy.{copyStartOf, replayCode, replayOf, valueCode, valueOf}
-use Rattle.rules.proofs.refusals.FirstCause.{begin-by, read-by, write-by, enlist-by, commit-by, abandon-by, install-by, report-by, message-by}
+use Rattle.rules.proofs.refusals.FirstCause.{begin-by, read-by, write-by, enlist-by, commit-by, abandon-by, install-by, report-by}
+use Rattle.rules.proofs.refusals.FirstCause.{message-by}
 use Rattle.rules.proofs.refusals.FirstCause.{merge-by, emit-by, replay-by, value-by, start-by, merger-start-by, copy-start-by}
 use Rattle.said.specs.Said.{ok, abort, saidOf}
 use Rattle.said.specs.Outcomes.{readSaid, installSaid, reportSaid, emitSaid, replaySaid, valueSaid, Says}

@@ -5,6 +5,7 @@ ghost use mathlib.Core.Path.{_≡_};
 ghost use Prim.Native.Nat.{_≤_};
 ghost use lib.Dec.{eqb};
 ghost use Rattle.laws.specs.Choice.{pick};
+ghost use Rattle.script.specs.Sizes as sizes;
 
 // Bytes of a block.
 pub const TEXT: usize = 65536;
@@ -65,7 +66,7 @@ fn refilled(text: &mut [u8; TEXT], r: Reading) -> Reading {
 
 // Scans the block on.
 fn scanned(text: &[u8; TEXT], r: Reading) -> Reading
-    requires { ⌜ (r .input .at ≤ r .input .end) × (r .input .end ≤ 65536) ⌝ }
+    requires { ⌜ (r .input .at ≤ r .input .end) × (r .input .end ≤ sizes.text) ⌝ }
 {
     let fd = r.input.fd;
     let end = r.input.end;

@@ -20,7 +20,8 @@ use Rattle.rules.specs.Valid.{courseOk, subOk, countersOk, liveOk, historyOk, s
 use Rattle.rules.specs.Valid as valids
 use Rattle.rules.specs.Effect.{takenOf, turnAt, settle}
 use Rattle.rules.specs.Course.{newSub, raise, headOf, channelSpent, sendTo, sendAll, quietly, withParticipant, enlistStep, isOutstanding}
-use Rattle.rules.specs.Course.{withReply, abortStep, withDecision, commitStep, decideStep, withQueueMark, castStep, withRequest, prepareStep}
+use Rattle.rules.specs.Course.{withReply, abortStep, withDecision, commitStep, decideStep, withQueueMark, castStep, withRequest}
+use Rattle.rules.specs.Course.{prepareStep}
 use Rattle.rules.specs.Course.{voteDecides, voteStep, withStage, preparedStep, certifiedStep}
 use Rattle.rules.specs.Begin.{nextTx, beginCode, begun, beginOf}
 use Rattle.rules.specs.Access.{accessCode, readCode, readVersion, readAt, readOf, writeCode, writeCodeAt, written, writeAt, writeOf}
@@ -48,7 +49,8 @@ unfolding firstBelow allBelow anyBelow foldBelow precedes onesBelow overlay putA
     recordShape partOk stateOk mergedOk keyPlace wroteKey readKey wroteValue withRead withWrite commonKey dependent lesserKey leastKey
     keyFrom sortedKey sortedCount sortedWords keysAt keysOk freePlace isPartOf placeOf isHeld otherHolds keyHeld isPrepared isQueued
     allHeard remembered forgotten isForgotten within backwards newer versionOf isNewer recallPlace forgetInto queuedBefore comesFirst
-    betterPlace leastQueued isInstallable stateBound stateNumber courseOk subOk countersOk liveOk heldOk historyOk siteOk valids.slotOk takenOf
+    betterPlace leastQueued isInstallable stateBound stateNumber courseOk subOk countersOk liveOk heldOk historyOk siteOk valids.slotOk
+    takenOf
     turnAt settle saidOf newSub raise headOf channelSpent sendTo sendAll quietly withParticipant enlistStep isOutstanding
     withReply abortStep withDecision commitStep decideStep withQueueMark castStep withRequest prepareStep voteDecides voteStep withStage
     preparedStep certifiedStep nextTx beginCode begun beginOf accessCode readCode readVersion readAt readOf writeCode writeCodeAt written

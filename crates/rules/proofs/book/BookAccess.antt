@@ -104,7 +104,8 @@ module _ {sites : ℕ} {b fs : List Fact} {p q : Protocol} {s t : ℕ} {new : Ke
       (rw (c .has) h, still (λ z. wroteKey z k ≡ true) (w k) (home sites k) u y)
   wrote u k v (inr x) = now (λ z. wroteKey z k ≡ true) k u (a .wrote u k v x)
 
-  used : (u k : ℕ) → Member (book.used u k) b ⊎ Member (book.used u k) fs → (q .has (home sites k) u ≡ true) × UsedIn (q .keys (home sites k) u) k
+  used : (u k : ℕ) → Member (book.used u k) b ⊎ Member (book.used u k) fs → (q .has (home sites k) u ≡ true) × UsedIn
+      (q .keys (home sites k) u) k
   used u k (inl x) =
       let (h, y) = i .writes .used u k x in
       (rw (c .has) h, still (λ z. UsedIn z k) (⊎-elim (λ e. inl (a .read k e)) (λ e. inr (w k e))) (home sites k) u y)

@@ -130,7 +130,8 @@ module _ {sites : ℕ} {b : List Fact} {p q : Protocol} {s : ℕ} {e : Entry} (c
   -- its pair was not installed here before
   once : (j n d : ℕ)
       → Before (book.installed j n d) (book.installed j n d) b
-      ⊎ ((Member (book.installed j n d) b × Member (book.installed j n d) fact) ⊎ Before (book.installed j n d) (book.installed j n d) fact) → ⊥
+      ⊎ ((Member (book.installed j n d) b × Member (book.installed j n d) fact) ⊎ Before (book.installed j n d)
+      (book.installed j n d) fact) → ⊥
   once j n d (inl x) = i .installs .once j n d x
   once j n d (inr (inl (x, y))) =
       let (f, g, h) = is-installed y in

@@ -119,7 +119,8 @@ module _ (sites : ℕ) (w : World) where
     install-bases : let x = step w (world.install s out) in BasesStay w (x .world) (book.installs s (x .answer))
     unfolding step logStep installOf installedAt
     install-bases =
-        let code = installCode (siteOk site) (length out) (length (w .base s)) (isInstallable (site .live) due) (site .counters .installs) in
+        let code = installCode (siteOk site) (length out) (length (w .base s)) (isInstallable (site .live) due)
+        (site .counters .installs) in
         by-code (λ e. BasesStay w (logStep w s e (e .lent) .world) (book.installs s (e .answer))) code site (w .base s)
         (installedAt site (w .base s) due) (λ e. inr (s, one-more)) (inl ((λ f i. absurd (none-is i)), upd-self (w .base) s))
 

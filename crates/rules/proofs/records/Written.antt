@@ -117,7 +117,8 @@ module _ {sites : ℕ} {w : World} {p : Protocol} (r : Refines sites w p) (inv :
         → All (RecordOk sites) (logStep w s (installedAt site (w .base s) due) (installedAt site (w .base s) due .lent) .world .log j)
     unfolding installedAt partWords partHead
     installs e =
-        let c = install-clear (siteOk site) (length out) (length (w .base s)) (isInstallable (site .live) due) (site .counters .installs) e in
+        let c = install-clear (siteOk site) (length out) (length (w .base s)) (isInstallable (site .live) due)
+        (site .counters .installs) e in
         more-log s (installedAt site (w .base s) due) _ _ _ refl (inl (part-passes (c .valid) (c .least)))
 
     install-written : (j : ℕ) → All (RecordOk sites) (step w (world.install s out) .world .log j)

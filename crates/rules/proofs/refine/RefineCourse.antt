@@ -276,7 +276,8 @@ settled-place {s = s} {t = t} {q = q} x place u h l y e f =
     rw (ap (λ (z : Sub). z .tx) b ∙ e) at
     (part-place (settle x place u) q s place (y .live) l (λ z. f (sym (ap (λ (c : Sub). c .course .stage) b) ∙ z)))
 
-mark-all : (s : ℕ) (c : Course) (n : ℕ) → allHeard s 0 (c .mask) ≡ true → allHeard s (withQueueMark c n .heard) (withQueueMark c n .mask) ≡ true
+mark-all : (s : ℕ) (c : Course) (n : ℕ) → allHeard s 0 (c .mask) ≡ true → allHeard s (withQueueMark c n .heard)
+    (withQueueMark c n .mask) ≡ true
 unfolding withQueueMark
 mark-all s c n h = h
 

@@ -196,7 +196,8 @@ module _ (sites : ℕ) (p : Protocol) (i : Invariant sites p) where
       (set-queue-mark (upd₂ (p .queueMark) s t (p .clock s)) (withCourseAt p s t (withQueueMark (courseAt p s t) (p .clock s)))))
   unfolding withQueueMark
   voted s t a =
-      upd₂-three (λ j u y k b. CourseOk (p .made j u) y (p .asked u) (p .mask u) k (p .num u) (b .course)) (p .yes) (p .queueMark) (p .live) s t
+      upd₂-three (λ j u y k b. CourseOk (p .made j u) y (p .asked u) (p .mask u) k (p .num u) (b .course)) (p .yes) (p .queueMark)
+      (p .live) s t
       true (p .clock s) _
       (at-queued _ _ _ _ _ _ _ refl (refl, refl) (all s t .mask (λ f. omega arith) (λ f. omega arith))) (λ j u n. all j u)
 
@@ -215,7 +216,8 @@ module _ (sites : ℕ) (p : Protocol) (i : Invariant sites p) where
       (set-mask (upd (p .mask) t w) (set-made (upd₂ (p .made) s t true) (withCourseAt p s t (withRequest (courseAt p s t) n)))))
   unfolding withRequest
   requested s t n w c a e =
-      upd₂-both (λ j u m b. CourseOk m (p .yes j u) (upd (p .asked) t true u) (upd (p .mask) t w u) (p .queueMark j u) (p .num u) (b .course))
+      upd₂-both (λ j u m b. CourseOk m (p .yes j u) (upd (p .asked) t true u) (upd (p .mask) t w u) (p .queueMark j u) (p .num u)
+      (b .course))
       (p .made) (p .live) s t true _
       (at-prepared _ _ _ _ _ _ _ refl (refl, all s t .active a .1) (upd-same (p .asked) t true, sym e ∙ sym (upd-same (p .mask) t w)))
       (λ j u x. upd-both (λ u b m. CourseOk (p .made j u) (p .yes j u) b m (p .queueMark j u) (p .num u) (courseAt p j u)) (p .asked)

@@ -28,7 +28,8 @@ all-heard-requires c κs = search needs
 decide-step-requires : tie.Need-decide-step-requires
 unfolding withQueueMark
 decide-step-requires c κs =
-    let m : after-with-queue-mark (c .before) .with-queue-mark .result .mask ≡ start (after-with-queue-mark (c .before)) .args .t .sub .course .mask =
+    let m : after-with-queue-mark (c .before) .with-queue-mark .result .mask ≡ start
+    (after-with-queue-mark (c .before)) .args .t .sub .course .mask =
     ap (λ (d : Course). d .mask) (after-with-queue-mark (c .before) .with-queue-mark .ensures) in
     all-course (start (after-with-queue-mark (c .before)) .args .t) (c .before .before .before .with-course .result)
     (after-with-queue-mark (c .before) .with-queue-mark .result) _ (c .before .before .before .with-course .ensures) m
@@ -44,14 +45,25 @@ returns c =
     let then1 = after-out .before .before .before in
     let after-with-queue-mark = then1 .before .before .before in
     let e = sym (then1 .before .all-heard .ensures) ∙ then1 .if1 .taken in (
-      rw (e, c .before .before .decide-step .ensures .0, then1 .before .before .with-course .ensures, after-with-queue-mark .with-queue-mark .ensures),
-      rw (e, c .before .before .decide-step .ensures .1, then1 .before .before .with-course .ensures, after-with-queue-mark .with-queue-mark .ensures),
+      rw (
+        e,
+        c .before .before .decide-step .ensures .0,
+        then1 .before .before .with-course .ensures,
+        after-with-queue-mark .with-queue-mark .ensures,
+      ),
+      rw (
+        e,
+        c .before .before .decide-step .ensures .1,
+        then1 .before .before .with-course .ensures,
+        after-with-queue-mark .with-queue-mark .ensures,
+      ),
     )
 
 send-all-requires : tie.Need-send-all-requires
 unfolding withQueueMark
 send-all-requires c κs =
-    let m : after-with-queue-mark-2 (c .before) .with-queue-mark .result .mask ≡ start (after-with-queue-mark-2 (c .before)) .args .t .sub .course .mask =
+    let m : after-with-queue-mark-2 (c .before) .with-queue-mark .result .mask ≡ start
+    (after-with-queue-mark-2 (c .before)) .args .t .sub .course .mask =
     ap (λ (d : Course). d .mask) (after-with-queue-mark-2 (c .before) .with-queue-mark .ensures) in (
       all-course (start (after-with-queue-mark-2 (c .before)) .args .t) (c .before .before .before .with-course .result)
           (after-with-queue-mark-2 (c .before) .with-queue-mark .result) _ (c .before .before .before .with-course .ensures) m
@@ -69,8 +81,18 @@ returns-2 c =
     let else1 = after-out2 .before .before .before in
     let after-with-queue-mark = else1 .before .before .before in
     let e = sym (else1 .before .all-heard .ensures) ∙ else1 .if1 .left in (
-      rw (e, c .before .before .send-all .ensures .0, else1 .before .before .with-course .ensures, after-with-queue-mark .with-queue-mark .ensures),
-      rw (e, c .before .before .send-all .ensures .1, else1 .before .before .with-course .ensures, after-with-queue-mark .with-queue-mark .ensures),
+      rw (
+        e,
+        c .before .before .send-all .ensures .0,
+        else1 .before .before .with-course .ensures,
+        after-with-queue-mark .with-queue-mark .ensures,
+      ),
+      rw (
+        e,
+        c .before .before .send-all .ensures .1,
+        else1 .before .before .with-course .ensures,
+        after-with-queue-mark .with-queue-mark .ensures,
+      ),
     )
 
 pub cast-yes-spec : {M : Type 1} → statement M

@@ -40,8 +40,18 @@ returns c =
     let after-with-course = after-send-to .before .before .before in
     let after-with-queue-mark = after-send-to-arg2 .before .before .before in
     let v = after-with-queue-mark .before .if1 .taken in (
-      rw (v, c .before .before .send-to .ensures .0, after-with-course .with-course .ensures, after-with-queue-mark .with-queue-mark .ensures),
-      rw (v, c .before .before .send-to .ensures .1, after-with-course .with-course .ensures, after-with-queue-mark .with-queue-mark .ensures),
+      rw (
+        v,
+        c .before .before .send-to .ensures .0,
+        after-with-course .with-course .ensures,
+        after-with-queue-mark .with-queue-mark .ensures,
+      ),
+      rw (
+        v,
+        c .before .before .send-to .ensures .1,
+        after-with-course .with-course .ensures,
+        after-with-queue-mark .with-queue-mark .ensures,
+      ),
     )
 
 with-stage-requires : tie.Need-with-stage-requires

@@ -53,7 +53,8 @@ first : (c : tie.After-install-code) → let s = begins c in
 first c =
     let s = begins c in
     let p = placed c in
-    code-at (handed s) _ _ _ _ _ _ (looked p .site-ok .ensures) (p .least-place .ensures) (c .before .is-installable .ensures (s .args .live .now))
+    code-at (handed s) _ _ _ _ _ _ (looked p .site-ok .ensures) (p .least-place .ensures)
+    (c .before .is-installable .ensures (s .args .live .now))
     (c .install-code .ensures)
 
 clear : (c : tie.Else1) → let s = begins (c .before) in

@@ -15,17 +15,25 @@ refuse-requires c κs = search needs
 
 returns : tie.Need-returns
 unfolding fromLog
-returns c = rw (← c .before .before .is-placed .ensures, not-true (c .before .before .is-placed .result) (c .before .if1 .taken)) (c .refuse .ensures)
+returns c = rw (← c .before .before .is-placed .ensures, not-true (c .before .before .is-placed .result) (c .before .if1 .taken))
+    (c .refuse .ensures)
 
 sub-i : tie.Need-sub-i
-sub-i c = let p = placed (c .before .before .args .h) (c .before .before .args .site) (sym (c .before .is-placed .ensures) ∙ not-false (c .before .is-placed .result) (c .if1 .left)) in omega (arith, p .low)
+sub-i c = let p = placed (c .before .before .args .h) (c .before .before .args .site)
+    (sym (c .before .is-placed .ensures) ∙ not-false (c .before .is-placed .result) (c .if1 .left)) in omega (arith, p .low)
 
 log-requires : tie.Need-log-requires
-log-requires c κs = let p = placed (c .before .before .args .h) (c .before .before .args .site) (sym (c .before .is-placed .ensures) ∙ not-false (c .before .is-placed .result) (c .if1 .left)) in omega (arith, p .low, p .high)
+log-requires c κs = let p = placed (c .before .before .args .h) (c .before .before .args .site)
+    (sym (c .before .is-placed .ensures) ∙ not-false (c .before .is-placed .result) (c .if1 .left)) in omega (arith, p .low, p .high)
 
 returns-2 : tie.Need-returns-2
 unfolding fromLog
-returns-2 c = rw (← c .before .before .is-placed .ensures, not-false (c .before .before .is-placed .result) (c .before .if1 .left), c .log .ensures .0)
+returns-2 c = rw (
+  ← c .before .before .is-placed .ensures,
+  not-false (c .before .before .is-placed .result)
+      (c .before .if1 .left),
+  c .log .ensures .0,
+)
 
 pub from-log-spec : {M : Type 1} → statement M
 from-log-spec =

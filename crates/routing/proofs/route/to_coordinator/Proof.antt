@@ -17,7 +17,8 @@ refuse-requires c κs = search needs
 returns : tie.Need-returns
 unfolding toCoordinator
 returns c = let k = c .before .before in
-    rw (← k .before .coordinator-of .ensures, ← k .is-site .ensures, not-true (k .is-site .result) (c .before .if1 .taken)) (c .refuse .ensures)
+    rw (← k .before .coordinator-of .ensures, ← k .is-site .ensures, not-true (k .is-site .result) (c .before .if1 .taken))
+    (c .refuse .ensures)
 
 to-site-requires : tie.Need-to-site-requires
 to-site-requires c κs = search needs
@@ -25,7 +26,8 @@ to-site-requires c κs = search needs
 returns-2 : tie.Need-returns-2
 unfolding toCoordinator
 returns-2 c = let k = c .before .before in
-    rw (← k .before .coordinator-of .ensures, ← k .is-site .ensures, not-false (k .is-site .result) (c .before .if1 .left)) (c .to-site .ensures)
+    rw (← k .before .coordinator-of .ensures, ← k .is-site .ensures, not-false (k .is-site .result) (c .before .if1 .left))
+    (c .to-site .ensures)
 
 pub to-coordinator-spec : {M : Type 1} → statement M
 to-coordinator-spec =

@@ -13,14 +13,16 @@ refuse-requires c κs = search needs
 
 returns : tie.Need-returns
 unfolding toEnlister
-returns c = rw (← c .before .before .is-site .ensures, not-true (c .before .before .is-site .result) (c .before .if1 .taken)) (c .refuse .ensures)
+returns c = rw (← c .before .before .is-site .ensures, not-true (c .before .before .is-site .result) (c .before .if1 .taken))
+    (c .refuse .ensures)
 
 to-coordinator-requires : tie.Need-to-coordinator-requires
 to-coordinator-requires c κs = search needs
 
 returns-2 : tie.Need-returns-2
 unfolding toEnlister
-returns-2 c = rw (← c .before .before .is-site .ensures, not-false (c .before .before .is-site .result) (c .before .if1 .left)) (c .to-coordinator .ensures)
+returns-2 c = rw (← c .before .before .is-site .ensures, not-false (c .before .before .is-site .result) (c .before .if1 .left))
+    (c .to-coordinator .ensures)
 
 pub to-enlister-spec : {M : Type 1} → statement M
 to-enlister-spec =

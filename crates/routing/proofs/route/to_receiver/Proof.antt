@@ -14,10 +14,12 @@ abbrev start : tie.Else1 → tie.Start
 start c = c .before .before
 
 sender : (c : tie.Else2) → Placed (start (tested c) .args .from)
-sender c = placed (start (tested c) .args .h) _ (sym (tested c .before .is-placed .ensures) ∙ not-false (tested c .before .is-placed .result) (tested c .if1 .left))
+sender c = placed (start (tested c) .args .h) _ (sym (tested c .before .is-placed .ensures) ∙ not-false
+    (tested c .before .is-placed .result) (tested c .if1 .left))
 
 receiver : (c : tie.Else2) → Placed (start (tested c) .args .to)
-receiver c = placed (start (tested c) .args .h) _ (sym (c .before .is-placed2 .ensures) ∙ not-false (c .before .is-placed2 .result) (c .if2 .left))
+receiver c = placed (start (tested c) .args .h) _ (sym (c .before .is-placed2 .ensures) ∙ not-false (c .before .is-placed2 .result)
+    (c .if2 .left))
 
 is-placed-requires : tie.Need-is-placed-requires
 is-placed-requires c κs = search needs
@@ -27,7 +29,8 @@ refuse-requires c κs = search needs
 
 returns : tie.Need-returns
 unfolding toReceiver
-returns c = rw (← c .before .before .is-placed .ensures, not-true (c .before .before .is-placed .result) (c .before .if1 .taken)) (c .refuse .ensures)
+returns c = rw (← c .before .before .is-placed .ensures, not-true (c .before .before .is-placed .result) (c .before .if1 .taken))
+    (c .refuse .ensures)
 
 is-placed-requires-2 : tie.Need-is-placed-requires-2
 is-placed-requires-2 c κs = search needs
@@ -39,7 +42,13 @@ returns-2 : tie.Need-returns-2
 unfolding toReceiver
 returns-2 c = let second = c .before .before in
     let first = second .before .before in
-    rw (← first .is-placed .ensures, not-false (first .is-placed .result) (second .before .if1 .left), ← second .is-placed2 .ensures, not-true (second .is-placed2 .result) (c .before .if2 .taken))
+    rw (
+      ← first .is-placed .ensures,
+      not-false (first .is-placed .result)
+          (second .before .if1 .left),
+      ← second .is-placed2 .ensures,
+      not-true (second .is-placed2 .result) (c .before .if2 .taken),
+    )
     (c .refuse2 .ensures)
 
 sub-sender : tie.Need-sub-sender

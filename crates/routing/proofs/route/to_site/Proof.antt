@@ -15,17 +15,20 @@ refuse-requires c κs = search needs
 
 returns : tie.Need-returns
 unfolding toSite
-returns c = rw (← c .before .before .is-placed .ensures, not-true (c .before .before .is-placed .result) (c .before .if1 .taken)) (c .refuse .ensures)
+returns c = rw (← c .before .before .is-placed .ensures, not-true (c .before .before .is-placed .result) (c .before .if1 .taken))
+    (c .refuse .ensures)
 
 sub-to : tie.Need-sub-to
-sub-to c = let p = placed (c .before .before .args .h) (c .before .before .args .site) (sym (c .before .is-placed .ensures) ∙ not-false (c .before .is-placed .result) (c .if1 .left)) in omega (arith, p .low)
+sub-to c = let p = placed (c .before .before .args .h) (c .before .before .args .site)
+    (sym (c .before .is-placed .ensures) ∙ not-false (c .before .is-placed .result) (c .if1 .left)) in omega (arith, p .low)
 
 to-requires : tie.Need-to-requires
 to-requires c κs = search needs
 
 returns-2 : tie.Need-returns-2
 unfolding toSite
-returns-2 c = rw (← c .before .before .is-placed .ensures, not-false (c .before .before .is-placed .result) (c .before .if1 .left)) (c .to .ensures)
+returns-2 c = rw (← c .before .before .is-placed .ensures, not-false (c .before .before .is-placed .result) (c .before .if1 .left))
+    (c .to .ensures)
 
 pub to-site-spec : {M : Type 1} → statement M
 to-site-spec =

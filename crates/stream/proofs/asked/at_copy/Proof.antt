@@ -30,7 +30,8 @@ Leaves c i tables m a left =
     (a ≡ e .answer) × ((own sizes.copy i left ≡ e .copy) × Only sizes.copy i tables left)
 
 leaves : (c : Command) (i : ℕ) (tables m : List ℕ) (a : Answer) (v : List ℕ) → i < copies → length tables ≡ allCopies
-    → length v ≡ length (lent sizes.copy i tables) → Made c (lent sizes.copy i tables) m a v → Leaves c i tables m a (relaid sizes.copy i tables v)
+    → length v ≡ length (lent sizes.copy i tables) → Made c (lent sizes.copy i tables) m a v → Leaves c i tables m a
+    (relaid sizes.copy i tables v)
 leaves c i tables m a v low many kept promised =
     let w = laid sizes.copy i copies tables v low many kept in
     let made = rw (lent-own sizes.copy i tables) at promised in
