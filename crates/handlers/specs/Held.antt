@@ -11,7 +11,7 @@ use Rattle.rules.specs.Valid.{siteOk}
 use Rattle.rules.specs.Deliver.{Arriving}
 use Rattle.lent.specs.Lent.{siteOf}
 use Rattle.lent.specs.Laws.{lent-lengths}
-use Rattle.shell.specs.Countable.{Countable, countable}
+use Rattle.shell.specs.Countable.{Countable, Comes, countable}
 
 -- the site is possible, and the next message from that site can be counted
 pub record Reached (p : Core) (w h : List ℕ) (from : ℕ) : Type 0 where
@@ -41,8 +41,9 @@ pub settles : {p : Core} {w h : List ℕ} {place from : ℕ} → Held p w h plac
 settles {p} {w} {h} q = (lent-lengths p w h (q .possible) .live, q .low)
 
 pub arrives : {p : Core} {w h : List ℕ} {place from : ℕ} → Held p w h place from
-    → (length w ≡ sizes.liveWords) × ((place < sizes.live) × Countable (p .channels) from)
-arrives {p} {w} {h} {place} {from} q = (settles q .0, (q .low, countable (siteOf p w h) from (q .arriving)))
+    → Comes w place (p .channels) from
+arrives {p} {w} {h} {place} {from} q =
+    record { live = settles q .0; low = q .low; counts = countable (siteOf p w h) from (q .arriving) }
 
 -- A message that reaches a site can be counted there, and is held where its place is one of the table's.
 pub counts : {p : Core} {w h : List ℕ} {from : ℕ} → Reached p w h from → Countable (p .channels) from

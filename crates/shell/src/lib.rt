@@ -11,7 +11,7 @@ ghost use Prim.Native.Nat.{ℕ, _<_};
 ghost use lib.ListN.{length};
 ghost use Rattle.kinds.specs.Sizes as sizes;
 ghost use Rattle.rules.specs.Effect.{Change, takenOf, turnAt, changed, refused as refusedOf};
-ghost use Rattle.shell.specs.Countable.{Countable};
+ghost use Rattle.shell.specs.Countable.{Countable, Comes};
 ghost use Rattle.rules.specs.Deliver.{arrived as arrivedOf, passed as passedOf, joinTurn, spoken as spokenOf};
 ghost use Rattle.lent.specs.Lent.{siteOf, Replied};
 
@@ -51,7 +51,7 @@ pub fn turn_at(p: Core, live: &[u64], place: usize) -> Turn
 
 // The same with the channel's count stepped.
 pub fn arrived(p: Core, live: &[u64], place: usize, from: u64) -> Turn
-    requires { ⌜ (length (now live) ≡ sizes.liveWords) × ((place < sizes.live) × Countable (p .channels) from) ⌝ }
+    requires { ⌜ Comes (now live) place (p .channels) from ⌝ }
     ensures { λ r. ⌜ ((h : List ℕ) → r ≡ arrivedOf (siteOf p (now (live .entry)) h) place from) ⌝ }
 {
     let counters = p.counters;

@@ -17,6 +17,7 @@ ghost use Rattle.kinds.specs.Sizes as sizes;
 ghost use Rattle.rules.specs.Effect.{takenOf};
 ghost use Rattle.rules.specs.Begin.{beginCode, nextTx, begun as begunOf, beginOf};
 ghost use Rattle.lent.specs.Lent.{siteOf, Replied};
+ghost use Rattle.site.specs.Accessed.{Unspent};
 
 fn begin_code(ok: bool, c: Counters, place: usize) -> u64
     ensures { λ r. ⌜ r ≡ beginCode ok c place ⌝ }
@@ -43,7 +44,7 @@ fn next_tx(c: Counters) -> u64
 
 // The new part, and its serial spent.
 fn begun(p: Core) -> Taken
-    requires { ⌜ (1 ≤ p .counters .own) × ((p .counters .own ≤ sizes.sites) × (p .counters .serial < sizes.lastSerial)) ⌝ }
+    requires { ⌜ Unspent (p .counters) ⌝ }
     ensures { λ r. ⌜ ((w h : List ℕ) → r ≡ takenOf (begunOf (siteOf p w h))) ⌝ }
 {
     let mut counters = p.counters;

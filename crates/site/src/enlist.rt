@@ -13,10 +13,9 @@ use kinds::stage::ACTIVE;
 ghost use mathlib.Core.Path.{_≡_};
 ghost use Prim.Native.Nat.{_≤_};
 ghost use lib.ListN.{length};
-ghost use Rattle.kinds.specs.Sizes as sizes;
 ghost use Rattle.laws.specs.Overlay.{overlay};
 ghost use Rattle.rules.specs.Enlist.{enlistCode, joinerCode, enlistAt, enlistOf};
-ghost use Rattle.site.specs.Accessed.{Accessed};
+ghost use Rattle.site.specs.Accessed.{Accessed, Sendable};
 ghost use Rattle.lent.specs.Lent.{siteOf, Replied};
 
 fn enlist_code(ok: bool, room: usize, known: bool, place: usize, mine: bool) -> u64
@@ -68,7 +67,7 @@ fn enlist_at(
     out: &mut [u64],
 ) -> Reply
     requires { ⌜ Accessed p (now live) (now history) place ⌝ }
-    requires { ⌜ (1 ≤ site) × ((site ≤ sizes.sites) × (sizes.outgoing ≤ length (now out))) ⌝ }
+    requires { ⌜ Sendable site (now out) ⌝ }
     ensures { λ r. ⌜ Replied p (now (live .entry)) (now (history .entry)) r (now (live .exit)) (now (history .exit))
         (enlistAt (siteOf p (now (live .entry)) (now (history .entry))) place site) ⌝ }
     ensures { λ _. ⌜ now (out .exit)

@@ -18,7 +18,9 @@ same-length c = search needs
 
 returns-2 : tie.Need-returns-2
 unfolding copyStartOf
-returns-2 c = rw (eq-eqb _ _ (c .before .before .before .before .if1 .left)) (refl, c .before .before .fill-words .ensures)
+returns-2 c =
+    let filled = c .before .before in
+    rw (eq-eqb _ _ (filled .before .before .if1 .left)) (refl, filled .fill-words .ensures)
 
 pub start-spec : {M : Type 1} → statement M
 start-spec = tie.close (tie.spec returns fill-words-requires same-length returns-2)

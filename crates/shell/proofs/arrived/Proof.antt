@@ -5,7 +5,7 @@ use Rattle.shell.proofs.arrived.Statement.{statement}
 use Rattle.shell.proofs.arrived.Tie as tie
 
 taken-from-requires : tie.Need-taken-from-requires
-taken-from-requires c κs = let m = c .before .before .pre .1 .1 in (m .first, (m .last, m .low))
+taken-from-requires c κs = let m = c .before .before .pre .counts in (m .first, (m .last, m .low))
 
 part-at-requires : tie.Need-part-at-requires
 part-at-requires c κs = search needs

@@ -57,7 +57,7 @@ begun-requires : tie.Need-begun-requires
 begun-requires c κs =
     let h = clear c in
     let v = valid-site (handed (c .before)) (h .valid) .house in
-    (v .own-low, (omega (arith, v .own-high, v .few-sites), h .unspent))
+    record { first = v .own-low; last = omega (arith, v .own-high, v .few-sites); low = h .unspent }
 
 settled-requires : tie.Need-settled-requires
 settled-requires c κs =

@@ -16,6 +16,7 @@ use Rattle.rules.specs.Live.{placeOf}
 use Rattle.rules.specs.Valid.{siteOk}
 use Rattle.rules.specs.ValidLaws.{valid-site}
 use Rattle.lent.specs.Lent.{siteOf}
+use Rattle.site.specs.Accessed.{Sendable}
 use Rattle.site.proofs.enlist.enlist.Statement.{statement}
 use Rattle.site.proofs.enlist.enlist.Tie as tie
 
@@ -102,7 +103,9 @@ enlist-at-requires c κs =
     let s = begins (past .before) in
     let v = valid-site (handed s) (h .valid) .house in
     let k = site-clear (handed s .house) (s .args .site) (h .site) in
-    (record { possible = h .valid; low = h .held }, (k .low, (omega (arith, k .high, v .few-sites), h .long)))
+    let room : Sendable (s .args .site) (s .args .out .now) =
+    record { first = k .low; last = omega (arith, k .high, v .few-sites); long = h .long } in
+    (record { possible = h .valid; low = h .held }, room)
 
 same-length-2 : tie.Need-same-length-2
 same-length-2 c = search needs

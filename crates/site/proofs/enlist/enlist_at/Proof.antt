@@ -75,10 +75,10 @@ turn-at-requires : tie.Need-turn-at-requires
 turn-at-requires c κs = let s = start c in (long s .live, s .pre .0 .low)
 
 in-mask-requires : tie.Need-in-mask-requires
-in-mask-requires c κs = let p = start (c .before .before) .pre .1 in (p .0, p .1 .0)
+in-mask-requires c κs = let p = start (c .before .before) .pre .1 in (p .first, p .last)
 
 channel-spent-requires : tie.Need-channel-spent-requires
-channel-spent-requires c κs = let p = start (c .before .before .before) .pre .1 in (p .0, p .1 .0)
+channel-spent-requires c κs = let p = start (c .before .before .before) .pre .1 in (p .first, p .last)
 
 joiner-code-requires : tie.Need-joiner-code-requires
 joiner-code-requires c κs = search needs
@@ -106,9 +106,9 @@ enlist-step-requires c κs =
     let p = s .pre .1 in
     let clear = sym (first code) ∙ past .if1 .left in
     record {
-      long = p .1 .1;
-      first = p .0;
-      last = p .1 .0;
+      long = p .long;
+      first = p .first;
+      last = p .last;
       low = low (handed s) (s .args .place) (s .args .site) _ (turned (turn (asked code))) clear;
     }
 

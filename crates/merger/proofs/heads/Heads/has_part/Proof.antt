@@ -22,17 +22,17 @@ returns c = simp (← c .before .has-head .ensures, not-true (c .before .has-hea
 returns-2 : tie.Need-returns-2
 unfolding hasPart
 returns-2 c =
-    let if1 = c .before .before .before .if1 in
-    let has-head = c .before .before .before .before .has-head in
-    simp (← has-head .ensures, not-false (has-head .result) (if1 .left), ne-eqb _ _ (c .if2 .taken))
+    let first = c .before .before .before in
+    let has-head = first .before .has-head in
+    simp (← has-head .ensures, not-false (has-head .result) (first .if1 .left), ne-eqb _ _ (c .if2 .taken))
 
 returns-3 : tie.Need-returns-3
 unfolding hasPart
 returns-3 c =
-    let if2 = c .before .before .if2 in
-    let if1 = c .before .before .before .before .before .if1 in
-    let has-head = c .before .before .before .before .before .before .has-head in
-    simp (← has-head .ensures, not-false (has-head .result) (if1 .left), eq-eqb _ _ (if2 .left), pick-self)
+    let second = c .before .before in
+    let first = second .before .before .before in
+    let has-head = first .before .has-head in
+    simp (← has-head .ensures, not-false (has-head .result) (first .if1 .left), eq-eqb _ _ (second .if2 .left), pick-self)
 
 pub has-part-spec : {M : Type 1} → statement M
 has-part-spec =
