@@ -1,4 +1,4 @@
 pub mod Tables
 pub mod Calls
 pub mod Places
-pub mod Holds
+pub mod Match

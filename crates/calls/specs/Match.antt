@@ -1,4 +1,4 @@
--- Demand 3: the cores and the words that a house keeps hold the sites of a world. A call in a place leaves those of the world's step.
+-- Demand 3: the cores and the words that a house keeps are the sites of a world. A call in a place leaves those of the world's step.
 use Prim.Native.Nat.{ℕ, _+_, _<_}
 use mathlib.Core.Path.{_≡_, refl, sym, ap, _∙_}
 use mathlib.Core.List.{List}
@@ -30,7 +30,7 @@ abbrev pub coreIn : List Core → ℕ → Core
 coreIn cores i = getD cores i (freshCore 0 0)
 
 -- the site in place i is the world's site i + 1
-pub record Holds (w : World) (cores : List Core) (t : Words) : Type 0 where
+pub record SitesMatch (w : World) (cores : List Core) (t : Words) : Type 0 where
   pub many : length cores ≡ sizes.sites
   pub tables : Tables (t .live) (t .history) (t .base) (t .lists)
   pub site : (i : ℕ) → i < sizes.sites → siteIn i (coreIn cores i) t ≡ w .site (i + 1)
@@ -75,10 +75,10 @@ replaces w c s out k (install site _ _) = record { site = λ j. refl; base = λ 
 replaces w c s out k (report site _ _) = record { site = λ j. refl; base = λ j. refl; lists = upd-same (w .lists) s }
 
 -- A call in place i leaves the sites of a world in which only site i + 1 is replaced.
-held : (w v : World) (cores : List Core) (t u : Words) (i : ℕ) (out left : List ℕ) (e : Effect) (b l : List ℕ) (r : Reply) → Holds w cores t
+matched : (w v : World) (cores : List Core) (t u : Words) (i : ℕ) (out left : List ℕ) (e : Effect) (b l : List ℕ) (r : Reply) → SitesMatch w cores t
     → i < sizes.sites → Leaves i (coreIn cores i) t out e b l r u left → Replaces w v (i + 1) (e .site) b l
-    → Holds v (set cores i (r .core)) u
-held w v cores t u i out left e b l r h low a n =
+    → SitesMatch v (set cores i (r .core)) u
+matched w v cores t u i out left e b l r h low a n =
     record {
       many = length-set cores i (r .core) ∙ h .many;
       tables =
@@ -131,28 +131,28 @@ held w v cores t u i out left e b l r h low a n =
 
 -- The cores, the words, the reply and the buffer after a call are those of the world's step k.
 pub record Stepped (w : World) (k : Call) (cores : List Core) (u : Words) (out : List ℕ) (r : Reply) (left : List ℕ) : Type 0 where
-  pub holds : Holds (step w k .world) cores u
+  pub sites : SitesMatch (step w k .world) cores u
   pub answer : r .answer ≡ step w k .answer
   pub many : r .words ≡ length (step w k .words)
   pub wrote : left ≡ overlay out (step w k .words)
 
 -- a line's call of a site, and a message, make the world's step
 pub line-steps : (w : World) (cores : List Core) (t u : Words) (c : Command) (k : Call) (i : ℕ) (out left : List ℕ) (r : Reply)
-    → Holds w cores t → i < sizes.sites → Makes c (i + 1) out k → LineLeaves c i (coreIn cores i) t out r u left
+    → SitesMatch w cores t → i < sizes.sites → Makes c (i + 1) out k → LineLeaves c i (coreIn cores i) t out r u left
     → Stepped w k (set cores i (r .core)) u out r left
 unfolding LineLeaves lineEffect
 line-steps w cores t u c k i out left r h low is a =
     let s = steps w c (i + 1) out k is in
     let here = rw (h .site i low, h .base i low, h .lists i low) at a in
     record {
-      holds = held w (step w k .world) cores t u i out left _ _ _ r h low here (replaces w c (i + 1) out k is);
+      sites = matched w (step w k .world) cores t u i out left _ _ _ r h low here (replaces w c (i + 1) out k is);
       answer = here .replied .answer ∙ sym (s .answer);
       many = here .replied .words ∙ sym (ap length (s .words));
       wrote = here .wrote ∙ sym (ap (overlay out) (s .words));
     }
 
 pub message-steps : (w : World) (cores : List Core) (t : Words) (m : List ℕ) (i : ℕ) (out : List ℕ) (r : Reply) (live lists left : List ℕ)
-    → Holds w cores t → i < sizes.sites
+    → SitesMatch w cores t → i < sizes.sites
     → MessageLeaves m i (coreIn cores i) (t .live) (t .history) (t .lists) out r live lists left
     → Stepped w (world.message (i + 1) out m) (set cores i (r .core)) (words live (t .history) (t .base) lists) out r left
 unfolding MessageLeaves messageEffect step siteStep
@@ -161,31 +161,10 @@ message-steps w cores t m i out r live lists left h low a =
     let here = rw (h .site i low, h .base i low, h .lists i low) at all in
     let k = world.message (i + 1) out m in
     record {
-      holds =
-          held w (step w k .world) cores t (words live (t .history) (t .base) lists) i out left _ _ _ r h low here
+      sites =
+          matched w (step w k .world) cores t (words live (t .history) (t .base) lists) i out left _ _ _ r h low here
           (record { site = λ j. refl; base = λ j. refl; lists = λ j. refl });
       answer = here .replied .answer;
       many = here .replied .words;
       wrote = here .wrote;
     }
-
--- Neither a line's call of a site nor a message changes the merger, its queues or a copy.
-pub record StreamStays (w v : World) : Type 0 where
-  pub merger : v .merger ≡ w .merger
-  pub queues : v .queues ≡ w .queues
-  pub copy : v .copy ≡ w .copy
-
-pub line-leaves-stream : (w : World) (c : Command) (s : ℕ) (out : List ℕ) (k : Call) → Makes c s out k → StreamStays w (step w k .world)
-unfolding step siteStep logStep
-line-leaves-stream w c s out k (begin site _ _) = record { merger = refl; queues = refl; copy = refl }
-line-leaves-stream w c s out k (enlist tx site _ _) = record { merger = refl; queues = refl; copy = refl }
-line-leaves-stream w c s out k (read site tx key _ _) = record { merger = refl; queues = refl; copy = refl }
-line-leaves-stream w c s out k (write site tx key v _ _) = record { merger = refl; queues = refl; copy = refl }
-line-leaves-stream w c s out k (commit tx _ _) = record { merger = refl; queues = refl; copy = refl }
-line-leaves-stream w c s out k (abandon tx _ _) = record { merger = refl; queues = refl; copy = refl }
-line-leaves-stream w c s out k (install site _ _) = record { merger = refl; queues = refl; copy = refl }
-line-leaves-stream w c s out k (report site _ _) = record { merger = refl; queues = refl; copy = refl }
-
-pub message-leaves-stream : (w : World) (s : ℕ) (out m : List ℕ) → StreamStays w (step w (world.message s out m) .world)
-unfolding step siteStep
-message-leaves-stream w s out m = record { merger = refl; queues = refl; copy = refl }

@@ -23,7 +23,7 @@ use Rattle.pieces.specs.Own.{own, Only, only-length, only-elsewhere}
 use Rattle.stream.specs.Asked.{allCopies, mergingOf, copyingOf}
 
 -- copy i, less 1, is the world's copy i + 1
-pub record Holds (w : World) (g : Merger) (queues tables : List ℕ) : Type 0 where
+pub record StreamMatches (w : World) (g : Merger) (queues tables : List ℕ) : Type 0 where
   pub merger : g ≡ w .merger
   pub queued : queues ≡ w .queues
   pub many : length tables ≡ allCopies
@@ -40,7 +40,7 @@ pub data OfCopy : Command → ℕ → List ℕ → Call → Type 0 where
 
 -- The merger, its queues, the reply and the buffer after a line of the merger are those of the world's step k.
 pub record Stepped (w : World) (k : Call) (r : MergerOut) (queues tables out left : List ℕ) : Type 0 where
-  pub holds : Holds (step w k .world) (r .merger) queues tables
+  pub stream : StreamMatches (step w k .world) (r .merger) queues tables
   pub answer : r .answer ≡ step w k .answer
   pub many : r .words ≡ length (step w k .words)
   pub wrote : left ≡ overlay out (step w k .words)
@@ -52,34 +52,34 @@ Merges c g queues m out r queues′ left =
     (r ≡ mergerOutOf e) × ((queues′ ≡ e .queues) × (left ≡ overlay out (e .words)))
 
 merged : (w : World) (tables : List ℕ) (c : Command) (k : Call) (m out : List ℕ) (r : MergerOut) (queues′ left : List ℕ)
-    → Holds w (w .merger) (w .queues) tables → OfMerger c out m k → Merges c (w .merger) (w .queues) m out r queues′ left
+    → StreamMatches w (w .merger) (w .queues) tables → OfMerger c out m k → Merges c (w .merger) (w .queues) m out r queues′ left
     → Stepped w k r queues′ tables out left
 unfolding step mergeStep mergerStep mergingOf mergerOutOf
 merged w tables c k m out r queues′ left h (merge site _ _) (reply, (queued, wrote)) =
     record {
-      holds = record { merger = ap (λ o. o .merger) reply; queued = queued; many = h .many; copy = h .copy };
+      stream = record { merger = ap (λ o. o .merger) reply; queued = queued; many = h .many; copy = h .copy };
       answer = ap (λ o. o .answer) reply;
       many = ap (λ o. o .words) reply;
       wrote = wrote;
     }
 merged w tables c k m out r queues′ left h (emit _ _) (reply, (queued, wrote)) =
     record {
-      holds = record { merger = ap (λ o. o .merger) reply; queued = queued; many = h .many; copy = h .copy };
+      stream = record { merger = ap (λ o. o .merger) reply; queued = queued; many = h .many; copy = h .copy };
       answer = ap (λ o. o .answer) reply;
       many = ap (λ o. o .words) reply;
       wrote = wrote;
     }
 
 pub merger-steps : (w : World) (g : Merger) (queues tables : List ℕ) (c : Command) (k : Call) (m out : List ℕ) (r : MergerOut)
-    (queues′ left : List ℕ) → Holds w g queues tables → OfMerger c out m k → Merges c g queues m out r queues′ left
+    (queues′ left : List ℕ) → StreamMatches w g queues tables → OfMerger c out m k → Merges c g queues m out r queues′ left
     → Stepped w k r queues′ tables out left
 merger-steps w g queues tables c k m out r queues′ left h of made =
     merged w tables c k m out r queues′ left (rw (h .merger, h .queued) at h) of (rw (h .merger, h .queued) at made)
 
 -- the words of copy i, less 1, are x afterwards, and the other copies' stay
-replaced : (w v : World) (g : Merger) (queues tables tables′ : List ℕ) (i : ℕ) (x : List ℕ) → Holds w g queues tables → i < copies
+replaced : (w v : World) (g : Merger) (queues tables tables′ : List ℕ) (i : ℕ) (x : List ℕ) → StreamMatches w g queues tables → i < copies
     → own sizes.copy i tables′ ≡ x → Only sizes.copy i tables tables′ → v .merger ≡ w .merger → v .queues ≡ w .queues
-    → v .copy (i + 1) ≡ x → ((j : ℕ) → (j ≡ i + 1 → ⊥) → v .copy j ≡ w .copy j) → Holds v g queues tables′
+    → v .copy (i + 1) ≡ x → ((j : ℕ) → (j ≡ i + 1 → ⊥) → v .copy j ≡ w .copy j) → StreamMatches v g queues tables′
 replaced w v g queues tables tables′ i x h low here only merger queued mine others =
     record {
       merger = h .merger ∙ sym merger;
@@ -95,9 +95,9 @@ replaced w v g queues tables tables′ i x h low here only merger queued mine ot
         ∙ sym (others (j + 1) (λ e. z (omega (arith, e))))
 
 pub copy-steps : (w : World) (g : Merger) (queues tables tables′ : List ℕ) (c : Command) (k : Call) (i : ℕ) (m : List ℕ) (a : Answer)
-    → Holds w g queues tables → i < copies → OfCopy c (i + 1) m k → a ≡ copyingOf c (own sizes.copy i tables) m .answer
+    → StreamMatches w g queues tables → i < copies → OfCopy c (i + 1) m k → a ≡ copyingOf c (own sizes.copy i tables) m .answer
     → own sizes.copy i tables′ ≡ copyingOf c (own sizes.copy i tables) m .copy → Only sizes.copy i tables tables′
-    → Holds (step w k .world) g queues tables′ × (a ≡ step w k .answer)
+    → StreamMatches (step w k .world) g queues tables′ × (a ≡ step w k .answer)
 unfolding step replayStep copyStep copyingOf upd
 copy-steps w g queues tables tables′ c k i m a h low (replay number _ _) answer here only =
     let e = h .copy i low in (
@@ -108,19 +108,3 @@ copy-steps w g queues tables tables′ c k i m a h low (replay number _ _) answe
 copy-steps w g queues tables tables′ c k i m a h low (value number key _ _) answer here only =
     let e = h .copy i low in
     (replaced w w g queues tables tables′ i _ h low (rw e at here) only refl refl refl (λ j n. refl), rw e at answer)
-
--- Neither a line of the merger nor a line of a copy changes a site.
-pub record SitesStay (w v : World) : Type 0 where
-  pub site : v .site ≡ w .site
-  pub base : v .base ≡ w .base
-  pub lists : v .lists ≡ w .lists
-
-pub merger-leaves-sites : (w : World) (c : Command) (out m : List ℕ) (k : Call) → OfMerger c out m k → SitesStay w (step w k .world)
-unfolding step mergeStep mergerStep
-merger-leaves-sites w c out m k (merge site _ _) = record { site = refl; base = refl; lists = refl }
-merger-leaves-sites w c out m k (emit _ _) = record { site = refl; base = refl; lists = refl }
-
-pub copy-leaves-sites : (w : World) (c : Command) (s : ℕ) (m : List ℕ) (k : Call) → OfCopy c s m k → SitesStay w (step w k .world)
-unfolding step replayStep copyStep
-copy-leaves-sites w c s m k (replay number _ _) = record { site = refl; base = refl; lists = refl }
-copy-leaves-sites w c s m k (value number key _ _) = record { site = refl; base = refl; lists = refl }
