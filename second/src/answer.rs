@@ -1,6 +1,8 @@
-//! Refusals, reasons of abort and decisions (N1 to N5).
+//! Refusals, reasons of abort and decisions (N1 to N5, Q7.1 to Q7.8).
 
-#[derive(Clone, Copy, PartialEq, Eq, Debug, PartialOrd, Ord)]
+/// In the order of the causes: where several apply, the first of this list is
+/// returned. The numbers do not ascend along it, and 6 is retired.
+#[derive(Clone, Copy, PartialEq, Eq, Debug)]
 #[repr(u8)]
 pub enum Refusal {
     BufferTooShort = 1,
@@ -8,7 +10,10 @@ pub enum Refusal {
     OtherSite = 3,
     NotNext = 4,
     NotHeld = 5,
-    Stage = 6,
+    /// The call belongs to the coordinator, and this site is not the coordinator.
+    NotCoordinator = 26,
+    /// The stage does not allow the call, a site enlisted before included.
+    WrongStage = 27,
     JoinedOutstanding = 7,
     Forgotten = 8,
     KeyHeld = 9,

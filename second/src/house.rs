@@ -150,7 +150,8 @@ impl Running {
         })
     }
 
-    /// A number whose coordinator the house lacks is held nowhere.
+    /// Where enlist, commit and abandon go, so that no line prints 26. A number
+    /// whose coordinator the house lacks is held nowhere.
     fn coordinator(&self, transaction: u64) -> Result<u64, Refusal> {
         let coordinator = coordinator_of(transaction);
         require(is_site(coordinator, self.sites()), Refusal::NotHeld)?;

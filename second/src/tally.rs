@@ -68,6 +68,12 @@ impl Tally {
         self.counts.get(&(what, outcome.to_string())).copied().unwrap_or(0)
     }
 
+    /// How often an outcome was counted, whatever had it.
+    pub fn total(&self, outcome: &str) -> u64 {
+        let alike = self.counts.iter().filter(|((_, counted), _)| counted == outcome);
+        alike.map(|(_, count)| count).sum()
+    }
+
     pub fn add(&mut self, other: &Tally) {
         for (key, count) in &other.counts {
             *self.counts.entry(key.clone()).or_default() += count;

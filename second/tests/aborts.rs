@@ -36,7 +36,7 @@ fn a_full_site_aborts_12_at_the_commit_request() {
     }
     script += &format!(
         "begin 2 => refused 12\nbegin 1 => ok {T}\nenlist {T} 2\ntake 1 2\ncommit {T} => refused 7\n\
-         take 2 1\nwrite 2 {T} 256 1 => refused 5\nwrite 1 {T} 1 1\nenlist {T} 2 => refused 6\n\
+         take 2 1\nwrite 2 {T} 256 1 => refused 5\nwrite 1 {T} 1 1\nenlist {T} 2 => refused 27\n\
          commit {T} => ok abort 12\ncommit {T} => refused 5\ntake 1 2\ntake 1 2 => refused 17\n"
     );
     play(&script);
@@ -151,5 +151,5 @@ fn abandon_aborts_20_before_the_decision() {
     play(&format!("{SPLIT}{abandoned}take 1 2\ntake 2 1\ntake 1 2\n"));
     let begun = format!("sites 1\nbegin 1 => ok {T}\n");
     play(&format!("{begun}abandon {T} => ok abort 20\nabandon {T} => refused 5\n"));
-    play(&format!("{begun}commit {T} => ok 1\nabandon {T} => refused 6\n"));
+    play(&format!("{begun}commit {T} => ok 1\nabandon {T} => refused 27\n"));
 }

@@ -1,4 +1,4 @@
-//! Each fixed point of 01.
+//! Each fixed point (P1 to P14).
 
 mod common;
 

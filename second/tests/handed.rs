@@ -92,7 +92,23 @@ fn a_vote_of_another_site_is_not_the_one_outstanding() {
 fn a_mask_without_the_own_site_is_not_that_of_a_lone_participant() {
     let mut house = House::after(3, &["begin 1", &format!("live 1 {T} 3 2")]);
     assert_eq!(house.say(&format!("commit 1 {T}")), "refused 7");
-    assert_eq!(house.say(&format!("enlist 1 {T} 1")), "refused 6");
+    assert_eq!(house.say(&format!("enlist 1 {T} 1")), "refused 27");
+}
+
+#[test]
+fn an_impossible_state_of_a_participant_goes_before_26() {
+    let mut house = House::after(3, &["head 1 1 2 1", &format!("word 5 {T}"), "message 2"]);
+    let calls = [format!("enlist 2 {T} 3"), format!("abandon 2 {T}"), format!("commit 2 {T}")];
+    for (field, past, possible) in [(2, 6, 4), (3, 8, 3), (9, 17, 0)] {
+        house.say(&format!("live 2 {T} {field} {past}"));
+        assert_eq!(calls.each_ref().map(|call| house.say(call).to_string()), ["refused 2"; 3]);
+        house.say(&format!("live 2 {T} {field} {possible}"));
+        assert_eq!(calls.each_ref().map(|call| house.say(call).to_string()), ["refused 26"; 3]);
+    }
+    // Of the three only commit is lent the lists.
+    house.say(&format!("live 2 {T} 7 1"));
+    let answers = calls.each_ref().map(|call| house.say(call).to_string());
+    assert_eq!(answers, ["refused 26", "refused 26", "refused 2"]);
 }
 
 #[test]

@@ -1,9 +1,13 @@
 //! The generator, the book and random lists of calls.
 
+use std::collections::BTreeSet;
+
 use second::book::Book;
 use second::copy::Copy;
 use second::fuzz;
 use second::house::House;
+use second::probe::line::parse;
+use second::probe::{random, Probe};
 use second::scripts::generate;
 use second::sizes::COPIES;
 use second::tally::Tally;
@@ -29,24 +33,64 @@ fn scripts_reach_all_that_they_can() {
     for seed in 1..=150 {
         tally.add(&generate(seed, None).tally);
     }
-    for number in [2, 3, 5, 6, 7, 8, 9, 10, 11, 12, 15, 17] {
+    for number in [2, 3, 5, 27, 7, 8, 9, 10, 11, 12, 15, 17] {
         assert!(tally.get("any line", &format!("refused {number:2}")) > 0, "refusal {number}");
     }
-    for number in [1, 4, 13, 14, 16] {
+    for number in [1, 4, 6, 26, 13, 14, 16] {
         assert_eq!(tally.get("any line", &format!("refused {number:2}")), 0, "refusal {number}");
     }
     for reason in [12, 18, 19, 20] {
         assert!(tally.get("any line", &format!("ok, abort {reason}")) > 0, "reason {reason}");
     }
-    assert_eq!(tally.get("line take", "refused  6"), 0);
+    assert_eq!(tally.get("line take", "refused 27"), 0);
     assert!(tally.get("any line", "ok, commits") > 0);
 }
 
 #[test]
-fn random_lists_keep_the_book() {
+fn random_lists_keep_the_book_and_tell_the_wrong_site_from_the_wrong_stage() {
+    let mut tally = Tally::default();
     for seed in 1..=40 {
-        fuzz::run(seed, 600, false);
+        tally.add(&fuzz::run(seed, 600, false));
     }
+    let mut elsewhere = 0;
+    for call in ["enlist", "commit", "abandon"] {
+        assert!(tally.get(call, "refused 26") > 0, "{call} at another site");
+        assert!(tally.get(call, "refused 27") > 0, "{call} at the wrong stage");
+        elsewhere += tally.get(call, "refused 26");
+    }
+    for call in ["read", "write"] {
+        assert!(tally.get(call, "refused 27") > 0, "{call} at the wrong stage");
+    }
+    assert_eq!(tally.total("refused 26"), elsewhere, "another call gave 26");
+    assert_eq!(tally.total("refused  6"), 0, "a call gave 6");
+}
+
+/// Calls of random probes with the numbers that refused them.
+fn refusals_of_random_probes() -> BTreeSet<(String, String)> {
+    let mut met = BTreeSet::new();
+    for seed in 1..=12 {
+        let mut probe = Probe::new(1);
+        for line in random::probe(seed, 1_500).lines() {
+            let Some(line) = parse(line).unwrap() else { continue };
+            let mut output = String::new();
+            probe.obey(1, &line, &mut output).unwrap();
+            let rest = output.strip_prefix("1 refused ");
+            let number = rest.and_then(|rest| rest.split_whitespace().next());
+            met.extend(number.map(|number| (line.verb, number.to_string())));
+        }
+    }
+    met
+}
+
+#[test]
+fn random_probes_meet_26_and_27_in_their_calls_and_6_in_none() {
+    let met = refusals_of_random_probes();
+    let calls = |number: &str| -> Vec<&str> {
+        met.iter().filter(|it| it.1 == number).map(|it| it.0.as_str()).collect()
+    };
+    assert_eq!(calls("26"), ["abandon", "commit", "enlist"]);
+    assert_eq!(calls("27"), ["abandon", "commit", "enlist", "message", "read", "write"]);
+    assert!(calls("6").is_empty());
 }
 
 /// The book notices a copy that lacks a write of the prefix.

@@ -81,6 +81,15 @@ fn the_worked_script_is_drawn_whole() {
 }
 
 #[test]
+fn the_head_says_why_a_late_call_is_refused() {
+    let late = "sites 1\nbegin 1\ncommit 4294967297\nabandon 4294967297\n";
+    let picture = draw("late.house", late.as_bytes(), false);
+    assert_well_formed(&picture);
+    assert_eq!(titles(&picture, "refused"), ["abandon 4294967297"]);
+    assert!(picture.contains("refused 27, nothing changes: the stage does not allow the call"));
+}
+
+#[test]
 fn what_nobody_took_is_dashed_and_an_unused_copy_has_no_lane() {
     let picture = draw("abandoned.house", ABANDONED.as_bytes(), false);
     assert_well_formed(&picture);

@@ -1,15 +1,18 @@
-//! Each refusal from 1 to 17: its number, and that nothing is altered.
+//! Each refusal: its number, its place among the causes, and that nothing is altered.
 
 mod common;
 
+use common::stages::*;
 use common::*;
+use second::answer::{Refusal, Sent};
 use second::copy::Copy;
 use second::merger::Merger;
 use second::site::{Site, Stage};
 use second::sizes::*;
 
-const T: u64 = (1 << 32) + 1;
 const FULL: usize = SEND_BUFFER;
+
+type SendingCall = fn(&mut Site, &mut [u64]) -> Result<Sent, Refusal>;
 
 /// Site 1 of a house of two, with one active transaction.
 fn begun() -> Site {
@@ -23,6 +26,25 @@ fn enlisted() -> Site {
     let mut one = begun();
     one.enlist(T, 2, &mut buffer()).unwrap();
     one
+}
+
+/// What enlist of sites 1, 2 and 3, commit and abandon of T each answer: 0 where it
+/// is accepted.
+fn answers(site: &Site) -> [u64; 5] {
+    let calls: [SendingCall; 5] = [
+        |site, out| site.enlist(T, 1, out),
+        |site, out| site.enlist(T, 2, out),
+        |site, out| site.enlist(T, 3, out),
+        |site, out| site.commit(T, out),
+        |site, out| site.abandon(T, out),
+    ];
+    calls.map(|call| match call(&mut site.clone(), &mut buffer()) {
+        Ok(_) => 0,
+        Err(refusal) => {
+            refused(site, FULL, refusal.number(), call);
+            refusal.number()
+        }
+    })
 }
 
 #[test]
@@ -90,49 +112,106 @@ fn a_transaction_that_is_not_held() {
 }
 
 #[test]
-fn a_stage_or_post_that_does_not_allow_the_call() {
-    let mut one = enlisted();
-    refused(&one, FULL, 6, |site, out| site.enlist(T, 1, out));
-    refused(&one, FULL, 6, |site, out| site.enlist(T, 2, out));
-    take(&mut one, &message(2, 2, 1, T));
-    one.commit(T, &mut buffer()).unwrap();
-    refused(&one, FULL, 6, |site, out| site.commit(T, out));
-    refused(&one, 0, 6, |site, _| site.read(T, 1));
-    refused(&one, 0, 6, |site, _| site.write(T, 1, 1));
-    refused(&one, FULL, 6, |site, out| site.enlist(T, 2, out));
-    let mut two = site(3, 2);
-    take(&mut two, &message(1, 1, 2, T));
-    refused(&two, FULL, 6, |site, out| site.enlist(T, 3, out));
-    refused(&two, FULL, 6, |site, out| site.commit(T, out));
-    refused(&two, FULL, 6, |site, out| site.abandon(T, out));
-    two.live[0].stage = Stage::Decided { number: 3 };
-    let mut abort = message(8, 1, 2, T);
-    abort[4] = 2;
-    refused(&two, FULL, 6, |site, out| site.message(&abort, out));
+fn no_participant_takes_a_call_of_the_coordinator_in_any_stage() {
+    let (open, decided) = (Stage::Open { mark: 0 }, Stage::Decided { number: 1 });
+    let active = Stage::Active { full: false };
+    let stages = participants().map(|two| two.live[0].stage);
+    assert_eq!(stages, [active, Stage::Prepared, open, decided, Stage::VotedNo]);
+    for two in participants() {
+        let stage = two.live[0].stage;
+        assert_ne!(two.live[0].outstanding(2), 0, "7 would apply as well");
+        assert_eq!(answers(&two), [26; 5], "{stage:?}");
+        assert_eq!(answers(&spent(&two)), [26; 5], "{stage:?}, 13 would apply as well");
+    }
+}
+
+#[test]
+fn at_a_participant_1_2_and_5_go_before_26() {
+    for two in participants() {
+        refused(&two, FULL - 1, 1, |site, out| site.enlist(T, 3, out));
+        refused(&two, FULL - 1, 1, |site, out| site.commit(T, out));
+        refused(&two, FULL - 1, 1, |site, out| site.abandon(T, out));
+        refused(&two, FULL, 2, |site, out| site.enlist(T, 0, out));
+        refused(&two, FULL, 2, |site, out| site.enlist(T, 4, out));
+        for number in [0, T + 1, (3 << 32) + 1, u64::MAX] {
+            refused(&two, FULL, 5, |site, out| site.enlist(number, 3, out));
+            refused(&two, FULL, 5, |site, out| site.commit(number, out));
+            refused(&two, FULL, 5, |site, out| site.abandon(number, out));
+        }
+    }
+    let [mut aborted, ..] = participants();
+    take(&mut aborted, &to_two(2, 8, 0, 0));
+    assert_eq!(answers(&aborted), [5; 5]);
+}
+
+#[test]
+fn the_coordinator_refuses_27_only_where_stage_or_mask_forbids_the_call() {
+    let active = |full| Stage::Active { full };
+    let (open, decided) = (Stage::Open { mark: 0 }, Stage::Decided { number: 1 });
+    // What `answers` gives; then the same with every channel spent.
+    let due = [
+        (active(false), [27, 0, 0, 0, 0], [27, 13, 13, 0, 0]),
+        (active(false), [27, 27, 0, 7, 0], [27, 27, 13, 7, 13]),
+        (active(true), [27, 27, 0, 0, 0], [27, 27, 13, 13, 13]),
+        (active(false), [27, 27, 0, 0, 0], [27, 27, 13, 13, 13]),
+        (Stage::Prepared, [27, 27, 27, 27, 0], [27, 27, 27, 27, 13]),
+        (open, [27, 27, 27, 27, 0], [27, 27, 27, 27, 13]),
+        (decided, [27; 5], [27; 5]),
+    ];
+    for (place, (stage, whole, ending)) in due.into_iter().enumerate() {
+        let one = &coordinators()[place];
+        assert_eq!(one.live[0].stage, stage);
+        assert_eq!(answers(one), whole, "{place}: {stage:?}");
+        assert_eq!(answers(&spent(one)), ending, "{place}: {stage:?}, channels spent");
+        if !one.live[0].is_active() {
+            let mut unheard = spent(one);
+            unheard.live[0].heard = 0;
+            assert_eq!(answers(&unheard), ending, "{stage:?}, 7 would apply as well");
+        }
+    }
+}
+
+#[test]
+fn a_read_or_write_after_prepare_or_the_commit_request() {
+    let parts = participants().into_iter().zip([256; 5]);
+    for (mut site, key) in parts.chain(coordinators().into_iter().zip([0; 7])) {
+        // Another one holds the key: 9 would apply as well.
+        let other = site.begin().unwrap();
+        site.write(other, key, 1).unwrap();
+        if site.live[0].is_active() {
+            assert_eq!(site.read(T, key), Ok(0));
+            refused(&site, 0, 9, |site, _| site.write(T, key, 2));
+            continue;
+        }
+        refused(&site, 0, 27, |site, _| site.read(T, key));
+        refused(&site, 0, 27, |site, _| site.write(T, key, 2));
+    }
 }
 
 #[test]
 fn a_message_out_of_turn() {
     let one = enlisted();
     let mut yes = message(6, 2, 1, T);
-    refused(&one, FULL, 6, |site, out| site.message(&message(4, 2, 1, T), out));
-    refused(&one, FULL, 6, |site, out| site.message(&yes, out));
+    refused(&one, FULL, 27, |site, out| site.message(&message(4, 2, 1, T), out));
+    refused(&one, FULL, 27, |site, out| site.message(&yes, out));
     let mut two = site(2, 2);
     take(&mut two, &message(1, 1, 2, T));
     for kind in [1, 5, 7] {
-        let mut early = message(kind, 1, 2, T);
-        early[4] = 2;
-        refused(&two, FULL, 6, |site, out| site.message(&early, out));
+        let early = to_two(2, kind, 0, 0);
+        refused(&two, FULL, 27, |site, out| site.message(&early, out));
+        refused(&spent(&two), FULL, 27, |site, out| site.message(&early, out));
     }
+    two.live[0].stage = Stage::Decided { number: 3 };
+    let abort = to_two(2, 8, 0, 0);
+    refused(&two, FULL, 27, |site, out| site.message(&abort, out));
     // A yes in the place of a CONC is out of turn, a no is not.
     let mut gathering = one.clone();
     take(&mut gathering, &message(2, 2, 1, T));
     gathering.commit(T, &mut buffer()).unwrap();
     yes[4] = 2;
-    refused(&gathering, FULL, 6, |site, out| site.message(&yes, out));
-    let mut again = message(2, 2, 1, T);
-    again[4] = 2;
-    refused(&gathering, FULL, 6, |site, out| site.message(&again, out));
+    refused(&gathering, FULL, 27, |site, out| site.message(&yes, out));
+    refused(&spent(&gathering), FULL, 27, |site, out| site.message(&yes, out));
+    refused(&gathering, FULL, 27, |site, out| site.message(&to_one(2, 2, 0), out));
 }
 
 #[test]

@@ -1,4 +1,4 @@
-//! 01's traps, the anomaly that the base allows, and frames of messages.
+//! The traps (T1 to T4), the anomaly that the base allows, and frames of messages.
 
 mod common;
 

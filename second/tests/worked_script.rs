@@ -1,4 +1,4 @@
-//! 01's worked script, and how the program reads its lines.
+//! The worked script (H2), and how the program reads its lines.
 
 mod common;
 
@@ -76,7 +76,7 @@ fn calls_go_to_the_coordinator_of_their_number() {
          enlist 8589934593 3 => refused 2
          enlist 12884901889 3 => refused 2
          enlist 12884901889 1 => refused 5
-         enlist 8589934593 2 => refused 6
+         enlist 8589934593 2 => refused 27
          enlist 8589934593 1
          commit 8589934593 => refused 7
          take 2 1
@@ -88,7 +88,7 @@ fn calls_go_to_the_coordinator_of_their_number() {
          take 1 2
          take 2 1
          take 1 2 => ok 1
-         abandon 8589934593 => refused 6
+         abandon 8589934593 => refused 27
          take 2 1
          install 1 => ok 1 2
          install 2 => ok 1 2

@@ -1,4 +1,4 @@
--- The causes of refusal (N3) and the reasons of abort: the numbers of src/reason.rt.
+-- The causes of refusal (N3), in their order, and the reasons of abort: the numbers of src/reason.rt.
 use Prim.Native.Nat.{ℕ}
 
 abbrev pub short : ℕ
@@ -17,10 +17,10 @@ abbrev pub unknown : ℕ
 unknown = 5
 
 abbrev pub notCoordinator : ℕ
-notCoordinator = 6
+notCoordinator = 26
 
 abbrev pub stage : ℕ
-stage = 6
+stage = 27
 
 abbrev pub outstanding : ℕ
 outstanding = 7

@@ -1,4 +1,4 @@
-// Numbers of the causes of refusal (N3), and of the reasons of abort. UNKNOWN, FULL and SPENT are both.
+// Numbers of the causes of refusal (N3), in their order, and of the reasons of abort. UNKNOWN, FULL and SPENT are both.
 // The outgoing buffer is too short.
 pub const SHORT: u64 = 1;
 
@@ -14,10 +14,11 @@ pub const NOT_NEXT: u64 = 4;
 // The transaction is not held here. In a VOTE: a PREPARE came for a transaction not held.
 pub const UNKNOWN: u64 = 5;
 
-// The two causes of one number: the call belongs to the coordinator, and the stage does not allow it.
-pub const NOT_COORDINATOR: u64 = 6;
+// The call belongs to the coordinator, and this site is not it.
+pub const NOT_COORDINATOR: u64 = 26;
 
-pub const STAGE: u64 = 6;
+// The stage of the transaction does not allow the call, or the enlisted site is in its mask.
+pub const STAGE: u64 = 27;
 
 // The commit request comes while a JOINED is outstanding.
 pub const OUTSTANDING: u64 = 7;

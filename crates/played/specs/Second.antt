@@ -9,8 +9,8 @@ use Rattle.rules.specs.Message.{messageWords, entryCount}
 use Rattle.rules.specs.Course.{headOf}
 use Rattle.rules.specs.World.{Call}
 use Rattle.rules.specs.Book.{Fact, began, used, wrote, committed, installed, replayed}
-use Rattle.played.specs.Script.{Told, _⟶_, begin, enlist, read, write, commit, abandon, take, install, report, merge, emit, replay}
-use Rattle.played.specs.Script.{value, callsOf}
+use Rattle.played.specs.Script.{Told, _⟶_, begin, enlist, read, write, commit, commitAt, abandon, take, install, report, merge}
+use Rattle.played.specs.Script.{emit, replay, value, callsOf}
 
 -- the first, second and third of site 1, the first and second of site 2
 abbrev pub spanning : ℕ
@@ -41,6 +41,11 @@ secondScript =
     -- Its commit request: PREPARE, CONC, CERT, VOTE. With site 2's yes it commits, and COMMIT goes out.
     ∷ commit spanning ⟶ Done
     ∷ take 1 2 2 ⟶ Done
+    -- Site 2 is not the coordinator and says so, though it is too late as well. Site 1 is, and is asked too late.
+    ∷ commitAt 2 spanning ⟶ Refused 26
+    ∷ commitAt 1 spanning ⟶ Refused 27
+    ∷ enlist spanning 2 ⟶ Refused 27
+    ∷ write 2 spanning 262 1 ⟶ Refused 27
     ∷ take 2 1 2 ⟶ Done
     ∷ take 1 2 3 ⟶ Done
     ∷ take 2 1 3 ⟶ Committed 1

@@ -31,6 +31,7 @@ pub mod Reads
 pub mod Progress
 pub mod Possible
 pub mod Refusals
+pub mod Moments
 -- Laws of the rules.
 pub mod MessageLaws
 pub mod RecordLaws

@@ -18,10 +18,11 @@ use Rattle.rules.specs.World.{Call, World, Member, Handed, Lawful, fresh
 use Rattle.rules.specs.Book.{Fact, bookFrom}
 use Rattle.rules.specs.Claim.{Committed}
 
--- a message that is handed in is never out of turn: whatever else it is refused for, it is not refused 6
+-- a message that is handed in never comes at a wrong moment: whatever else it is refused for, it is refused neither 26 nor 27
 abbrev pub NoneOutOfTurn : World → Type 0
 NoneOutOfTurn w =
-    (s : ℕ) (out m : List ℕ) → Handed w (world.message s out m) → step w (world.message s out m) .answer ≡ Refused reason.stage → ⊥
+    (s : ℕ) (out m : List ℕ) → Handed w (world.message s out m)
+    → (let a = step w (world.message s out m) .answer in (a ≡ Refused reason.notCoordinator → ⊥) × (a ≡ Refused reason.stage → ⊥))
 
 -- a PREPARE finds its transaction held: no VOTE that was written is 5
 abbrev pub NoneUnknown : World → Type 0

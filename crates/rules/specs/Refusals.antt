@@ -1,5 +1,5 @@
--- N1 to N4: which number a call is refused with, and that a refused call leaves all as it was. Both are said of
--- any state, and not only of those that a list leaves.
+-- N1 to N4 and Q7.5 to Q7.8: which number a call is refused with, and that a refused call leaves all as it was. All is said of any state,
+-- and not only of those that a list leaves.
 use Prim.Native.Nat.{ℕ, _-_}
 use mathlib.Core.Path.{_≡_}
 use mathlib.Core.Bool.{true, false, not}
@@ -7,7 +7,7 @@ use mathlib.Core.List.{List, [], _∷_, _++_}
 use lib.Dec.{eqb, leb, ltb}
 use lib.ListN.{length, getD}
 use Rattle.laws.specs.Choice.{pick, every}
-use Rattle.laws.specs.Cause.{Cause, firstIn}
+use Rattle.laws.specs.Cause.{Cause, firstIn, lacks}
 use Rattle.kinds.specs.Sizes as sizes
 use Rattle.kinds.specs.Stage as stage
 use Rattle.kinds.specs.Reason as reason
@@ -45,26 +45,32 @@ use Rattle.rules.specs.World.{World, Call, step}
 unfoldable pub RefusedLeaves : Type 0
 RefusedLeaves = (w : World) (c : Call) (n : ℕ) → step w c .answer ≡ Refused n → (step w c .words ≡ []) × (step w c .world ≡ w)
 
--- The order of the table's causes, by number.
+-- The order of the table's causes. It keeps places for 22, 29, 21, 23 and 24, which no call is refused with (numbersOf).
 unfoldable pub order : List ℕ
 order =
     reason.short
     ∷ reason.malformed
+    ∷ 22
     ∷ reason.elsewhere
     ∷ reason.notNext
     ∷ reason.unknown
+    ∷ reason.notCoordinator
     ∷ reason.stage
     ∷ reason.outstanding
     ∷ reason.forgotten
     ∷ reason.held
     ∷ reason.newer
     ∷ reason.tooMany
+    ∷ 29
     ∷ reason.full
     ∷ reason.spent
     ∷ reason.behind
     ∷ reason.queueFull
     ∷ reason.notWhole
     ∷ reason.nothing
+    ∷ 21
+    ∷ 23
+    ∷ 24
     ∷ []
 
 -- Every cause of each call. Causes 8 to 11 are none for a key that the transaction already wrote.
@@ -180,3 +186,26 @@ pub record FirstCause : Type 0 where
   pub start : (sites own base lists : ℕ) → ByFirst (startOf sites own base lists .answer) (startCauses sites own base lists)
   pub merger-start : (sites : ℕ) (queues : List ℕ) → ByFirst (mergerStartOf sites queues .answer) (mergerStartCauses sites (length queues))
   pub copy-start : (copy : List ℕ) → ByFirst (copyStartOf copy .answer) (copyStartCauses copy)
+
+-- The numbers that each call is ever refused with; a start is refused 2 only.
+abbrev pub numbersOf : Call → List ℕ
+numbersOf (world.begin s) = 2 ∷ 12 ∷ 13 ∷ []
+numbersOf (world.enlist s out tx site) = 1 ∷ 2 ∷ 5 ∷ 26 ∷ 27 ∷ 13 ∷ []
+numbersOf (world.read s tx key) = 2 ∷ 3 ∷ 5 ∷ 27 ∷ 8 ∷ 11 ∷ []
+numbersOf (world.write s tx key v) = 2 ∷ 3 ∷ 5 ∷ 27 ∷ 8 ∷ 9 ∷ 10 ∷ 11 ∷ []
+numbersOf (world.commit s out tx) = 1 ∷ 2 ∷ 5 ∷ 26 ∷ 27 ∷ 7 ∷ 13 ∷ []
+numbersOf (world.abandon s out tx) = 1 ∷ 2 ∷ 5 ∷ 26 ∷ 27 ∷ 13 ∷ []
+numbersOf (world.message s out m) = 1 ∷ 2 ∷ 3 ∷ 4 ∷ 27 ∷ 13 ∷ []
+numbersOf (world.install s out) = 1 ∷ 2 ∷ 13 ∷ 17 ∷ []
+numbersOf (world.report s out) = 1 ∷ 2 ∷ []
+numbersOf (world.merge m) = 2 ∷ 14 ∷ 15 ∷ []
+numbersOf (world.emit out) = 1 ∷ 2 ∷ 16 ∷ 17 ∷ []
+numbersOf (world.replay c m) = 2 ∷ 14 ∷ []
+numbersOf (world.value c key) = 2 ∷ []
+
+-- the claim, of the thirteen calls and the three starts: a number that the list lacks is never answered
+pub record OwnNumbers : Type 0 where
+  pub call : (w : World) (c : Call) (n : ℕ) → lacks n (numbersOf c) ≡ true → step w c .answer ≡ Refused n → ⊥
+  pub start : (sites own base lists n : ℕ) → startOf sites own base lists .answer ≡ Refused n → n ≡ 2
+  pub merger-start : (sites : ℕ) (queues : List ℕ) (n : ℕ) → mergerStartOf sites queues .answer ≡ Refused n → n ≡ 2
+  pub copy-start : (copy : List ℕ) (n : ℕ) → copyStartOf copy .answer ≡ Refused n → n ≡ 2

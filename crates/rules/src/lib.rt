@@ -3,7 +3,8 @@ ghost use Rattle.rules.specs.Claim.{Demand3};
 ghost use Rattle.rules.specs.Progress.{MessagesProgress, RecordsProgress};
 ghost use Rattle.rules.specs.Possible.{Possible};
 ghost use Rattle.rules.specs.Reads.{ReadsRight};
-ghost use Rattle.rules.specs.Refusals.{RefusedLeaves, FirstCause};
+ghost use Rattle.rules.specs.Refusals.{RefusedLeaves, FirstCause, OwnNumbers};
+ghost use Rattle.rules.specs.Moments.{WrongMoments};
 
 // Demand 3: any list of the thirteen calls, from a fresh house.
 pub fn demand3_holds()
@@ -15,7 +16,7 @@ pub fn reads_right()
     ensures { λ _. ⌜ ReadsRight ⌝ }
 {}
 
-// In such a list no message is refused 6, and none is voted 5.
+// In such a list no message is refused 26 or 27, and none is voted 5.
 pub fn messages_progress()
     ensures { λ _. ⌜ MessagesProgress ⌝ }
 {}
@@ -38,4 +39,14 @@ pub fn refused_leaves()
 // In any state a call is refused with the first of its causes that holds, in the order of the table, and taken where none does.
 pub fn first_cause()
     ensures { λ _. ⌜ FirstCause ⌝ }
+{}
+
+// In any state a call is refused with a number of its own list only.
+pub fn own_numbers()
+    ensures { λ _. ⌜ OwnNumbers ⌝ }
+{}
+
+// In any state a coordinator's call is refused 26 at another site, and 27 says that stage or mask forbids a call. None is refused 6.
+pub fn wrong_moments()
+    ensures { λ _. ⌜ WrongMoments ⌝ }
 {}

@@ -125,10 +125,19 @@ impl Fuzz {
     }
 
     /// Beyond demand 3: a channel's next message is in turn, a log's next
-    /// record ascends, a due record is whole.
+    /// record ascends, a due record is whole. Of the coordinator's calls, 26 falls
+    /// only at another site and 27 only at the coordinator; 26 falls in no other call.
     fn is_out_of_reach(&self, call: &Call, refusal: Refusal) -> bool {
         match *call {
-            Call::Message { .. } => refusal == Refusal::Stage,
+            Call::Enlist { site, transaction, .. }
+            | Call::Commit { site, transaction }
+            | Call::Abandon { site, transaction } => match refusal {
+                Refusal::NotCoordinator => coordinator_of(transaction) == site,
+                Refusal::WrongStage => coordinator_of(transaction) != site,
+                _ => false,
+            },
+            _ if refusal == Refusal::NotCoordinator => true,
+            Call::Message { .. } => refusal == Refusal::WrongStage,
             Call::Merge { words } => {
                 let mut logs = self.logs.iter();
                 let next =

@@ -163,13 +163,14 @@ pub fn name(transaction: u64) -> String {
     format!("T{}.{}", coordinator_of(transaction), serial_of(transaction))
 }
 
-/// 01, "When the store says no".
+/// The causes (N3), in their order.
 pub fn cause(number: u64) -> &'static str {
     match number {
         2 => "impossible line, site, key or count",
         3 => "a key of another site",
         5 => "the transaction is not held here",
-        6 => "the stage does not allow the call",
+        26 => "the call belongs to the coordinator, which this site is not",
+        27 => "the stage does not allow the call",
         7 => "a JOINED is outstanding",
         8 => "an install after the snapshot is forgotten",
         9 => "another transaction holds the key",

@@ -3,8 +3,9 @@
 //!
 //! A script cannot reach refusals 1 (the program's buffer is long enough),
 //! 4 (`take` hands in the next message), 13 (counts are too long to spend),
-//! 14 and 16 (logs ascend, and a due record is whole), nor reasons 5 and 13;
-//! and `take` never gives 6, since a channel brings its messages in turn.
+//! 14 and 16 (logs ascend, and a due record is whole) and 26 (the program asks
+//! the coordinator), nor reasons 5 and 13; and `take` never gives 27, since a
+//! channel brings its messages in turn.
 
 mod end;
 mod noise;
@@ -76,9 +77,9 @@ pub fn generate(seed: u64, lines: Option<u64>) -> Script {
 /// Refusals that no script should meet.
 fn is_out_of_reach(line: &str, refusal: Refusal) -> bool {
     match refusal {
-        Refusal::Stage => line.starts_with("take"),
-        Refusal::BufferTooShort | Refusal::NotNext | Refusal::CountSpent => true,
-        Refusal::NotAbove | Refusal::PartsDisagree => true,
+        Refusal::WrongStage => line.starts_with("take"),
+        Refusal::BufferTooShort | Refusal::NotNext | Refusal::NotCoordinator => true,
+        Refusal::CountSpent | Refusal::NotAbove | Refusal::PartsDisagree => true,
         _ => false,
     }
 }

@@ -1,6 +1,7 @@
 //! A site: its state and the calls of clients (C1 to C59).
 //!
-//! Every call first finds the lowest refusal that applies, then alters.
+//! Every call first finds the refusal that applies, in the order of the causes,
+//! then alters.
 
 mod certify;
 mod install;
@@ -71,13 +72,12 @@ impl Site {
     ) -> Result<Sent, Refusal> {
         let mut out = Outbox::new(out)?;
         require(is_site(site, self.sites), Refusal::Impossible)?;
-        let place = self.find(transaction).ok_or(Refusal::NotHeld)?;
+        let place = self.find_coordinated(transaction)?;
         let part = &self.live[place];
         let bit = site_bit(site);
         // The coordinator takes part from the beginning, whatever a handed mask says.
         let taking_part = part.participants | self.own_bit();
-        let allowed = self.coordinates(transaction) && part.is_active() && taking_part & bit == 0;
-        require(allowed, Refusal::Stage)?;
+        require(part.is_active() && taking_part & bit == 0, Refusal::WrongStage)?;
         self.can_send(bit)?;
         self.live[place].participants |= bit;
         self.send(bit, Letter::bare(Kind::Join, transaction), &[], &mut out);
@@ -117,10 +117,9 @@ impl Site {
     /// C15 to C20.
     pub fn commit(&mut self, transaction: u64, out: &mut [u64]) -> Result<Sent, Refusal> {
         let mut out = Outbox::new(out)?;
-        let place = self.find(transaction).ok_or(Refusal::NotHeld)?;
-        require(self.coordinates(transaction), Refusal::Stage)?;
+        let place = self.find_coordinated(transaction)?;
         let Stage::Active { full } = self.live[place].stage else {
-            return Err(Refusal::Stage);
+            return Err(Refusal::WrongStage);
         };
         require(self.outstanding(place) == 0, Refusal::JoinedOutstanding)?;
         let others = self.others(place);
@@ -135,9 +134,9 @@ impl Site {
 
     pub fn abandon(&mut self, transaction: u64, out: &mut [u64]) -> Result<Sent, Refusal> {
         let mut out = Outbox::new(out)?;
-        let place = self.find(transaction).ok_or(Refusal::NotHeld)?;
+        let place = self.find_coordinated(transaction)?;
         let decided = matches!(self.live[place].stage, Stage::Decided { .. });
-        require(self.coordinates(transaction) && !decided, Refusal::Stage)?;
+        require(!decided, Refusal::WrongStage)?;
         self.can_send(self.others(place))?;
         let decision = self.abort(place, reason::ABANDONED, &mut out);
         Ok(Sent { words: out.used(), decision: Some(decision) })
@@ -168,12 +167,19 @@ impl Site {
         None
     }
 
-    /// Refusals 2, 3, 5 and 6 of read and write.
+    /// Refusals 5 and 26 of enlist, commit and abandon.
+    fn find_coordinated(&self, transaction: u64) -> Result<usize, Refusal> {
+        let place = self.find(transaction).ok_or(Refusal::NotHeld)?;
+        require(coordinator_of(transaction) == self.own, Refusal::NotCoordinator)?;
+        Ok(place)
+    }
+
+    /// Refusals 2, 3, 5 and 27 of read and write.
     fn find_active(&self, transaction: u64, key: u64) -> Result<usize, Refusal> {
         require(is_site(key_site(key), self.sites), Refusal::Impossible)?;
         require(key_site(key) == self.own, Refusal::OtherSite)?;
         let place = self.find(transaction).ok_or(Refusal::NotHeld)?;
-        require(self.live[place].is_active(), Refusal::Stage)?;
+        require(self.live[place].is_active(), Refusal::WrongStage)?;
         Ok(place)
     }
 
@@ -202,10 +208,6 @@ impl Site {
 
     pub fn find(&self, transaction: u64) -> Option<usize> {
         self.live.iter().position(|part| part.transaction == transaction)
-    }
-
-    fn coordinates(&self, transaction: u64) -> bool {
-        coordinator_of(transaction) == self.own
     }
 
     fn own_bit(&self) -> u64 {

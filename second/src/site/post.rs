@@ -27,7 +27,7 @@ impl Site {
 
     fn take_held(&mut self, place: usize, message: &Message, out: &mut Outbox) -> Taken {
         match message.kind {
-            Kind::Join => Err(Refusal::Stage),
+            Kind::Join => Err(Refusal::WrongStage),
             Kind::Joined => self.take_joined(place, message),
             Kind::Prepare => self.take_prepare(place, message, out),
             Kind::Conc => self.take_conc(place, message, out),
@@ -78,12 +78,12 @@ impl Site {
                 part.heard |= from;
                 Ok(None)
             }
-            _ => Err(Refusal::Stage),
+            _ => Err(Refusal::WrongStage),
         }
     }
 
     fn take_prepare(&mut self, place: usize, message: &Message, out: &mut Outbox) -> Taken {
-        require(self.live[place].is_active(), Refusal::Stage)?;
+        require(self.live[place].is_active(), Refusal::WrongStage)?;
         let from = site_bit(message.from);
         self.can_send(from)?;
         self.raise(message.clock);
@@ -104,7 +104,7 @@ impl Site {
         let from = site_bit(message.from);
         let outstanding = self.outstanding(place);
         let in_turn = self.live[place].stage == Stage::Prepared && outstanding & from != 0;
-        require(in_turn, Refusal::Stage)?;
+        require(in_turn, Refusal::WrongStage)?;
         let last = outstanding == from;
         if last {
             self.can_send(self.others(place))?;
@@ -116,7 +116,7 @@ impl Site {
     }
 
     fn take_cert(&mut self, place: usize, message: &Message, out: &mut Outbox) -> Taken {
-        require(self.live[place].stage == Stage::Prepared, Refusal::Stage)?;
+        require(self.live[place].stage == Stage::Prepared, Refusal::WrongStage)?;
         self.can_send(site_bit(message.from))?;
         let vote = self.vote(&self.live[place], message.entries());
         match vote {
@@ -137,7 +137,7 @@ impl Site {
             Stage::Open { .. } => true,
             _ => false,
         };
-        require(in_turn && outstanding & from != 0, Refusal::Stage)?;
+        require(in_turn && outstanding & from != 0, Refusal::WrongStage)?;
         let last = outstanding == from;
         if no || last {
             self.can_send(self.others(place))?;
@@ -152,7 +152,7 @@ impl Site {
 
     /// COMMIT's clock is the commit number.
     fn take_commit(&mut self, place: usize, message: &Message) -> Taken {
-        require(matches!(self.live[place].stage, Stage::Open { .. }), Refusal::Stage)?;
+        require(matches!(self.live[place].stage, Stage::Open { .. }), Refusal::WrongStage)?;
         self.raise(message.clock);
         self.live[place].stage = Stage::Decided { number: message.clock };
         Ok(None)
@@ -160,7 +160,7 @@ impl Site {
 
     fn take_abort(&mut self, place: usize) -> Taken {
         let decided = matches!(self.live[place].stage, Stage::Decided { .. });
-        require(!decided, Refusal::Stage)?;
+        require(!decided, Refusal::WrongStage)?;
         self.live.remove(place);
         Ok(None)
     }

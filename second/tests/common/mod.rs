@@ -1,6 +1,8 @@
 //! What the tests share: scripts with their outputs, and calls with a buffer.
 #![allow(dead_code)]
 
+pub mod stages;
+
 use second::answer::{Decision, Refusal, Sent};
 use second::house::{messages, House};
 use second::site::{Footprint, Installed, Part, Site, Stage};

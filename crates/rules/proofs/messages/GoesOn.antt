@@ -48,13 +48,13 @@ use Rattle.rules.proofs.messages.InTurn.{abort-turn}
 use Rattle.rules.proofs.messages.Spoken.{Known, Speaks, quietly-speaks, to-speaks, cast-speaks, vote-speaks, prepared-speaks}
 use Rattle.rules.proofs.messages.Spoken.{certified-speaks, vote-known, no-entries}
 
--- not refused 6, and no VOTE of 5
+-- not refused 27, and no VOTE of 5
 pub record GoesOn (e : Effect) : Type 0 where
   pub in-turn : e .answer ≡ Refused reason.stage → ⊥
   pub known : Made Known (e .words)
 
 -- What is accepted, and what is refused with another number.
-refused-number : (n k : ℕ) → Refused n ≡ Refused k → n ≡ k
+pub refused-number : (n k : ℕ) → Refused n ≡ Refused k → n ≡ k
 refused-number n k e = cc
 
 pub accepted : (a : Answer) → isRefused a ≡ false → a ≡ Refused reason.stage → ⊥

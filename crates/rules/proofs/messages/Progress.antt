@@ -1,9 +1,10 @@
--- Messages go on, proved: after any lawful list none is refused 6 and no VOTE of 5 was written, since every transaction and participant
--- stand in a phase in which what is under way is in its turn.
+-- Messages go on, proved: after any lawful list none is refused 26 or 27 and no VOTE of 5 was written. Every
+-- transaction and participant stand in a phase in which what is under way is in its turn.
 use Prim.Native.Nat.{ℕ, _-_, _≤_}
-use mathlib.Core.Path.{_≡_}
+use mathlib.Core.Path.{_≡_, refl}
 use mathlib.Core.List.{List}
 use lib.ListN.{length, getD}
+use Rattle.kinds.specs.Reason as reason
 use Rattle.kinds.specs.State.{Value}
 use Rattle.kinds.specs.declared.MessageHead.{MessageHead}
 use Rattle.kinds.specs.declared.Site.{Site}
@@ -34,6 +35,7 @@ use Rattle.rules.proofs.messages.Phases.{Phases}
 use Rattle.rules.proofs.messages.StepPhases.{phases-fresh, phases-steps}
 use Rattle.rules.proofs.messages.Spoken.{Known}
 use Rattle.rules.proofs.messages.GoesOn.{GoesOn, refused-goes, arrival-other, next-other, takes-on}
+use Rattle.rules.proofs.refusals.OwnNumbers.{own-numbers}
 use Rattle.rules.proofs.messages.KnownWords.{begin-writes, read-writes, write-writes, enlist-writes, commit-writes, abandon-writes}
 
 -- A message call.
@@ -118,7 +120,10 @@ fresh-goes sites = record { phases = phases-fresh; known = a-nil }
 
 none-out-of-turn : {sites : ℕ} {w : World} {b : List Fact} → Stands Goes sites w b → NoneOutOfTurn w
 unfolding step siteStep
-none-out-of-turn x s out m h = message-goes (x .is .refines) (x .standing .invariant) (x .more .phases) s out m h .in-turn
+none-out-of-turn {w = w} x s out m h = (
+  own-numbers .call w (world.message s out m) reason.notCoordinator refl,
+  message-goes (x .is .refines) (x .standing .invariant) (x .more .phases) s out m h .in-turn,
+)
 
 pub messages-progress : MessagesProgress
 unfolding MessagesProgress

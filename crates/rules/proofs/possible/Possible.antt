@@ -117,7 +117,7 @@ module _ {sites : ℕ} {w : World} {b : List Fact} (x : Stands (More sites) site
       let c = site-clear o to t in
       let here = sym (x .is .refines .site to (c .low) (c .high) .counters .own-is) in
       ⊎-elim
-      (λ (g : n ≡ reason.stage). absurd (turn to out m (inl i) (q ∙ ap Refused g)))
+      (λ (g : n ≡ reason.stage). absurd (turn to out m (inl i) .1 (q ∙ ap Refused g)))
       (λ (g : (n ≡ reason.spent) × CountEnds (w .site to .house) (w .site to)). rw (site-house to t) at g)
       (next-stopped (w .site to) (w .lists to) (site-ok to t) m (length out) long e here next n q)
 

@@ -8,7 +8,7 @@ use borrow.Author.Tests.{eqb-true, eqb-false, eq-eqb, leb-true}
 use lib.Dec.{eqb}
 use lib.ListN.{length}
 use Rattle.laws.specs.Choice.{pick, pick-self, some, by-test, set-not}
-use Rattle.laws.specs.Cause.{Cause, codeOf}
+use Rattle.laws.specs.Cause.{Cause, codeOf, holdsAt, code-holds}
 use Rattle.kinds.specs.Sizes as sizes
 use Rattle.kinds.specs.Reason as reason
 use Rattle.kinds.specs.Kind as kind
@@ -41,18 +41,6 @@ use Rattle.rules.specs.Copy.{replayCauses, replayCode, replayOf, valueCa
 use Rattle.rules.proofs.messages.Spoken.{enlist-speaks, abort-speaks}
 use Rattle.rules.proofs.messages.KnownWords.{commit-speaks}
 
--- some cause of number n holds: computed at a written list
-abbrev pub causeHolds : ℕ → List Cause → Bool
-causeHolds n [] = false
-causeHolds n (c ∷ l) = pick (eqb (c .number) n) (pick (c .holds) true (causeHolds n l)) (causeHolds n l)
-
-pub code-cause : (n : ℕ) (l : List Cause) → (n ≡ 0 → ⊥) → codeOf l ≡ n → causeHolds n l ≡ true
-code-cause n [] z e = absurd (z (sym e))
-code-cause n (c ∷ l) z e =
-    by-test (c .holds)
-    (λ h. rw (h, eq-eqb (c .number) n (rw h at e)))
-    (λ h. let rest = code-cause n l z (rw h at e) in by-test (eqb (c .number) n) (λ q. rw (q, h) rest) (λ q. rw q rest))
-
 -- P holds of every number that the answer is a refusal with
 abbrev pub Refuses : (ℕ → Type 0) → Answer → Type 0
 Refuses P a = (n : ℕ) → a ≡ Refused n → P n
@@ -80,11 +68,11 @@ fails true e = absurd (set-not false e refl)
 fails false e = refl
 
 -- causes of which none with number 2 holds give another number
-pub other-cause : {X : Type 0} (l : List Cause) → causeHolds reason.malformed l ≡ false → Only X (codeOf l)
-other-cause l n e = absurd (set-not _ (code-cause reason.malformed l (λ z. omega arith) e) n)
+pub other-cause : {X : Type 0} (l : List Cause) → holdsAt reason.malformed l ≡ false → Only X (codeOf l)
+other-cause l n e = absurd (set-not _ (code-holds reason.malformed l (λ z. omega arith) e) n)
 
-pub caused : (l : List Cause) → codeOf l ≡ reason.malformed → causeHolds reason.malformed l ≡ true
-caused l e = code-cause reason.malformed l (λ z. omega arith) e
+pub caused : (l : List Cause) → codeOf l ≡ reason.malformed → holdsAt reason.malformed l ≡ true
+caused l e = code-holds reason.malformed l (λ z. omega arith) e
 
 module _ (s : Site) (ok : siteOk s ≡ true) where
   pub begin-why : Refuses (Only ⊥) (beginOf s .answer)

@@ -181,9 +181,9 @@ unfolding reportOf reportCode order
 report-by s room = by-first _ (reportCauses (siteOk s) room) refl (only-by (reportCauses (siteOk s) room) s [] _ refl)
 
 -- A message, by its kind: each handler looks at its turn and at its channels, or at nothing.
-record Last (a : Answer) (l : List Cause) : Type 0 where
+pub record Last (a : Answer) (l : List Cause) : Type 0 where
   by : By a l
-  form : (l ≡ []) ⊎ ((turn : Bool) × (spent : Bool) × (l ≡ replyCauses turn spent))
+  pub form : (l ≡ []) ⊎ ((turn : Bool) × (spent : Bool) × (l ≡ replyCauses turn spent))
 
 module _ (s : Site) (h : MessageHead) (lists : List ℕ) where
   reply-by : (turn spent : Bool) (lent : List ℕ) (e : Effect) → isRefused (e .answer) ≡ false
@@ -234,7 +234,7 @@ module _ (s : Site) (h : MessageHead) (lists : List ℕ) where
       (λ e. rw e (reply-by true (spentTo s (h .from)) [] _ refl))
       (λ e. rw e (record { by = accepted _ refl; form = inl refl }))
 
-  kind-by : (k place : ℕ) (es : List ℕ) → Last (takeKind k s h es lists place .answer) (kindHas k s h place)
+  pub kind-by : (k place : ℕ) (es : List ℕ) → Last (takeKind k s h es lists place .answer) (kindHas k s h place)
   unfolding takeKind kindHas
   kind-by k place es =
       by-test (eqb k kind.join)

@@ -1,0 +1,104 @@
+-- Each call's own numbers: its causes stand in the order of its list, so a number that the list lacks is none of them.
+use Prim.Native.Nat.{ℕ, _-_}
+use mathlib.Core.Path.{_≡_, refl, sym, ap, _∙_}
+use mathlib.Core.Bool.{Bool, true}
+use mathlib.Core.Logic.{_⊎_, inl, inr}
+use mathlib.Core.List.{List, [], _∷_, _++_}
+use borrow.Author.Tests.{eqb-true, eqb-false, ne-eqb}
+use lib.Dec.{eqb}
+use lib.ListN.{length, getD}
+use Rattle.laws.specs.Choice.{by-test, set-not}
+use Rattle.laws.specs.Cause.{Cause, holdsAt, firstIn, first-holds, inOrder, lacks, lacked}
+use Rattle.kinds.specs.Kind as kind
+use Rattle.kinds.specs.declared.Answer.{Answer}
+use Rattle.kinds.specs.declared.Answer.the-variants.{Refused}
+use Rattle.kinds.specs.declared.MessageHead.{MessageHead}
+use Rattle.kinds.specs.declared.Site.{Site}
+use Rattle.kinds.specs.State.{subAt}
+use Rattle.rules.specs.Message.{messageOk, messageHead, messageEntries}
+use Rattle.rules.specs.Record.{recordHead}
+use Rattle.rules.specs.Keys.{wroteKey}
+use Rattle.rules.specs.Live.{placeOf}
+use Rattle.rules.specs.Valid.{handedOk}
+use Rattle.rules.specs.Deliver.{arrivalCauses, nextCauses, replyCauses}
+use Rattle.rules.specs.Install.{startCauses}
+use Rattle.rules.specs.Merger.{mergerStartCauses}
+use Rattle.rules.specs.Copy.{copyStartCauses}
+use Rattle.rules.specs.Answers.{isRefused}
+use Rattle.rules.specs.World as world
+use Rattle.rules.specs.World.{World, Call, step}
+use Rattle.rules.specs.Refusals.{order, beginHas, accessHas, readHas, writeHas, enlistHas, commitHas, abandonHas, kindHas, messageHas}
+use Rattle.rules.specs.Refusals.{installHas, mergeHas, emitHas, causesOf, ByFirst, numbersOf, OwnNumbers}
+use Rattle.rules.proofs.messages.GoesOn.{refused-number}
+use Rattle.rules.proofs.refusals.FirstCause.{first-cause, kind-by}
+
+-- the number of a refusal is one that a cause has
+pub by-cause : (a : Answer) (l : List Cause) (n : ℕ) → ByFirst a l → a ≡ Refused n → holdsAt n l ≡ true
+by-cause a l n x q =
+    by-test (eqb (firstIn order l) 0)
+    (λ z. absurd (set-not (isRefused a) (ap isRefused q) (x .taken (eqb-true _ _ z))))
+    (λ z. let some = eqb-false (firstIn order l) 0 z in
+    let e : firstIn order l ≡ n = refused-number _ n (sym (x .refused some) ∙ q) in
+    first-holds order l n (λ y. some (e ∙ y)) e)
+
+by-own : (a : Answer) (l : List Cause) (numbers : List ℕ) (n : ℕ) → ByFirst a l → inOrder numbers l ≡ true → lacks n numbers ≡ true
+    → a ≡ Refused n → ⊥
+by-own a l numbers n x t k q = set-not (holdsAt n l) (by-cause a l n x q) (lacked n numbers l k t)
+
+-- The causes of a message: in its own order, whatever its kind.
+message-own : (s : Site) (room : ℕ) (lists m : List ℕ) → inOrder (1 ∷ 2 ∷ 3 ∷ 4 ∷ 27 ∷ 13 ∷ []) (messageHas s room lists m) ≡ true
+unfolding messageHas
+message-own s room lists m = in-order (kind-by s h lists (h .kind) (placeOf (s .live) (h .tx)) (messageEntries m) .form)
+  where
+    h : MessageHead
+    h = messageHead m
+
+    first : List Cause
+    first = arrivalCauses (handedOk s lists) room (messageOk (s .house) m)
+
+    next : List Cause
+    next = nextCauses (h .to) (s .counters .own) (h .channel) (getD (s .channels .taken) (h .from - 1) 0)
+
+    last : List Cause
+    last = kindHas (h .kind) s h (placeOf (s .live) (h .tx))
+
+    in-order : (last ≡ []) ⊎ ((turn : Bool) × (spent : Bool) × (last ≡ replyCauses turn spent))
+        → inOrder (1 ∷ 2 ∷ 3 ∷ 4 ∷ 27 ∷ 13 ∷ []) (first ++ (next ++ last)) ≡ true
+    in-order (inl e) = rw e refl
+    in-order (inr (turn, spent, e)) = rw e refl
+
+own-order : (w : World) (c : Call) → inOrder (numbersOf c) (causesOf w c) ≡ true
+unfolding beginHas accessHas readHas writeHas enlistHas commitHas abandonHas installHas mergeHas emitHas
+own-order w (world.begin s) = refl
+own-order w (world.enlist s out tx site) = refl
+own-order w (world.read s tx key) =
+    let b = subAt (w .site s) (placeOf (w .site s .live) tx) in by-test (wroteKey (b .keys) key) (λ t. rw t refl) (λ t. rw t refl)
+own-order w (world.write s tx key v) =
+    let b = subAt (w .site s) (placeOf (w .site s .live) tx) in by-test (wroteKey (b .keys) key) (λ t. rw t refl) (λ t. rw t refl)
+own-order w (world.commit s out tx) = refl
+own-order w (world.abandon s out tx) = refl
+own-order w (world.message s out m) = message-own (w .site s) (length out) (w .lists s) m
+own-order w (world.install s out) = refl
+own-order w (world.report s out) = refl
+own-order w (world.merge m) = by-test (eqb (recordHead m .kind) kind.part) (λ t. rw t refl) (λ t. rw t refl)
+own-order w (world.emit out) = refl
+own-order w (world.replay c m) = refl
+own-order w (world.value c key) = refl
+
+-- a start has causes of number 2 only
+only-two : (a : Answer) (l : List Cause) (n : ℕ) → ByFirst a l → inOrder (2 ∷ []) l ≡ true → a ≡ Refused n → n ≡ 2
+only-two a l n x t q =
+    by-test (eqb n 2)
+    (λ e. eqb-true n 2 e)
+    (λ e. absurd (by-own a l (2 ∷ []) n x t (rw (ne-eqb 2 n (λ z. eqb-false n 2 e (sym z)))) q))
+
+pub own-numbers : OwnNumbers
+own-numbers =
+    record {
+      call = λ w c n. by-own (step w c .answer) (causesOf w c) (numbersOf c) n (first-cause .call w c) (own-order w c);
+      start = λ sites own base lists n.
+          only-two _ (startCauses sites own base lists) n (first-cause .start sites own base lists) refl;
+      merger-start = λ sites queues n.
+          only-two _ (mergerStartCauses sites (length queues)) n (first-cause .merger-start sites queues) refl;
+      copy-start = λ copy n. only-two _ (copyStartCauses copy) n (first-cause .copy-start copy) refl;
+    }
