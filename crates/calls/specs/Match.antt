@@ -75,8 +75,8 @@ replaces w c s out k (install site _ _) = record { site = λ j. refl; base = λ 
 replaces w c s out k (report site _ _) = record { site = λ j. refl; base = λ j. refl; lists = upd-same (w .lists) s }
 
 -- A call in place i leaves the sites of a world in which only site i + 1 is replaced.
-matched : (w v : World) (cores : List Core) (t u : Words) (i : ℕ) (out left : List ℕ) (e : Effect) (b l : List ℕ) (r : Reply) → SitesMatch w cores t
-    → i < sizes.sites → Leaves i (coreIn cores i) t out e b l r u left → Replaces w v (i + 1) (e .site) b l
+matched : (w v : World) (cores : List Core) (t u : Words) (i : ℕ) (out left : List ℕ) (e : Effect) (b l : List ℕ) (r : Reply)
+    → SitesMatch w cores t → i < sizes.sites → Leaves i (coreIn cores i) t out e b l r u left → Replaces w v (i + 1) (e .site) b l
     → SitesMatch v (set cores i (r .core)) u
 matched w v cores t u i out left e b l r h low a n =
     record {

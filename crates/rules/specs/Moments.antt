@@ -1,11 +1,12 @@
--- Q7.1 to Q7.3 and Q7.6: two kinds of wrong moment, in any state. What belongs to the coordinator is refused 26 at another site. At the
--- coordinator, and for reads and writes anywhere, 27 says that the stage or the mask forbids the call. No call is refused 6.
-use Prim.Native.Nat.{ℕ, _≤_, _<_}
+-- Q7.1 to Q7.4 and Q7.6: two kinds of wrong moment, in any state. What belongs to the coordinator is refused 26 at another site. At the
+-- coordinator, and for reads, writes and messages anywhere, 27 says that the stage, the mask or the turn forbids the call. No call is
+-- refused 6.
+use Prim.Native.Nat.{ℕ, _+_, _-_, _≤_, _<_}
 use mathlib.Core.Path.{_≡_}
 use mathlib.Core.Bool.{Bool, true, false, not}
 use mathlib.Core.List.{List, [], _∷_}
 use lib.Dec.{eqb}
-use lib.ListN.{length}
+use lib.ListN.{length, getD}
 use Rattle.laws.specs.Choice.{some}
 use Rattle.kinds.specs.Sizes as sizes
 use Rattle.kinds.specs.Stage as stage
@@ -15,12 +16,14 @@ use Rattle.kinds.specs.declared.Answer.the-variants.{Refused}
 use Rattle.kinds.specs.declared.Course.{Course}
 use Rattle.kinds.specs.declared.Site.{Site}
 use Rattle.rules.specs.House.{isSite, isKey, homeOf, inMask}
+use Rattle.rules.specs.Message.{messageHead, messageOk}
 use Rattle.rules.specs.Live.{placeOf}
 use Rattle.rules.specs.Valid.{siteOk, handedOk}
 use Rattle.rules.specs.Enlist.{isMine}
 use Rattle.rules.specs.Install.{startOf}
 use Rattle.rules.specs.Merger.{mergerStartOf}
 use Rattle.rules.specs.Copy.{copyStartOf}
+use Rattle.rules.specs.Refusals.{isInTurn}
 use Rattle.rules.specs.World as world
 use Rattle.rules.specs.World.{World, Call, step}
 
@@ -36,12 +39,16 @@ isPast s tx = not (eqb (courseOf s tx .stage) stage.active)
 abbrev pub noEnlist : Site → ℕ → ℕ → Bool
 noEnlist s tx site = some (isPast s tx ∷ eqb site (s .counters .own) ∷ inMask (courseOf s tx .mask) site ∷ [])
 
--- to abandon, the decision.
+-- to abandon, the decision;
 abbrev pub isDecided : Site → ℕ → Bool
 isDecided s tx = eqb (courseOf s tx .stage) stage.decided
 
+-- to take a message, that it is out of turn.
+abbrev pub outOfTurn : Site → List ℕ → Bool
+outOfTurn s m = let h = messageHead m in not (isInTurn (h .kind) s h (placeOf (s .live) (h .tx)))
+
 -- A coordinator's call past 1, 2 and 5: the buffer is long enough, what is handed in is possible, and the part is held.
-pub record Reached (s : Site) (possible : Bool) (out : List ℕ) (tx : ℕ) : Type 0 where
+pub record AtPart (s : Site) (possible : Bool) (out : List ℕ) (tx : ℕ) : Type 0 where
   pub long : sizes.outgoing ≤ length out
   pub is-possible : possible ≡ true
   pub held : placeOf (s .live) tx < sizes.live
@@ -53,6 +60,14 @@ pub record AtKey (s : Site) (room tx key : ℕ) : Type 0 where
   pub known : isKey (s .house) key ≡ true
   pub here : homeOf (s .house) key ≡ s .counters .own
   pub held : placeOf (s .live) tx < sizes.live
+
+-- A message past 1 to 4: what is handed in is possible, and the message is for this site and the next on its channel.
+pub record AtMessage (s : Site) (lists out m : List ℕ) : Type 0 where
+  pub long : sizes.outgoing ≤ length out
+  pub is-possible : handedOk s lists ≡ true
+  pub formed : messageOk (s .house) m ≡ true
+  pub here : messageHead m .to ≡ s .counters .own
+  pub next : messageHead m .channel ≡ getD (s .channels .taken) (messageHead m .from - 1) 0 + 1
 
 -- 26 exactly where the site is not the coordinator, 27 exactly where it is and the call is forbidden
 pub record ByMoment (a : Answer) (mine forbidden : Bool) : Type 0 where
@@ -68,17 +83,19 @@ pub record Never (n : ℕ) : Type 0 where
   pub merger-start : (sites : ℕ) (queues : List ℕ) → mergerStartOf sites queues .answer ≡ Refused n → ⊥
   pub copy-start : (copy : List ℕ) → copyStartOf copy .answer ≡ Refused n → ⊥
 
--- the claim; a read or write belongs to no coordinator, so it is never 26
+-- the claim; a read, a write and a message belong to no coordinator, so they are never 26
 pub record WrongMoments : Type 0 where
   pub enlist : (w : World) (s : ℕ) (out : List ℕ) (tx site : ℕ) → isSite (w .site s .house) site ≡ true
-      → Reached (w .site s) (siteOk (w .site s)) out tx
+      → AtPart (w .site s) (siteOk (w .site s)) out tx
       → ByMoment (step w (world.enlist s out tx site) .answer) (isMine (w .site s) tx) (noEnlist (w .site s) tx site)
-  pub commit : (w : World) (s : ℕ) (out : List ℕ) (tx : ℕ) → Reached (w .site s) (handedOk (w .site s) (w .lists s)) out tx
+  pub commit : (w : World) (s : ℕ) (out : List ℕ) (tx : ℕ) → AtPart (w .site s) (handedOk (w .site s) (w .lists s)) out tx
       → ByMoment (step w (world.commit s out tx) .answer) (isMine (w .site s) tx) (isPast (w .site s) tx)
-  pub abandon : (w : World) (s : ℕ) (out : List ℕ) (tx : ℕ) → Reached (w .site s) (siteOk (w .site s)) out tx
+  pub abandon : (w : World) (s : ℕ) (out : List ℕ) (tx : ℕ) → AtPart (w .site s) (siteOk (w .site s)) out tx
       → ByMoment (step w (world.abandon s out tx) .answer) (isMine (w .site s) tx) (isDecided (w .site s) tx)
   pub read : (w : World) (s tx key : ℕ) → AtKey (w .site s) (length (w .base s)) tx key
       → ByMoment (step w (world.read s tx key) .answer) true (isPast (w .site s) tx)
   pub write : (w : World) (s tx key : ℕ) (v : Value) → AtKey (w .site s) sizes.keys tx key
       → ByMoment (step w (world.write s tx key v) .answer) true (isPast (w .site s) tx)
+  pub message : (w : World) (s : ℕ) (out m : List ℕ) → AtMessage (w .site s) (w .lists s) out m
+      → ByMoment (step w (world.message s out m) .answer) true (outOfTurn (w .site s) m)
   pub retired : Never 6

@@ -2,7 +2,7 @@
 -- and not only of those that a list leaves.
 use Prim.Native.Nat.{ℕ, _-_}
 use mathlib.Core.Path.{_≡_}
-use mathlib.Core.Bool.{true, false, not}
+use mathlib.Core.Bool.{Bool, true, false, not}
 use mathlib.Core.List.{List, [], _∷_, _++_}
 use lib.Dec.{eqb, leb, ltb}
 use lib.ListN.{length, getD}
@@ -119,33 +119,46 @@ abandonHas s room tx =
     requestCauses (siteOk s) room place (isMine s tx)
     ++ abandonCauses (c .stage) (countsLow (s .channels .sent) (c .mask) (s .counters .own))
 
--- a message of kind k for a part held at `place`: its turn, and the channels that its answer needs
-unfoldable pub heldHas : ℕ → Site → MessageHead → ℕ → List Cause
-heldHas k s h place =
+-- M26 to M29: a message of kind k is in turn, for a part held at `place`
+unfoldable pub heldInTurn : ℕ → Site → MessageHead → ℕ → Bool
+heldInTurn k s h place =
+    let c = subAt s place .course in
+    pick (eqb k kind.joined) (joinedInTurn c (h .from))
+    (pick (eqb k kind.prepare) (eqb (c .stage) stage.active)
+    (pick (eqb k kind.conc) (concInTurn c (h .from))
+    (pick (eqb k kind.cert) (eqb (c .stage) stage.prepared)
+    (pick (eqb k kind.vote) (voteInTurn c (h .from) (h .argument))
+    (pick (eqb k kind.commit) (eqb (c .stage) stage.queued) (not (eqb (c .stage) stage.decided)))))))
+
+-- JOIN is in turn where the transaction is not held, and every other kind too
+unfoldable pub isInTurn : ℕ → Site → MessageHead → ℕ → Bool
+isInTurn k s h place = pick (eqb k kind.join) (leb sizes.live place) (pick (ltb place sizes.live) (heldInTurn k s h place) true)
+
+-- its answer needs a channel that is at its end
+unfoldable pub heldSpent : ℕ → Site → MessageHead → ℕ → Bool
+heldSpent k s h place =
     let c = subAt s place .course in
     let own = s .counters .own in
     let all = allHeard own (withReply c (h .from) 0 (h .count) .heard) (c .mask) in
-    pick (eqb k kind.joined) (replyCauses (joinedInTurn c (h .from)) false)
-    (pick (eqb k kind.prepare) (replyCauses (eqb (c .stage) stage.active) (spentTo s (h .from)))
-    (pick (eqb k kind.conc) (replyCauses (concInTurn c (h .from)) (every (all ∷ spentToAll s (c .mask) ∷ [])))
-    (pick (eqb k kind.cert) (replyCauses (eqb (c .stage) stage.prepared) (spentTo s (h .from)))
-    (pick (eqb k kind.vote)
-    (replyCauses (voteInTurn c (h .from) (h .argument)) (every (voteDecides own c (h .from) (h .argument) ∷ spentToAll s (c .mask) ∷ [])))
-    (pick (eqb k kind.commit) (replyCauses (eqb (c .stage) stage.queued) false)
-    (replyCauses (not (eqb (c .stage) stage.decided)) false))))))
+    pick (eqb k kind.joined) false
+    (pick (eqb k kind.prepare) (spentTo s (h .from))
+    (pick (eqb k kind.conc) (every (all ∷ spentToAll s (c .mask) ∷ []))
+    (pick (eqb k kind.cert) (spentTo s (h .from))
+    (pick (eqb k kind.vote) (every (voteDecides own c (h .from) (h .argument) ∷ spentToAll s (c .mask) ∷ [])) false))))
 
--- for one not held only PREPARE is answered, and JOIN begins it
-unfoldable pub kindHas : ℕ → Site → MessageHead → ℕ → List Cause
-kindHas k s h place =
-    pick (eqb k kind.join) (replyCauses (leb sizes.live place) (spentTo s (h .from)))
-    (pick (ltb place sizes.live) (heldHas k s h place) (pick (eqb k kind.prepare) (replyCauses true (spentTo s (h .from))) []))
+-- for one not held JOIN and PREPARE are answered
+unfoldable pub isSpent : ℕ → Site → MessageHead → ℕ → Bool
+isSpent k s h place =
+    pick (eqb k kind.join) (spentTo s (h .from))
+    (pick (ltb place sizes.live) (heldSpent k s h place) (every (eqb k kind.prepare ∷ spentTo s (h .from) ∷ [])))
 
 unfoldable pub messageHas : Site → ℕ → List ℕ → List ℕ → List Cause
 messageHas s room lists m =
     let h = messageHead m in
+    let place = placeOf (s .live) (h .tx) in
     arrivalCauses (handedOk s lists) room (messageOk (s .house) m)
     ++ (nextCauses (h .to) (s .counters .own) (h .channel) (getD (s .channels .taken) (h .from - 1) 0)
-    ++ kindHas (h .kind) s h (placeOf (s .live) (h .tx)))
+    ++ replyCauses (isInTurn (h .kind) s h place) (isSpent (h .kind) s h place))
 
 unfoldable pub installHas : Site → ℕ → List Value → List Cause
 installHas s room base =

@@ -2,13 +2,12 @@
 use Prim.Native.Nat.{ℕ, _-_}
 use mathlib.Core.Path.{_≡_, refl, sym, ap, _∙_}
 use mathlib.Core.Bool.{Bool, true, false}
-use mathlib.Core.Logic.{_⊎_, inl, inr}
 use mathlib.Core.List.{List, [], _∷_, _++_}
 use native.Mathlib.Omega.{arith}
 use borrow.Author.Tests.{eqb-true, eqb-false, ne-eqb}
 use lib.Dec.{eqb, ltb, leb}
 use lib.ListN.{length, getD}
-use Rattle.laws.specs.Choice.{pick, every, by-test}
+use Rattle.laws.specs.Choice.{pick-self, every, by-test}
 use Rattle.laws.specs.Cause.{Cause, cause, codeOf, numbered, code-append, inOrder, first-in}
 use Rattle.kinds.specs.Sizes as sizes
 use Rattle.kinds.specs.Reason as reason
@@ -51,8 +50,9 @@ use Rattle.rules.specs.Copy.{valueOf, copyStartCauses, copyStartOf}
 use Rattle.rules.specs.Answers.{isRefused}
 use Rattle.rules.specs.World as world
 use Rattle.rules.specs.World.{World, Call, step, siteStep, logStep, mergerStep, mergeStep, copyStep, replayStep}
-use Rattle.rules.specs.Refusals.{order, beginHas, accessHas, readHas, writeHas, enlistHas, commitHas, abandonHas, heldHas, kindHas}
-use Rattle.rules.specs.Refusals.{messageHas, installHas, mergeHas, emitHas, causesOf, ByFirst, FirstCause}
+use Rattle.rules.specs.Refusals.{order, beginHas, accessHas, readHas, writeHas, enlistHas, commitHas, abandonHas, heldInTurn}
+use Rattle.rules.specs.Refusals.{isInTurn, heldSpent, isSpent, messageHas, installHas, mergeHas, emitHas, causesOf, ByFirst}
+use Rattle.rules.specs.Refusals.{FirstCause}
 use Rattle.rules.proofs.messages.Spoken.{Speaks, enlist-speaks, abort-speaks, quietly-speaks, prepared-speaks, certified-speaks}
 use Rattle.rules.proofs.messages.Spoken.{vote-speaks}
 use Rattle.rules.proofs.messages.Spoken.{vote-known}
@@ -71,9 +71,9 @@ by-first a l t x =
     let e = first-in order l refl t in
     record { refused = λ n. x .refused (λ z. n (sym e ∙ z)) ∙ ap Refused e; taken = λ z. x .taken (e ∙ z) }
 
--- no cause is left
-accepted : (a : Answer) → isRefused a ≡ false → By a []
-accepted a f = record { refused = λ n. absurd (n refl); taken = λ z. f }
+-- no cause holds
+accepted : (a : Answer) (l : List Cause) → codeOf l ≡ 0 → isRefused a ≡ false → By a l
+accepted a l e f = record { refused = λ n. absurd (n e); taken = λ z. f }
 
 -- one list looked at, then another
 then-by : (l m : List Cause) (a b : Answer) → numbered l ≡ true → By a m → (codeOf l ≡ 0 → b ≡ a)
@@ -117,7 +117,7 @@ read-by s base tx k =
     let more = readCauses (isForgotten (s .counters .installs) (b .snapshot)) (readKey (b .keys) k) (b .keys .read) in
     by-test (wroteKey (b .keys) k)
     (λ t. rw t (by-first _ (accessHas s (length base) tx k ++ []) refl
-    (unless-by (accessHas s (length base) tx k) [] s [] _ refl (accepted _ refl))))
+    (unless-by (accessHas s (length base) tx k) [] s [] _ refl (accepted _ [] refl refl))))
     (λ t. rw t (by-first _ (accessHas s (length base) tx k ++ more) refl
     (unless-by (accessHas s (length base) tx k) more s [] _ refl (only-by more s [] (readVersion s base place k) refl))))
 
@@ -131,7 +131,7 @@ write-by s tx k v =
     (b .keys .wrote) in
     by-test (wroteKey (b .keys) k)
     (λ t. rw t (by-first _ (accessHas s sizes.keys tx k ++ []) refl
-    (unless-by (accessHas s sizes.keys tx k) [] s [] _ refl (accepted _ refl))))
+    (unless-by (accessHas s sizes.keys tx k) [] s [] _ refl (accepted _ [] refl refl))))
     (λ t. rw t (by-first _ (accessHas s sizes.keys tx k ++ more) refl
     (unless-by (accessHas s sizes.keys tx k) more s [] _ refl (only-by more s [] (written s place k v) refl))))
 
@@ -180,31 +180,28 @@ pub report-by : (s : Site) (room : ℕ) → ByFirst (reportOf s room .answer) (r
 unfolding reportOf reportCode order
 report-by s room = by-first _ (reportCauses (siteOk s) room) refl (only-by (reportCauses (siteOk s) room) s [] _ refl)
 
--- A message, by its kind: each handler looks at its turn and at its channels, or at nothing.
-pub record Last (a : Answer) (l : List Cause) : Type 0 where
-  by : By a l
-  pub form : (l ≡ []) ⊎ ((turn : Bool) × (spent : Bool) × (l ≡ replyCauses turn spent))
-
+-- A message, by its kind: each handler looks at its turn and at its channels.
 module _ (s : Site) (h : MessageHead) (lists : List ℕ) where
   reply-by : (turn spent : Bool) (lent : List ℕ) (e : Effect) → isRefused (e .answer) ≡ false
-      → Last (unless (replyCode turn spent) s lent e .answer) (replyCauses turn spent)
+      → By (unless (replyCode turn spent) s lent e .answer) (replyCauses turn spent)
   unfolding replyCode
-  reply-by turn spent lent e f = record { by = only-by (replyCauses turn spent) s lent e f; form = inr (turn, spent, refl) }
+  reply-by turn spent lent e f = only-by (replyCauses turn spent) s lent e f
 
   step-by : (turn spent : Bool) (place : ℕ) (c : Change) → Speaks c
-      → Last (keeping lists (stepUnless (replyCode turn spent) s place c) .answer) (replyCauses turn spent)
+      → By (keeping lists (stepUnless (replyCode turn spent) s place c) .answer) (replyCauses turn spent)
   step-by turn spent place c x = reply-by turn spent [] (changed s place c []) (x .accepts)
 
   conc-by : (place : ℕ) (es : List ℕ) → (let c = subAt s place .course in
       let all = allHeard (s .counters .own) (withReply c (h .from) 0 (h .count) .heard) (c .mask) in
-      Last (takeConc s h es lists place .answer) (replyCauses (concInTurn c (h .from)) (every (all ∷ spentToAll s (c .mask) ∷ []))))
+      By (takeConc s h es lists place .answer) (replyCauses (concInTurn c (h .from)) (every (all ∷ spentToAll s (c .mask) ∷ []))))
   unfolding takeConc withReply
   conc-by place es =
       let made = gatherLists s place es lists in
       reply-by _ _ lists (changed s place (gatherChange s h place made) made) (gather-speaks s h place made .accepts)
 
-  held-by : (k place : ℕ) (es : List ℕ) → Last (takeHeld k s h es lists place .answer) (heldHas k s h place)
-  unfolding takeHeld heldHas takeJoined takePrepare takeCert takeVote takeCommit takeAbort arrived raise
+  held-by : (k place : ℕ) (es : List ℕ)
+      → By (takeHeld k s h es lists place .answer) (replyCauses (heldInTurn k s h place) (heldSpent k s h place))
+  unfolding takeHeld heldInTurn heldSpent takeJoined takePrepare takeCert takeVote takeCommit takeAbort arrived raise
   held-by k place es =
       by-test (eqb k kind.joined)
       (λ a. rw a (step-by _ _ place _ (quietly-speaks _)))
@@ -220,22 +217,23 @@ module _ (s : Site) (h : MessageHead) (lists : List ℕ) where
       (λ f. rw (a, b, c, d, e, f) (step-by _ _ place _ (quietly-speaks _)))
       (λ f. rw (a, b, c, d, e, f) (step-by _ _ place _ (quietly-speaks _))))))))
 
-  join-by : (place : ℕ) → Last (keeping lists (takeJoin s h place) .answer) (replyCauses (leb sizes.live place) (spentTo s (h .from)))
+  join-by : (place : ℕ) → By (keeping lists (takeJoin s h place) .answer) (replyCauses (leb sizes.live place) (spentTo s (h .from)))
   unfolding takeJoin joinAt spoken sendTo
   join-by place =
       by-test (ltb (freePlace (s .live)) sizes.live)
       (λ e. rw e (reply-by (leb sizes.live place) (spentTo s (h .from)) [] _ refl))
       (λ e. rw e (reply-by (leb sizes.live place) (spentTo s (h .from)) [] _ refl))
 
-  other-by : (k : ℕ) → Last (takeOther k s h lists .answer) (pick (eqb k kind.prepare) (replyCauses true (spentTo s (h .from))) [])
+  other-by : (k : ℕ) → By (takeOther k s h lists .answer) (replyCauses true (every (eqb k kind.prepare ∷ spentTo s (h .from) ∷ [])))
   unfolding takeOther passPrepare passed spoken sendTo
   other-by k =
       by-test (eqb k kind.prepare)
-      (λ e. rw e (reply-by true (spentTo s (h .from)) [] _ refl))
-      (λ e. rw e (record { by = accepted _ refl; form = inl refl }))
+      (λ e. rw (e, pick-self (spentTo s (h .from))) (reply-by true (spentTo s (h .from)) [] _ refl))
+      (λ e. rw e (accepted _ (replyCauses true false) refl refl))
 
-  pub kind-by : (k place : ℕ) (es : List ℕ) → Last (takeKind k s h es lists place .answer) (kindHas k s h place)
-  unfolding takeKind kindHas
+  kind-by : (k place : ℕ) (es : List ℕ)
+      → By (takeKind k s h es lists place .answer) (replyCauses (isInTurn k s h place) (isSpent k s h place))
+  unfolding takeKind isInTurn isSpent
   kind-by k place es =
       by-test (eqb k kind.join)
       (λ a. rw a (join-by place))
@@ -244,28 +242,14 @@ module _ (s : Site) (h : MessageHead) (lists : List ℕ) where
 pub message-by : (s : Site) (room : ℕ) (lists m : List ℕ) → ByFirst (messageOf s room lists m .answer) (messageHas s room lists m)
 unfolding messageOf arrivalCode messageAt nextCode messageHas order
 message-by s room lists m =
-    by-first _ (first ++ (next ++ last)) (in-order (x .form))
-    (unless-by first (next ++ last) s lists _ refl (unless-by next last s lists _ refl (x .by)))
-  where
-    h : MessageHead
-    h = messageHead m
-
-    first : List Cause
-    first = arrivalCauses (handedOk s lists) room (messageOk (s .house) m)
-
-    next : List Cause
-    next = nextCauses (h .to) (s .counters .own) (h .channel) (getD (s .channels .taken) (h .from - 1) 0)
-
-    last : List Cause
-    last = kindHas (h .kind) s h (placeOf (s .live) (h .tx))
-
-    x : Last (takeKind (h .kind) s h (messageEntries m) lists (placeOf (s .live) (h .tx)) .answer) last
-    x = kind-by s h lists (h .kind) (placeOf (s .live) (h .tx)) (messageEntries m)
-
-    in-order : (last ≡ []) ⊎ ((turn : Bool) × (spent : Bool) × (last ≡ replyCauses turn spent))
-        → inOrder order (first ++ (next ++ last)) ≡ true
-    in-order (inl e) = rw e refl
-    in-order (inr (turn, spent, e)) = rw e refl
+    let h = messageHead m in
+    let place = placeOf (s .live) (h .tx) in
+    let first = arrivalCauses (handedOk s lists) room (messageOk (s .house) m) in
+    let next = nextCauses (h .to) (s .counters .own) (h .channel) (getD (s .channels .taken) (h .from - 1) 0) in
+    let last = replyCauses (isInTurn (h .kind) s h place) (isSpent (h .kind) s h place) in
+    by-first _ (first ++ (next ++ last)) refl
+    (unless-by first (next ++ last) s lists _ refl
+    (unless-by next last s lists _ refl (kind-by s h lists (h .kind) place (messageEntries m))))
 
 -- The merger and the copies.
 pub merge-by : (g : Merger) (queues m : List ℕ) → ByFirst (mergeOf g queues m .answer) (mergeHas g queues m)

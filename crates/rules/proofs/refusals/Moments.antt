@@ -2,7 +2,7 @@
 use Prim.Native.Nat.{ℕ}
 use mathlib.Core.Path.{_≡_, refl, sym, _∙_}
 use mathlib.Core.Bool.{Bool, true, false, not}
-use mathlib.Core.List.{List, [], _∷_}
+use mathlib.Core.List.{List}
 use native.Mathlib.Omega.{arith}
 use borrow.Author.Tests.{le-ltb, lt-leb, eq-eqb, not-true}
 use lib.ListN.{length, drop}
@@ -20,8 +20,9 @@ use Rattle.rules.specs.Valid.{siteOk, handedOk}
 use Rattle.rules.specs.Enlist.{isMine}
 use Rattle.rules.specs.World as world
 use Rattle.rules.specs.World.{World, Call, step}
-use Rattle.rules.specs.Refusals.{order, accessHas, readHas, writeHas, enlistHas, commitHas, abandonHas, ByFirst, numbersOf}
-use Rattle.rules.specs.Moments.{isPast, noEnlist, isDecided, Reached, AtKey, ByMoment, WrongMoments}
+use Rattle.rules.specs.Refusals.{order, accessHas, readHas, writeHas, enlistHas, commitHas, abandonHas, messageHas, ByFirst}
+use Rattle.rules.specs.Refusals.{numbersOf}
+use Rattle.rules.specs.Moments.{isPast, noEnlist, isDecided, outOfTurn, AtPart, AtKey, AtMessage, ByMoment, WrongMoments}
 use Rattle.rules.proofs.messages.GoesOn.{refused-number}
 use Rattle.rules.proofs.refusals.FirstCause.{first-cause}
 use Rattle.rules.proofs.refusals.OwnNumbers.{by-cause, own-numbers}
@@ -56,21 +57,21 @@ module _ (w : World) (s : ℕ) (out : List ℕ) (tx : ℕ) where
   abbrev mine : Bool
   mine = isMine site tx
 
-  enlist-moment : (r : ℕ) → isSite (site .house) r ≡ true → Reached site (siteOk site) out tx
+  enlist-moment : (r : ℕ) → isSite (site .house) r ≡ true → AtPart site (siteOk site) out tx
       → ByMoment (step w (world.enlist s out tx r) .answer) mine (noEnlist site tx r)
   unfolding enlistHas order
   enlist-moment r known x =
       by-moment _ (enlistHas site (length out) tx r) mine (noEnlist site tx r) (first-cause .call w (world.enlist s out tx r))
       (rw (le-ltb _ _ (x .long), x .is-possible, known, lt-leb _ _ (x .held))) (pick-self (not mine)) refl
 
-  commit-moment : Reached site (handedOk site (w .lists s)) out tx
+  commit-moment : AtPart site (handedOk site (w .lists s)) out tx
       → ByMoment (step w (world.commit s out tx) .answer) mine (isPast site tx)
   unfolding commitHas order
   commit-moment x =
       by-moment _ (commitHas site (length out) (w .lists s) tx) mine (isPast site tx) (first-cause .call w (world.commit s out tx))
       (rw (le-ltb _ _ (x .long), x .is-possible, lt-leb _ _ (x .held))) (pick-self (not mine)) (pick-self (isPast site tx))
 
-  abandon-moment : Reached site (siteOk site) out tx → ByMoment (step w (world.abandon s out tx) .answer) mine (isDecided site tx)
+  abandon-moment : AtPart site (siteOk site) out tx → ByMoment (step w (world.abandon s out tx) .answer) mine (isDecided site tx)
   unfolding abandonHas order
   abandon-moment x =
       by-moment _ (abandonHas site (length out) tx) mine (isDecided site tx) (first-cause .call w (world.abandon s out tx))
@@ -110,6 +111,15 @@ module _ (w : World) (s tx key : ℕ) where
       (λ t. by-moment _ (writeHas asked tx key) true past (first-cause .call w (world.write s tx key v))
       (rw (t, x .is-possible, x .known, here, held)) (rw t refl) (rw t (pick-self past)))
 
+message-moment : (w : World) (s : ℕ) (out m : List ℕ) → AtMessage (w .site s) (w .lists s) out m
+    → ByMoment (step w (world.message s out m) .answer) true (outOfTurn (w .site s) m)
+unfolding messageHas order
+message-moment w s out m x =
+    by-moment _ (messageHas (w .site s) (length out) (w .lists s) m) true (outOfTurn (w .site s) m)
+    (first-cause .call w (world.message s out m))
+    (rw (le-ltb _ _ (x .long), x .is-possible, x .formed, eq-eqb _ _ (x .here), eq-eqb _ _ (x .next))) refl
+    (pick-self (outOfTurn (w .site s) m))
+
 -- 6 is in no call's list.
 no-six : (c : Call) → lacks 6 (numbersOf c) ≡ true
 no-six (world.begin s) = refl
@@ -137,6 +147,7 @@ wrong-moments =
       abandon = abandon-moment;
       read = read-moment;
       write = write-moment;
+      message = message-moment;
       retired = record {
         call = λ w c. own-numbers .call w c 6 (no-six c);
         start = λ sites own base lists q. not-two (own-numbers .start sites own base lists 6 q);

@@ -1,36 +1,30 @@
 -- Each call's own numbers: its causes stand in the order of its list, so a number that the list lacks is none of them.
-use Prim.Native.Nat.{ℕ, _-_}
+use Prim.Native.Nat.{ℕ}
 use mathlib.Core.Path.{_≡_, refl, sym, ap, _∙_}
-use mathlib.Core.Bool.{Bool, true}
-use mathlib.Core.Logic.{_⊎_, inl, inr}
-use mathlib.Core.List.{List, [], _∷_, _++_}
+use mathlib.Core.Bool.{true}
+use mathlib.Core.List.{List, [], _∷_}
 use borrow.Author.Tests.{eqb-true, eqb-false, ne-eqb}
 use lib.Dec.{eqb}
-use lib.ListN.{length, getD}
+use lib.ListN.{length}
 use Rattle.laws.specs.Choice.{by-test, set-not}
 use Rattle.laws.specs.Cause.{Cause, holdsAt, firstIn, first-holds, inOrder, lacks, lacked}
 use Rattle.kinds.specs.Kind as kind
 use Rattle.kinds.specs.declared.Answer.{Answer}
 use Rattle.kinds.specs.declared.Answer.the-variants.{Refused}
-use Rattle.kinds.specs.declared.MessageHead.{MessageHead}
-use Rattle.kinds.specs.declared.Site.{Site}
 use Rattle.kinds.specs.State.{subAt}
-use Rattle.rules.specs.Message.{messageOk, messageHead, messageEntries}
 use Rattle.rules.specs.Record.{recordHead}
 use Rattle.rules.specs.Keys.{wroteKey}
 use Rattle.rules.specs.Live.{placeOf}
-use Rattle.rules.specs.Valid.{handedOk}
-use Rattle.rules.specs.Deliver.{arrivalCauses, nextCauses, replyCauses}
 use Rattle.rules.specs.Install.{startCauses}
 use Rattle.rules.specs.Merger.{mergerStartCauses}
 use Rattle.rules.specs.Copy.{copyStartCauses}
 use Rattle.rules.specs.Answers.{isRefused}
 use Rattle.rules.specs.World as world
 use Rattle.rules.specs.World.{World, Call, step}
-use Rattle.rules.specs.Refusals.{order, beginHas, accessHas, readHas, writeHas, enlistHas, commitHas, abandonHas, kindHas, messageHas}
+use Rattle.rules.specs.Refusals.{order, beginHas, accessHas, readHas, writeHas, enlistHas, commitHas, abandonHas, messageHas}
 use Rattle.rules.specs.Refusals.{installHas, mergeHas, emitHas, causesOf, ByFirst, numbersOf, OwnNumbers}
 use Rattle.rules.proofs.messages.GoesOn.{refused-number}
-use Rattle.rules.proofs.refusals.FirstCause.{first-cause, kind-by}
+use Rattle.rules.proofs.refusals.FirstCause.{first-cause}
 
 -- the number of a refusal is one that a cause has
 pub by-cause : (a : Answer) (l : List Cause) (n : ℕ) → ByFirst a l → a ≡ Refused n → holdsAt n l ≡ true
@@ -45,30 +39,8 @@ by-own : (a : Answer) (l : List Cause) (numbers : List ℕ) (n : ℕ) → ByFirs
     → a ≡ Refused n → ⊥
 by-own a l numbers n x t k q = set-not (holdsAt n l) (by-cause a l n x q) (lacked n numbers l k t)
 
--- The causes of a message: in its own order, whatever its kind.
-message-own : (s : Site) (room : ℕ) (lists m : List ℕ) → inOrder (1 ∷ 2 ∷ 3 ∷ 4 ∷ 27 ∷ 13 ∷ []) (messageHas s room lists m) ≡ true
-unfolding messageHas
-message-own s room lists m = in-order (kind-by s h lists (h .kind) (placeOf (s .live) (h .tx)) (messageEntries m) .form)
-  where
-    h : MessageHead
-    h = messageHead m
-
-    first : List Cause
-    first = arrivalCauses (handedOk s lists) room (messageOk (s .house) m)
-
-    next : List Cause
-    next = nextCauses (h .to) (s .counters .own) (h .channel) (getD (s .channels .taken) (h .from - 1) 0)
-
-    last : List Cause
-    last = kindHas (h .kind) s h (placeOf (s .live) (h .tx))
-
-    in-order : (last ≡ []) ⊎ ((turn : Bool) × (spent : Bool) × (last ≡ replyCauses turn spent))
-        → inOrder (1 ∷ 2 ∷ 3 ∷ 4 ∷ 27 ∷ 13 ∷ []) (first ++ (next ++ last)) ≡ true
-    in-order (inl e) = rw e refl
-    in-order (inr (turn, spent, e)) = rw e refl
-
 own-order : (w : World) (c : Call) → inOrder (numbersOf c) (causesOf w c) ≡ true
-unfolding beginHas accessHas readHas writeHas enlistHas commitHas abandonHas installHas mergeHas emitHas
+unfolding beginHas accessHas readHas writeHas enlistHas commitHas abandonHas messageHas installHas mergeHas emitHas
 own-order w (world.begin s) = refl
 own-order w (world.enlist s out tx site) = refl
 own-order w (world.read s tx key) =
@@ -77,7 +49,7 @@ own-order w (world.write s tx key v) =
     let b = subAt (w .site s) (placeOf (w .site s .live) tx) in by-test (wroteKey (b .keys) key) (λ t. rw t refl) (λ t. rw t refl)
 own-order w (world.commit s out tx) = refl
 own-order w (world.abandon s out tx) = refl
-own-order w (world.message s out m) = message-own (w .site s) (length out) (w .lists s) m
+own-order w (world.message s out m) = refl
 own-order w (world.install s out) = refl
 own-order w (world.report s out) = refl
 own-order w (world.merge m) = by-test (eqb (recordHead m .kind) kind.part) (λ t. rw t refl) (λ t. rw t refl)
