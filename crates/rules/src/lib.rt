@@ -46,7 +46,7 @@ pub fn own_numbers()
     ensures { λ _. ⌜ OwnNumbers ⌝ }
 {}
 
-// In any state a coordinator's call is refused 26 at another site, and 27 says that stage or mask forbids a call. None is refused 6.
+// In any state a coordinator's call is refused 26 at another site; 27 says that stage, mask or turn forbids a call. None is refused 6.
 pub fn wrong_moments()
     ensures { λ _. ⌜ WrongMoments ⌝ }
 {}
