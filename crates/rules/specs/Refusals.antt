@@ -130,7 +130,7 @@ heldInTurn k s h place =
     (pick (eqb k kind.vote) (voteInTurn c (h .from) (h .argument))
     (pick (eqb k kind.commit) (eqb (c .stage) stage.queued) (not (eqb (c .stage) stage.decided)))))))
 
--- JOIN is in turn where the transaction is not held, and every other kind too
+-- where the transaction is not held every kind is in turn, and JOIN only there
 unfoldable pub isInTurn : ℕ → Site → MessageHead → ℕ → Bool
 isInTurn k s h place = pick (eqb k kind.join) (leb sizes.live place) (pick (ltb place sizes.live) (heldInTurn k s h place) true)
 
