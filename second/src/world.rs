@@ -3,7 +3,7 @@
 use crate::answer::{Decision, Pair, Refusal, Sent};
 use crate::copy::Copy;
 use crate::merger::{Emitted, Merger};
-use crate::site::{InstallDone, Report, Site};
+use crate::site::{Found, InstallDone, Report, Site};
 use crate::sizes::*;
 
 #[derive(Clone, Copy, PartialEq, Eq, Debug)]
@@ -34,6 +34,8 @@ pub enum Answer {
     Emitted(Emitted),
     Replayed(Pair),
     CopyValue(u64, Pair),
+    /// Of a search, which is none of the thirteen calls.
+    Found(Found),
 }
 
 impl Answer {
@@ -52,6 +54,30 @@ impl Answer {
         match self {
             Answer::Sent(sent) => sent.decision,
             _ => None,
+        }
+    }
+
+    /// What `house` and a probe print after `ok`, with a space before each word.
+    pub fn results(&self) -> String {
+        match *self {
+            Answer::Done => String::new(),
+            Answer::Begun(number) | Answer::Value(number) => format!(" {number}"),
+            Answer::Sent(sent) => match sent.decision {
+                None => String::new(),
+                Some(Decision::Commit(number)) => format!(" {number}"),
+                Some(Decision::Abort(reason)) => format!(" abort {reason}"),
+            },
+            Answer::Installed(done) => format!(" {} {}", done.pair.number, done.pair.coordinator),
+            Answer::Reported(report) => format!(" {}", report.state),
+            Answer::Emitted(emitted) => {
+                let pair = emitted.pair;
+                format!(" {} {} {}", pair.number, pair.coordinator, emitted.transaction)
+            }
+            Answer::Replayed(pair) => format!(" {} {}", pair.number, pair.coordinator),
+            Answer::CopyValue(value, pair) => {
+                format!(" {value} {} {}", pair.number, pair.coordinator)
+            }
+            Answer::Found(found) => format!(" {} {}", found.value, found.looked_at),
         }
     }
 }

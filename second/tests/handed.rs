@@ -1,40 +1,14 @@
 //! States as a caller hands them in: whose replies came, gathered lists, numbers of
 //! transactions, sources of the merger.
 
-use second::probe::line::parse;
-use second::probe::Probe;
+mod common;
+
+use common::probed::House;
 
 const T: u64 = (1 << 32) + 1;
 const OTHER: u64 = (2 << 32) + 1;
 
-/// A house, lines obeyed in it, and the outcome of the last one.
-struct House {
-    probe: Probe,
-    outcome: String,
-}
-
 impl House {
-    fn of(sites: u64) -> Self {
-        House { probe: Probe::new(sites), outcome: String::new() }
-    }
-
-    fn say(&mut self, line: &str) -> &str {
-        let line = parse(line).unwrap().unwrap();
-        let mut output = String::new();
-        self.probe.obey(1, &line, &mut output).unwrap();
-        let outcome = output.split(';').next().unwrap_or_default().trim();
-        self.outcome = outcome.strip_prefix("1 ").unwrap_or(outcome).to_string();
-        &self.outcome
-    }
-
-    fn after(sites: u64, lines: &[&str]) -> Self {
-        let mut house = House::of(sites);
-        for line in lines {
-            house.say(line);
-        }
-        house
-    }
-
     /// T at site 1, with the participants 1, 2 and 3, in a stage.
     fn in_stage(stage: u64, heard: u64) -> Self {
         let mut house = House::after(4, &["begin 1"]);

@@ -1,15 +1,17 @@
-//! The generator, the book and random lists of calls.
+//! The generator, the book, random lists of calls and random probes.
 
-use std::collections::BTreeSet;
+mod common;
 
+use std::collections::{BTreeMap, BTreeSet};
+
+use common::probed::House as Probed;
 use second::book::Book;
 use second::copy::Copy;
 use second::fuzz;
 use second::house::House;
-use second::probe::line::parse;
-use second::probe::{random, Probe};
+use second::probe::random;
 use second::scripts::generate;
-use second::sizes::COPIES;
+use second::sizes::*;
 use second::tally::Tally;
 use second::world::{Answer, Call};
 
@@ -65,18 +67,17 @@ fn random_lists_keep_the_book_and_tell_the_wrong_site_from_the_wrong_stage() {
     assert_eq!(tally.total("refused  6"), 0, "a call gave 6");
 }
 
+const PROBES: std::ops::RangeInclusive<u64> = 1..=12;
+
 /// Calls of random probes with the numbers that refused them.
 fn refusals_of_random_probes() -> BTreeSet<(String, String)> {
     let mut met = BTreeSet::new();
-    for seed in 1..=12 {
-        let mut probe = Probe::new(1);
+    for seed in PROBES {
+        let mut house = Probed::of(1);
         for line in random::probe(seed, 1_500).lines() {
-            let Some(line) = parse(line).unwrap() else { continue };
-            let mut output = String::new();
-            probe.obey(1, &line, &mut output).unwrap();
-            let rest = output.strip_prefix("1 refused ");
-            let number = rest.and_then(|rest| rest.split_whitespace().next());
-            met.extend(number.map(|number| (line.verb, number.to_string())));
+            let number = house.say(line).strip_prefix("refused ");
+            let verb = line.split(' ').next().unwrap_or_default();
+            met.extend(number.map(|number| (verb.to_string(), number.to_string())));
         }
     }
     met
@@ -91,6 +92,68 @@ fn random_probes_meet_26_and_27_in_their_calls_and_6_in_none() {
     assert_eq!(calls("26"), ["abandon", "commit", "enlist"]);
     assert_eq!(calls("27"), ["abandon", "commit", "enlist", "message", "read", "write"]);
     assert!(calls("6").is_empty());
+}
+
+#[test]
+fn random_searches_are_refused_with_no_number_but_2_and_3() {
+    let met = refusals_of_random_probes();
+    let searches: Vec<&str> =
+        met.iter().filter(|it| it.0 == "search").map(|it| it.1.as_str()).collect();
+    assert_eq!(searches, ["2", "3"]);
+}
+
+/// Where a search that is answered ends.
+#[derive(Clone, Copy, PartialEq, Eq, PartialOrd, Ord, Debug)]
+enum End {
+    NothingVisible,
+    NoHit,
+    Newest,
+    Between,
+    Oldest,
+}
+
+/// Value and count of a search that is answered.
+fn found(house: &mut Probed, [site, snapshot, key]: [u64; 3]) -> Option<[u64; 2]> {
+    let outcome = house.say(&format!("search {site} {snapshot} {key}")).strip_prefix("ok ")?;
+    let (value, count) = outcome.split_once(' ')?;
+    Some([value.parse().ok()?, count.parse().ok()?])
+}
+
+/// A version that equals the base value is taken for no hit.
+fn end_of(house: &mut Probed, [site, snapshot, key]: [u64; 3]) -> Option<End> {
+    let [value, count] = found(house, [site, snapshot, key])?;
+    let [base, _] = found(house, [site, 0, key])?;
+    // Hardly ever do entries have each of the site's last keys.
+    let last = site * SITE_KEYS;
+    let visible = (last - 4..last).filter_map(|key| Some(found(house, [site, snapshot, key])?[1]));
+    let visible = visible.max()?;
+    Some(match count {
+        0 => End::NothingVisible,
+        _ if value == base => End::NoHit,
+        1 => End::Newest,
+        _ if count < visible => End::Between,
+        _ => End::Oldest,
+    })
+}
+
+#[test]
+fn random_searches_do_not_all_end_alike() {
+    let mut ends: BTreeMap<End, u64> = BTreeMap::new();
+    for seed in PROBES {
+        let mut house = Probed::of(1);
+        for line in random::probe(seed, 1_500).lines() {
+            if let Some(numbers) = line.strip_prefix("search ") {
+                let numbers: Vec<u64> = numbers.split(' ').map(|it| it.parse().unwrap()).collect();
+                if let Some(end) = end_of(&mut house, numbers.try_into().unwrap()) {
+                    *ends.entry(end).or_default() += 1;
+                }
+            }
+            house.say(line);
+        }
+    }
+    for end in [End::NothingVisible, End::NoHit, End::Newest, End::Between, End::Oldest] {
+        assert!(ends.get(&end).is_some_and(|&count| count >= 10), "{end:?}: {ends:?}");
+    }
 }
 
 /// The book notices a copy that lacks a write of the prefix.

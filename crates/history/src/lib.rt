@@ -1,10 +1,10 @@
-// The history of the last installed parts: what is remembered, and the version that a snapshot sees.
+// The history of the last installed parts: what is remembered, and the search for the version that a snapshot sees.
 use keys::wrote_key_in;
 use keys::wrote_value_in;
 use kinds::Key;
 use kinds::Keys;
+use kinds::Search;
 use kinds::Snapshot;
-use kinds::Value;
 use kinds::sizes::HISTORY;
 use kinds::sizes::SLOT;
 use kinds::word::SLOT_KEYS;
@@ -13,7 +13,7 @@ ghost use Prim.Native.Nat.{ℕ, _+_, _≤_, _<_};
 ghost use lib.ListN.{length, getD};
 ghost use Rattle.kinds.specs.Sizes as sizes;
 ghost use Rattle.rules.specs.History.{remembered as rememberedOf, forgotten as forgottenOf, slotOf, isForgotten, within as withinOf};
-ghost use Rattle.rules.specs.History.{versionOf, isNewer, forgetInto};
+ghost use Rattle.rules.specs.History.{searchIn, isNewer, forgetInto};
 ghost use Rattle.lent.specs.Layout.{historyOf};
 ghost use Rattle.lent.specs.Read.{Slots};
 
@@ -69,23 +69,35 @@ pub fn within(installs: u64, p: Snapshot) -> usize
     (seen - gone) as usize
 }
 
-// The newest version of `k` within the snapshot, else its base value.
-pub fn version_of(h: &[u64], installs: u64, base: &[u64], p: Snapshot, k: Key) -> Value
+// The version of `k` that the snapshot sees, and how many entries were looked at: from the newest within the snapshot backwards, to the
+// first that has the key.
+pub fn search(h: &[u64], installs: u64, base: &[u64], p: Snapshot, k: Key) -> Search
     requires { ⌜ Slots (now h) × (k < length (now base)) ⌝ }
-    ensures { λ r. ⌜ r ≡ versionOf (historyOf (now (h .entry))) installs (now (base .entry)) p k ⌝ }
+    ensures { λ r. ⌜ r ≡ searchIn (historyOf (now (h .entry))) installs (now (base .entry)) p k ⌝ }
 {
     let visible = within(installs, p);
-    let mut j: usize = 0;
-    while j < visible {
-        let slot = recall_slot(installs, visible - 1 - j);
+    let mut left = visible;
+    let mut looked: u64 = 0;
+    while left > 0 {
+        let slot = recall_slot(installs, left - 1);
         let at = SLOT * slot + SLOT_KEYS;
         if wrote_key_in(h, at, k) {
-            return wrote_value_in(h, at, k);
+            let value = wrote_value_in(h, at, k);
+            let hit = looked + 1;
+            return Search {
+                value,
+                looked: hit,
+            };
         }
-        j += 1;
+        left -= 1;
+        looked += 1;
     }
     let at = k as usize;
-    base[at]
+    let value = base[at];
+    Search {
+        value,
+        looked,
+    }
 }
 
 // Whether a remembered install after the snapshot wrote `k`.

@@ -127,6 +127,12 @@ pub struct RecordHead {
     pub count: u64,
 }
 
+// What a search of the history answers: a version of a key, and how many entries the search looked at.
+pub struct Search {
+    pub value: Value,
+    pub looked: u64,
+}
+
 // What a call answers. `Refused` has the cause's number and `Aborted` the reason's; a pair is a commit number and its coordinator.
 pub enum Answer {
     Refused(u64),
@@ -136,6 +142,10 @@ pub enum Answer {
     },
     Found {
         value: Value,
+    },
+    Searched {
+        value: Value,
+        looked: u64,
     },
     Committed {
         number: u64,

@@ -7,3 +7,4 @@ pub mod LiveOnce
 pub mod CallsKept
 pub mod ReadAnswers
 pub mod ReadsRight
+pub mod SearchesRight

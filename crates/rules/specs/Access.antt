@@ -1,6 +1,6 @@
--- C8 to C14: read and write. Nobody waits: the first writer of a key wins.
+-- C8 to C14, Q5.1, Q5.4 and Q5.5: read, write and search. Nobody waits: the first writer of a key wins.
 use Prim.Native.Nat.{ℕ}
-use mathlib.Core.List.{List, [], _∷_}
+use mathlib.Core.List.{List, [], _∷_, _++_}
 use mathlib.Core.Bool.{Bool, not}
 use lib.ListN.{length}
 use lib.Dec.{leb, eqb}
@@ -11,31 +11,41 @@ use Rattle.kinds.specs.Stage as stage
 use Rattle.kinds.specs.Reason as reason
 use Rattle.kinds.specs.declared.House.{House}
 use Rattle.kinds.specs.declared.Site.{Site}
-use Rattle.kinds.specs.declared.Answer.the-variants.{Found}
+use Rattle.kinds.specs.declared.Answer.{Answer}
+use Rattle.kinds.specs.declared.Answer.the-variants.{Refused, Found, Searched}
+use Rattle.kinds.specs.declared.Snapshot.{Snapshot}
 use Rattle.kinds.specs.State.{Value, subAt, withKeys}
 use Rattle.rules.specs.House.{homeOf, isKey}
 use Rattle.rules.specs.Keys.{wroteKey, readKey, wroteValue, withRead, withWrite}
 use Rattle.rules.specs.Live.{placeOf, keyHeld, stageAt}
-use Rattle.rules.specs.History.{isForgotten, isNewer, versionOf}
+use Rattle.rules.specs.History.{isForgotten, isNewer, searchIn}
 use Rattle.rules.specs.Valid.{siteOk}
 use Rattle.rules.specs.Effect.{Effect, turnAt, changed, unless}
 use Rattle.rules.specs.Course.{withSubOf, quietly}
 
--- Causes that both have: the state and the key, then the part that is found at `place`.
-abbrev pub accessCauses : Bool → ℕ → House → ℕ → ℕ → ℕ → ℕ → List Cause
-accessCauses ok room o own k place st =
+-- Causes that read, write and search have: the state and the key;
+abbrev pub keyCauses : Bool → ℕ → House → ℕ → ℕ → List Cause
+keyCauses ok room o own k =
     cause (not (eqb room sizes.keys)) reason.malformed
     ∷ cause (not ok) reason.malformed
     ∷ cause (not (isKey o k)) reason.malformed
     ∷ cause (not (eqb (homeOf o k) own)) reason.elsewhere
-    ∷ cause (leb sizes.live place) reason.unknown
-    ∷ cause (not (eqb st stage.active)) reason.stage
     ∷ []
+
+unfoldable pub keyCode : Bool → ℕ → House → ℕ → ℕ → ℕ
+keyCode ok room o own k = codeOf (keyCauses ok room o own k)
+
+-- then, of read and write, the part that is found at `place`.
+abbrev pub partCauses : ℕ → ℕ → List Cause
+partCauses place st = cause (leb sizes.live place) reason.unknown ∷ cause (not (eqb st stage.active)) reason.stage ∷ []
+
+abbrev pub accessCauses : Bool → ℕ → House → ℕ → ℕ → ℕ → ℕ → List Cause
+accessCauses ok room o own k place st = keyCauses ok room o own k ++ partCauses place st
 
 unfoldable pub accessCode : Bool → ℕ → House → ℕ → ℕ → ℕ → ℕ → ℕ
 accessCode ok room o own k place st = codeOf (accessCauses ok room o own k place st)
 
--- Read: the own write, which enters no set; else the newest version within the snapshot.
+-- Read: the own write, which enters no set; else the version that the search finds.
 abbrev pub readCauses : Bool → Bool → ℕ → List Cause
 readCauses lost has read =
     cause lost reason.forgotten
@@ -50,7 +60,7 @@ readVersion s base place k =
     let b = subAt s place in
     changed s place
     (record {
-      answer = Found (versionOf (s .history) (s .counters .installs) base (b .snapshot) k);
+      answer = Found (searchIn (s .history) (s .counters .installs) base (b .snapshot) k .value);
       words = [];
       turn = withSubOf (turnAt s place) (withKeys b (withRead (b .keys) k));
     })
@@ -69,6 +79,13 @@ readOf s base tx k =
     let place = placeOf (s .live) tx in
     unless (accessCode (siteOk s) (length base) (s .house) (s .counters .own) k place (stageAt (s .live) place)) s []
     (readAt s base place k)
+
+-- Search: the version that any snapshot sees, and how many entries were looked at. It leaves all as it was.
+unfoldable pub searchOf : Site → List Value → Snapshot → ℕ → Answer
+searchOf s base p k =
+    let code = keyCode (siteOk s) (length base) (s .house) (s .counters .own) k in
+    let found = searchIn (s .history) (s .counters .installs) base p k in
+    pick (eqb code 0) (Searched (found .value) (found .looked)) (Refused code)
 
 -- Write: kept privately; the key is held until install or abort.
 abbrev pub writeCauses : Bool → Bool → Bool → ℕ → List Cause

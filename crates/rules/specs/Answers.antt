@@ -2,15 +2,16 @@
 use Prim.Native.Nat.{ℕ}
 use mathlib.Core.Bool.{Bool, true, false}
 use Rattle.kinds.specs.declared.Answer.{Answer}
-use Rattle.kinds.specs.declared.Answer.the-variants.{Refused, Done, Begun, Found, Committed, Aborted, Installed, Reported, Emitted}
-use Rattle.kinds.specs.declared.Answer.the-variants.{Replayed, Standing}
+use Rattle.kinds.specs.declared.Answer.the-variants.{Refused, Done, Begun, Found, Searched, Committed, Aborted, Installed}
+use Rattle.kinds.specs.declared.Answer.the-variants.{Reported, Emitted, Replayed, Standing}
 
--- by cases; a refusal, an abort, and what report, emit and value answer are `other`
+-- by cases; a refusal, an abort, and what search, report, emit and value answer are `other`
 abbrev pub onAnswer : {A : Type 0} → A → A → (ℕ → A) → (ℕ → A) → (ℕ → A) → (ℕ → ℕ → A) → (ℕ → ℕ → A) → Answer → A
 onAnswer other done begun found committed installed replayed (Refused n) = other
 onAnswer other done begun found committed installed replayed Done = done
 onAnswer other done begun found committed installed replayed (Begun tx) = begun tx
 onAnswer other done begun found committed installed replayed (Found v) = found v
+onAnswer other done begun found committed installed replayed (Searched v n) = other
 onAnswer other done begun found committed installed replayed (Committed n) = committed n
 onAnswer other done begun found committed installed replayed (Aborted r) = other
 onAnswer other done begun found committed installed replayed (Installed n c) = installed n c
@@ -42,6 +43,7 @@ isRefused (Refused n) = true
 isRefused Done = false
 isRefused (Begun tx) = false
 isRefused (Found v) = false
+isRefused (Searched v n) = false
 isRefused (Committed n) = false
 isRefused (Aborted r) = false
 isRefused (Installed n c) = false

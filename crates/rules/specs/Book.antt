@@ -63,6 +63,7 @@ factsOf (world.install s out) a words = installs s a
 factsOf (world.replay copy m) a words = replays copy a
 factsOf (world.enlist s out tx site) a words = []
 factsOf (world.abandon s out tx) a words = []
+factsOf (world.search s p key) a words = []
 factsOf (world.report s out) a words = []
 factsOf (world.merge m) a words = []
 factsOf (world.emit out) a words = []

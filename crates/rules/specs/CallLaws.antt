@@ -1,18 +1,18 @@
 -- What no refusal says, call by call.
 use Prim.Native.Nat.{ℕ, zero, suc, _+_, _-_, _≤_, _<_}
-use mathlib.Core.Path.{_≡_, refl}
+use mathlib.Core.Path.{_≡_, refl, sym, _∙_}
 use mathlib.Core.Bool.{Bool, true, false, not}
 use mathlib.Core.List.{[], _∷_}
 use native.Mathlib.Omega.{arith}
 use borrow.Author.Tests.{ltb-false, leb-false, eqb-true, not-false}
 use lib.Dec.{leb, eqb}
-use Rattle.laws.specs.Choice.{every}
-use Rattle.laws.specs.Cause.{clear-at}
+use Rattle.laws.specs.Choice.{every, by-test}
+use Rattle.laws.specs.Cause.{codeOf, clear-at, code-append}
 use Rattle.kinds.specs.Sizes as sizes
 use Rattle.kinds.specs.Stage as stage
 use Rattle.kinds.specs.declared.House.{House}
 use Rattle.rules.specs.House.{isKey, homeOf}
-use Rattle.rules.specs.Access.{accessCauses, accessCode, readCauses, readCode, writeCauses, writeCode}
+use Rattle.rules.specs.Access.{keyCauses, partCauses, keyCode, accessCauses, accessCode, readCauses, readCode, writeCauses, writeCode}
 use Rattle.rules.specs.Enlist.{enlistCauses, enlistCode, joinerCauses, joinerCode}
 use Rattle.rules.specs.Commit.{requestCauses, requestCode, commitCauses, commitCode, abandonCauses, abandonCode}
 use Rattle.rules.specs.Deliver.{arrivalCauses, arrivalCode, nextCauses, nextCode, replyCauses, replyCode}
@@ -24,11 +24,35 @@ not-both true true e h = e
 not-both true false e h = refl
 not-both false b e h = absurd (let y : _≡_ {A = ℕ} 0 1 = cc in omega arith)
 
-pub record AccessClear (ok : Bool) (room : ℕ) (o : House) (own : ℕ) (k : ℕ) (place : ℕ) (st : ℕ) : Type 0 where
+pub record KeyClear (ok : Bool) (room : ℕ) (o : House) (own : ℕ) (k : ℕ) : Type 0 where
   pub whole : room ≡ sizes.keys
   pub valid : ok ≡ true
   pub known : isKey o k ≡ true
   pub here : homeOf o k ≡ own
+
+pub key-clear : (ok : Bool) (room : ℕ) (o : House) (own : ℕ) (k : ℕ) → keyCode ok room o own k ≡ 0 → KeyClear ok room o own k
+unfolding keyCode
+key-clear ok room o own k e =
+    let l = keyCauses ok room o own k in
+    record {
+      whole = eqb-true room sizes.keys (not-false (eqb room sizes.keys) (clear-at l 0 refl e));
+      valid = not-false ok (clear-at l 1 refl e);
+      known = not-false (isKey o k) (clear-at l 2 refl e);
+      here = eqb-true (homeOf o k) own (not-false (eqb (homeOf o k) own) (clear-at l 3 refl e));
+    }
+
+-- what is past the causes of the part is past those of the key
+pub key-passed : (ok : Bool) (room : ℕ) (o : House) (own : ℕ) (k : ℕ) (place : ℕ) (st : ℕ) → accessCode ok room o own k place st ≡ 0
+    → keyCode ok room o own k ≡ 0
+unfolding accessCode keyCode
+key-passed ok room o own k place st e =
+    let l = keyCauses ok room o own k in
+    by-test (eqb (codeOf l) 0)
+    (λ h. eqb-true (codeOf l) 0 h)
+    (λ h. rw h at (sym (code-append l (partCauses place st) refl) ∙ e))
+
+pub record AccessClear (ok : Bool) (room : ℕ) (o : House) (own : ℕ) (k : ℕ) (place : ℕ) (st : ℕ) : Type 0 where
+  pub key : KeyClear ok room o own k
   pub held : place < sizes.live
   pub active : st ≡ stage.active
 
@@ -38,10 +62,7 @@ unfolding accessCode
 access-clear ok room o own k place st e =
     let l = accessCauses ok room o own k place st in
     record {
-      whole = eqb-true room sizes.keys (not-false (eqb room sizes.keys) (clear-at l 0 refl e));
-      valid = not-false ok (clear-at l 1 refl e);
-      known = not-false (isKey o k) (clear-at l 2 refl e);
-      here = eqb-true (homeOf o k) own (not-false (eqb (homeOf o k) own) (clear-at l 3 refl e));
+      key = key-clear ok room o own k (key-passed ok room o own k place st e);
       held = leb-false sizes.live place (clear-at l 4 refl e);
       active = eqb-true st stage.active (not-false (eqb st stage.active) (clear-at l 5 refl e));
     }

@@ -1,5 +1,6 @@
--- S9, C9, C23, C29, C37, C39 and C54: the history of the 32 last installed parts, what is forgotten, and the version that a snapshot sees.
-use Prim.Native.Nat.{ℕ, _+_, _-_, _%_, min}
+-- S9, C9, C23, C29, C37, C39, C54, Q5.1 and Q5.2: the history of the 32 last installed parts, what is forgotten, the version that a
+-- snapshot sees, and the search for it.
+use Prim.Native.Nat.{ℕ, zero, suc, _+_, _-_, _%_, min}
 use mathlib.Core.List.{List}
 use mathlib.Core.Bool.{Bool, false}
 use lib.ListN.{getD, set}
@@ -9,6 +10,7 @@ use Rattle.laws.specs.Scan.{firstBelow, anyBelow, foldBelow}
 use Rattle.kinds.specs.Sizes as sizes
 use Rattle.kinds.specs.declared.Keys.{Keys}
 use Rattle.kinds.specs.declared.Entry.{Entry}
+use Rattle.kinds.specs.declared.Search.{Search}
 use Rattle.kinds.specs.declared.Snapshot.{Snapshot}
 use Rattle.kinds.specs.State.{Value, fresh, pastEntry}
 use Rattle.rules.specs.Keys.{wroteKey, wroteValue}
@@ -36,7 +38,7 @@ isForgotten installs p = ltb (p .installs) (forgotten installs)
 unfoldable pub within : ℕ → Snapshot → ℕ
 within installs p = min (p .installs) installs - forgotten installs
 
--- Reading: from the newest version within the snapshot backwards.
+-- The version that a snapshot sees: the entries within it, from the newest backwards.
 unfoldable pub backwards : List Entry → ℕ → ℕ → ℕ → Entry
 backwards history installs visible j = recall history installs (visible - 1 - j)
 
@@ -48,6 +50,19 @@ unfoldable pub versionOf : List Entry → ℕ → List Value → Snapshot → �
 versionOf history installs base p k =
     let n = newer history installs (within installs p) k in
     pick (ltb n (within installs p)) (wroteValue (backwards history installs (within installs p) n .keys) k) (getD base k fresh)
+
+-- The search: it looks at the newest of the `left` oldest entries, having looked at `looked` others, and ends at the first that has the
+-- key. Where none has it the value is v.
+unfoldable pub walk : (ℕ → Entry) → ℕ → Value → ℕ → ℕ → Search
+walk entry k v zero looked = record { value = v; looked = looked }
+walk entry k v (suc left) looked =
+    pick (wroteKey (entry left .keys) k)
+    (record { value = wroteValue (entry left .keys) k; looked = looked + 1 })
+    (walk entry k v left (looked + 1))
+
+-- among the entries within the snapshot
+unfoldable pub searchIn : List Entry → ℕ → List Value → Snapshot → ℕ → Search
+searchIn history installs base p k = walk (recall history installs) k (getD base k fresh) (within installs p) 0
 
 -- a remembered install after the snapshot wrote k
 unfoldable pub isNewer : List Entry → ℕ → Snapshot → ℕ → Bool

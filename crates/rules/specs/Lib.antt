@@ -28,6 +28,7 @@ pub mod World
 pub mod Book
 pub mod Claim
 pub mod Reads
+pub mod Searches
 pub mod Progress
 pub mod Possible
 pub mod Refusals
@@ -39,6 +40,7 @@ pub mod SendLaws
 pub mod KeysLaws
 pub mod MaskLaws
 pub mod HistoryLaws
+pub mod SearchLaws
 pub mod QueueLaws
 pub mod JoinLaws
 pub mod EntryLaws

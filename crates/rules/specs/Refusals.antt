@@ -29,7 +29,7 @@ use Rattle.rules.specs.Queue.{leastQueued, isInstallable}
 use Rattle.rules.specs.Valid.{siteOk, handedOk}
 use Rattle.rules.specs.Course.{channelSpent, withReply, voteDecides}
 use Rattle.rules.specs.Begin.{beginCauses}
-use Rattle.rules.specs.Access.{accessCauses, readCauses, writeCauses}
+use Rattle.rules.specs.Access.{keyCauses, accessCauses, readCauses, writeCauses}
 use Rattle.rules.specs.Enlist.{isMine, enlistCauses, joinerCauses}
 use Rattle.rules.specs.Commit.{requestCauses, commitCauses, abandonCauses}
 use Rattle.rules.specs.Deliver.{arrivalCauses, nextCauses, replyCauses, spentTo, spentToAll, joinedInTurn, concInTurn, voteInTurn}
@@ -96,6 +96,9 @@ writeHas s tx k =
     accessHas s sizes.keys tx k
     ++ pick (wroteKey (b .keys) k) []
     (writeCauses (isForgotten n (b .snapshot)) (keyHeld (s .live) place k) (isNewer (s .history) n (b .snapshot) k) (b .keys .wrote))
+
+unfoldable pub searchHas : Site → List Value → ℕ → List Cause
+searchHas s base k = keyCauses (siteOk s) (length base) (s .house) (s .counters .own) k
 
 unfoldable pub enlistHas : Site → ℕ → ℕ → ℕ → List Cause
 enlistHas s room tx site =
@@ -178,6 +181,7 @@ causesOf w (world.begin s) = beginHas (w .site s)
 causesOf w (world.enlist s out tx site) = enlistHas (w .site s) (length out) tx site
 causesOf w (world.read s tx key) = readHas (w .site s) (w .base s) tx key
 causesOf w (world.write s tx key v) = writeHas (w .site s) tx key
+causesOf w (world.search s p key) = searchHas (w .site s) (w .base s) key
 causesOf w (world.commit s out tx) = commitHas (w .site s) (length out) (w .lists s) tx
 causesOf w (world.abandon s out tx) = abandonHas (w .site s) (length out) tx
 causesOf w (world.message s out m) = messageHas (w .site s) (length out) (w .lists s) m
@@ -206,6 +210,7 @@ numbersOf (world.begin s) = 2 ∷ 12 ∷ 13 ∷ []
 numbersOf (world.enlist s out tx site) = 1 ∷ 2 ∷ 5 ∷ 26 ∷ 27 ∷ 13 ∷ []
 numbersOf (world.read s tx key) = 2 ∷ 3 ∷ 5 ∷ 27 ∷ 8 ∷ 11 ∷ []
 numbersOf (world.write s tx key v) = 2 ∷ 3 ∷ 5 ∷ 27 ∷ 8 ∷ 9 ∷ 10 ∷ 11 ∷ []
+numbersOf (world.search s p key) = 2 ∷ 3 ∷ []
 numbersOf (world.commit s out tx) = 1 ∷ 2 ∷ 5 ∷ 26 ∷ 27 ∷ 7 ∷ 13 ∷ []
 numbersOf (world.abandon s out tx) = 1 ∷ 2 ∷ 5 ∷ 26 ∷ 27 ∷ 13 ∷ []
 numbersOf (world.message s out m) = 1 ∷ 2 ∷ 3 ∷ 4 ∷ 27 ∷ 13 ∷ []

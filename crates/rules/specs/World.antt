@@ -17,7 +17,7 @@ use Rattle.rules.specs.Record.{recordHead}
 use Rattle.rules.specs.Effect.{Effect}
 use Rattle.rules.specs.Answers.{isRefused}
 use Rattle.rules.specs.Begin.{beginOf}
-use Rattle.rules.specs.Access.{readOf, writeOf}
+use Rattle.rules.specs.Access.{readOf, writeOf, searchOf}
 use Rattle.rules.specs.Enlist.{enlistOf}
 use Rattle.rules.specs.Commit.{commitOf, abandonOf}
 use Rattle.rules.specs.Deliver.{messageOf}
@@ -35,6 +35,7 @@ pub data Call : Type 0 where
   enlist : (s : ℕ) (out : List ℕ) (tx site : ℕ) → Call
   read : (s tx key : ℕ) → Call
   write : (s tx key : ℕ) (value : Value) → Call
+  search : (s snapshot key : ℕ) → Call
   commit : (s : ℕ) (out : List ℕ) (tx : ℕ) → Call
   abandon : (s : ℕ) (out : List ℕ) (tx : ℕ) → Call
   message : (s : ℕ) (out m : List ℕ) → Call
@@ -211,6 +212,7 @@ step w (begin s) = siteStep w s (beginOf (w .site s)) (w .base s) (w .lists s)
 step w (enlist s out tx site) = siteStep w s (enlistOf (w .site s) (length out) tx site) (w .base s) (w .lists s)
 step w (read s tx key) = siteStep w s (readOf (w .site s) (w .base s) tx key) (w .base s) (w .lists s)
 step w (write s tx key v) = siteStep w s (writeOf (w .site s) tx key v) (w .base s) (w .lists s)
+step w (search s p key) = record { world = w; answer = searchOf (w .site s) (w .base s) (record { installs = p }) key; words = [] }
 step w (commit s out tx) = let e = commitOf (w .site s) (length out) (w .lists s) tx in siteStep w s e (w .base s) (e .lent)
 step w (abandon s out tx) = siteStep w s (abandonOf (w .site s) (length out) tx) (w .base s) (w .lists s)
 step w (message s out m) = let e = messageOf (w .site s) (length out) (w .lists s) m in siteStep w s e (w .base s) (e .lent)
@@ -242,6 +244,7 @@ Handed w (begin s) = Unit {0}
 Handed w (enlist s out tx site) = Unit {0}
 Handed w (read s tx key) = Unit {0}
 Handed w (write s tx key v) = Unit {0}
+Handed w (search s p key) = Unit {0}
 Handed w (commit s out tx) = Unit {0}
 Handed w (abandon s out tx) = Unit {0}
 Handed w (install s out) = Unit {0}

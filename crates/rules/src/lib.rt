@@ -3,10 +3,11 @@ ghost use Rattle.rules.specs.Claim.{Demand3};
 ghost use Rattle.rules.specs.Progress.{MessagesProgress, RecordsProgress};
 ghost use Rattle.rules.specs.Possible.{Possible};
 ghost use Rattle.rules.specs.Reads.{ReadsRight};
+ghost use Rattle.rules.specs.Searches.{SearchesRight};
 ghost use Rattle.rules.specs.Refusals.{RefusedLeaves, FirstCause, OwnNumbers};
 ghost use Rattle.rules.specs.Moments.{WrongMoments};
 
-// Demand 3: any list of the thirteen calls, from a fresh house.
+// Demand 3: any list of the fourteen calls, from a fresh house.
 pub fn demand3_holds()
     ensures { λ _. ⌜ Demand3 ⌝ }
 {}
@@ -14,6 +15,11 @@ pub fn demand3_holds()
 // In such a list each accepted read answers the own last write, else what the installs that its part saw left.
 pub fn reads_right()
     ensures { λ _. ⌜ ReadsRight ⌝ }
+{}
+
+// In any state a search answers the version that the old definition gives, and exactly how many entries it looked at; a read runs it.
+pub fn searches_right()
+    ensures { λ _. ⌜ SearchesRight ⌝ }
 {}
 
 // In such a list no message is refused 26 or 27, and none is voted 5.

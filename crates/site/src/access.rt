@@ -1,10 +1,11 @@
-// Read and write.
+// Read, write and search.
 use kinds::Answer;
 use kinds::Core;
 use kinds::House;
 use kinds::Keys;
 use kinds::Reply;
 use kinds::Seat;
+use kinds::Snapshot;
 use kinds::Taken;
 use kinds::Turn;
 use kinds::Value;
@@ -32,12 +33,14 @@ ghost use Rattle.rules.specs.Effect.{takenOf, turnAt};
 ghost use Rattle.rules.specs.Course.{withSubOf};
 ghost use Rattle.site.specs.Accessed.{Accessed, Writable};
 ghost use Rattle.rules.specs.Live.{stageAt};
-ghost use Rattle.rules.specs.Access.{accessCode, readCode, writeCode, writeCodeAt, written as writtenOf, readAt, writeAt, readOf, writeOf};
+ghost use Rattle.rules.specs.Access.{keyCode, accessCode, readCode, writeCode, writeCodeAt, written as writtenOf};
+ghost use Rattle.rules.specs.Access.{readAt, writeAt, readOf, writeOf, searchOf};
 ghost use Rattle.lent.specs.Layout.{liveOf};
 ghost use Rattle.lent.specs.Lent.{siteOf, Replied};
 
-fn access_code(ok: bool, room: usize, o: House, own: u64, key: u64, place: usize, stage: u64) -> u64
-    ensures { λ r. ⌜ r ≡ accessCode ok room o own key place stage ⌝ }
+// The first cause against the state and the key.
+fn key_code(ok: bool, room: usize, o: House, own: u64, key: u64) -> u64
+    ensures { λ r. ⌜ r ≡ keyCode ok room o own key ⌝ }
 {
     let known = numbers::is_key(o, key);
     let site = numbers::home_of(o, key);
@@ -52,6 +55,16 @@ fn access_code(ok: bool, room: usize, o: House, own: u64, key: u64, place: usize
     }
     if site != own {
         return ELSEWHERE;
+    }
+    0
+}
+
+fn access_code(ok: bool, room: usize, o: House, own: u64, key: u64, place: usize, stage: u64) -> u64
+    ensures { λ r. ⌜ r ≡ accessCode ok room o own key place stage ⌝ }
+{
+    let code = key_code(ok, room, o, own, key);
+    if code != 0 {
+        return code;
     }
     if LIVE <= place {
         return UNKNOWN;
@@ -118,7 +131,7 @@ fn with_keys(t: Turn, keys: Keys, answer: Answer) -> Taken
     }
 }
 
-// What a part reads: the own write, else the newest version within the snapshot.
+// What a part reads: the own write, else the version that the search finds for its snapshot.
 fn read_at(
     p: Core,
     live: &mut [u64],
@@ -145,7 +158,8 @@ fn read_at(
     if code != 0 {
         return shell::refused(p, code);
     }
-    let value = history::version_of(history, installs, base, snapshot, key);
+    let found = history::search(history, installs, base, snapshot, key);
+    let value = found.value;
     let more = keys::with_read(keys, key);
     let a = with_keys(t, more, Answer::Found { value });
     shell::settled(p, live, place, a)
@@ -166,6 +180,25 @@ pub fn read(p: Core, live: &mut [u64], history: &[u64], base: &[u64], tx: u64, k
         return shell::refused(p, code);
     }
     read_at(p, live, history, base, place, key)
+}
+
+// The version of a key of this site that any snapshot sees, and how many entries of the history the search looked at.
+pub fn search(p: Core, live: &[u64], history: &[u64], base: &[u64], snapshot: u64, key: u64) -> Answer
+    ensures { λ r. ⌜ r ≡ searchOf (siteOf p (now (live .entry)) (now (history .entry))) (now (base .entry))
+        (record { installs = snapshot }) key ⌝ }
+{
+    let ok = valid::site_ok(p, live, history);
+    let house = tables::lent_house(p.house, live.len(), history.len());
+    let code = key_code(ok, base.len(), house, p.counters.own, key);
+    if code != 0 {
+        return Answer::Refused(code);
+    }
+    let seen = Snapshot { installs: snapshot };
+    let found = history::search(history, p.counters.installs, base, seen, key);
+    Answer::Searched {
+        value: found.value,
+        looked: found.looked,
+    }
 }
 
 // The first cause against a key that the part has not written.

@@ -7,7 +7,7 @@ pub struct Line {
 }
 
 /// Verbs, each with how many numbers follow it.
-const VERBS: [(&str, usize); 40] = [
+const VERBS: [(&str, usize); 41] = [
     ("house", 1),
     ("room", 1),
     ("places", 1),
@@ -19,6 +19,7 @@ const VERBS: [(&str, usize); 40] = [
     ("begin", 1),
     ("enlist", 3),
     ("read", 3),
+    ("search", 3),
     ("write", 4),
     ("commit", 2),
     ("abandon", 2),

@@ -12,7 +12,7 @@ pub mod sums;
 
 use std::fmt::Write;
 
-use crate::answer::{require, Decision, Refusal};
+use crate::answer::{require, Refusal};
 use crate::copy::Copy;
 use crate::merger::Merger;
 use crate::site::Site;
@@ -256,7 +256,7 @@ fn site_call(
         "commit" | "message" => (SEND_BUFFER, lists),
         "install" => (PART_BUFFER, base),
         "report" => (PART_BUFFER, true),
-        "read" => (0, base),
+        "read" | "search" => (0, base),
         "start" => (0, base && lists),
         _ => (0, true),
     };
@@ -277,6 +277,7 @@ fn site_call(
             site.enlist(transaction, target, out).map(Answer::Sent)
         }
         ("read", &[transaction, key]) => site.read(transaction, key).map(Answer::Value),
+        ("search", &[snapshot, key]) => site.search(snapshot, key).map(Answer::Found),
         ("write", &[transaction, key, value]) => {
             site.write(transaction, key, value).map(|()| Answer::Done)
         }
@@ -315,28 +316,6 @@ fn tell(output: &mut String, event: u64, answer: &Result<Answer, Refusal>) {
     // Writing to a String cannot fail.
     let _ = match answer {
         Err(refusal) => write!(output, "{event} refused {}", refusal.number()),
-        Ok(answer) => write!(output, "{event} ok{}", results(answer)),
+        Ok(answer) => write!(output, "{event} ok{}", answer.results()),
     };
-}
-
-fn results(answer: &Answer) -> String {
-    match *answer {
-        Answer::Done => String::new(),
-        Answer::Begun(number) | Answer::Value(number) => format!(" {number}"),
-        Answer::Sent(sent) => match sent.decision {
-            None => String::new(),
-            Some(Decision::Commit(number)) => format!(" {number}"),
-            Some(Decision::Abort(reason)) => format!(" abort {reason}"),
-        },
-        Answer::Installed(done) => format!(" {} {}", done.pair.number, done.pair.coordinator),
-        Answer::Reported(report) => format!(" {}", report.state),
-        Answer::Emitted(emitted) => {
-            let pair = emitted.pair;
-            format!(" {} {} {}", pair.number, pair.coordinator, emitted.transaction)
-        }
-        Answer::Replayed(pair) => format!(" {} {}", pair.number, pair.coordinator),
-        Answer::CopyValue(value, pair) => {
-            format!(" {value} {} {}", pair.number, pair.coordinator)
-        }
-    }
 }

@@ -1,8 +1,10 @@
 //! Random probes: calls in turn and out of turn, words forged, buffers shortened,
 //! tables lent at other lengths, counters near their ends, states past the sizes,
-//! fields poked. The house is run beside, so that the lines lead into deep states.
+//! fields poked, histories searched. The house is run beside, so that the lines lead
+//! into deep states.
 
 mod pokes;
+mod searches;
 
 use std::fmt::Write;
 
@@ -11,10 +13,10 @@ use super::{sums, Probe, LISTS, PLACES, SLOTS};
 use crate::random::Random;
 use crate::sizes::*;
 
-//                         begin enl read wri com ab take inst rep merge emit repl val room ends past lent
-const SPANNING: [u64; 17] = [8, 10, 8, 14, 12, 1, 70, 18, 4, 14, 8, 8, 2, 2, 1, 2, 1];
+//                    begin enl read wri com ab take inst rep merge emit repl val room ends past lent search
+const SPANNING: [u64; 18] = [8, 10, 8, 14, 12, 1, 70, 18, 4, 14, 8, 8, 2, 2, 1, 2, 1, 8];
 /// Few messages, many installs: history is forgotten.
-const LONE: [u64; 17] = [30, 3, 8, 14, 40, 0, 30, 40, 2, 16, 12, 6, 1, 1, 1, 2, 1];
+const LONE: [u64; 18] = [30, 3, 8, 14, 40, 0, 30, 40, 2, 16, 12, 6, 1, 1, 1, 2, 1, 12];
 
 struct Maker {
     random: Random,
@@ -115,7 +117,8 @@ impl Maker {
             13 => self.room(),
             14 => self.near_the_end(site),
             15 => self.past_the_sizes(site),
-            _ => self.lent(site, transaction),
+            16 => self.lent(site, transaction),
+            _ => self.search(site),
         }
     }
 
@@ -232,7 +235,7 @@ impl Maker {
         self.say(format!("{verb} {length}"));
         for _ in 0..self.random.between(1, 3) {
             let key = self.random.key(site, self.keys);
-            match self.random.below(10) {
+            match self.random.below(11) {
                 0 => drop(self.say(format!("begin {site}"))),
                 1 => drop(self.say(format!("enlist {site} {transaction} {site}"))),
                 2 => drop(self.say(format!("read {site} {transaction} {key}"))),
@@ -242,6 +245,7 @@ impl Maker {
                 6 => self.message(),
                 7 => drop(self.say(format!("install {site}"))),
                 8 => drop(self.say(format!("report {site}"))),
+                9 => self.search(site),
                 _ => drop(self.say(format!("start {site} {} {site}", self.sites()))),
             }
         }
@@ -310,6 +314,7 @@ impl Maker {
         self.say(poke);
         let (_, transaction) = self.any_part();
         self.say(format!("begin {site}"));
+        self.search(site);
         self.say(format!("commit {site} {transaction}"));
         self.say(format!("install {site}"));
         self.say(format!("message {site}"));

@@ -1,4 +1,4 @@
-//! A site: its state and the calls of clients (C1 to C59).
+//! A site: its state and the calls of clients (C1 to C59, Q5.1 to Q5.5).
 //!
 //! Every call first finds the refusal that applies, in the order of the causes,
 //! then alters.
@@ -7,11 +7,13 @@ mod certify;
 mod install;
 mod part;
 mod post;
+mod search;
 
 use std::collections::VecDeque;
 
 pub use install::{InstallDone, Report};
 pub use part::{Footprint, Installed, KeySet, Part, Stage};
+pub use search::Found;
 
 use crate::answer::{reason, require, Decision, Refusal, Sent};
 use crate::message::{Kind, Letter, Outbox};
@@ -93,7 +95,7 @@ impl Site {
         require(!self.has_forgotten_since(part.snapshot), Refusal::Forgotten)?;
         let reads = &part.footprint.reads;
         require(reads.contains(key) || reads.len() < SET_KEYS, Refusal::TooManyKeys)?;
-        let value = self.version(key, part.snapshot);
+        let value = self.version(part.snapshot, key).value;
         self.live[place].footprint.reads.insert(key);
         Ok(value)
     }
@@ -176,21 +178,16 @@ impl Site {
 
     /// Refusals 2, 3, 5 and 27 of read and write.
     fn find_active(&self, transaction: u64, key: u64) -> Result<usize, Refusal> {
-        require(is_site(key_site(key), self.sites), Refusal::Impossible)?;
-        require(key_site(key) == self.own, Refusal::OtherSite)?;
+        self.require_own_key(key)?;
         let place = self.find(transaction).ok_or(Refusal::NotHeld)?;
         require(self.live[place].is_active(), Refusal::WrongStage)?;
         Ok(place)
     }
 
-    /// The newest version of a key within a snapshot.
-    fn version(&self, key: u64, snapshot: u64) -> u64 {
-        self.history
-            .iter()
-            .rev()
-            .skip_while(|installed| installed.install > snapshot)
-            .find_map(|installed| installed.footprint.value(key))
-            .unwrap_or(self.base[(key % SITE_KEYS) as usize])
+    /// Refusals 2 and 3 of read, write and search.
+    fn require_own_key(&self, key: u64) -> Result<(), Refusal> {
+        require(is_site(key_site(key), self.sites), Refusal::Impossible)?;
+        require(key_site(key) == self.own, Refusal::OtherSite)
     }
 
     fn installed_since(&self, snapshot: u64) -> impl Iterator<Item = &Installed> {

@@ -15,8 +15,8 @@ use Rattle.kinds.specs.Kind as kind
 use Rattle.kinds.specs.Reason as reason
 use Rattle.kinds.specs.State.{Value}
 use Rattle.kinds.specs.declared.Answer.{Answer}
-use Rattle.kinds.specs.declared.Answer.the-variants.{Refused, Done, Begun, Found, Committed, Aborted, Installed, Reported, Emitted}
-use Rattle.kinds.specs.declared.Answer.the-variants.{Replayed, Standing}
+use Rattle.kinds.specs.declared.Answer.the-variants.{Refused, Done, Begun, Found, Searched, Committed, Aborted, Installed}
+use Rattle.kinds.specs.declared.Answer.the-variants.{Reported, Emitted, Replayed, Standing}
 use Rattle.rules.specs.Answers.{onBegun, onFound, onDone, onCommitted, onInstalled, onReplayed, onAnswer}
 use Rattle.rules.specs.Record.{recordHead, recordWrites}
 use Rattle.rules.specs.Message.{messageHead}
@@ -42,6 +42,7 @@ module _ {A : Type 0} (P : A → Type 0) {other : A} (o : P other) where
   on-answer d b f c i r Done = d
   on-answer d b f c i r (Begun n) = b n
   on-answer d b f c i r (Found n) = f n
+  on-answer d b f c i r (Searched n m) = o
   on-answer d b f c i r (Committed n) = c n
   on-answer d b f c i r (Aborted n) = o
   on-answer d b f c i r (Installed n m) = i n m
@@ -168,6 +169,7 @@ module _ (w : World) (b : List Fact) (h : LastReplays b w) where
   call-replays (world.enlist s out t n) = quiet [] a-nil
   call-replays (world.read s t k) = quiet _ (uses-none t k (step w (world.read s t k) .answer))
   call-replays (world.write s t k v) = quiet _ (writes-none t k v (step w (world.write s t k v) .answer))
+  call-replays (world.search s p k) = quiet [] a-nil
   call-replays (world.commit s out t) = quiet _ (commits-none t (step w (world.commit s out t) .answer))
   call-replays (world.abandon s out t) = quiet [] a-nil
   call-replays (world.message s out m) =

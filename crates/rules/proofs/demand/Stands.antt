@@ -27,6 +27,7 @@ told-facts b (world.begin s) a ws x = x
 told-facts b (world.enlist s out t n) a ws x = x
 told-facts b (world.read s t k) a ws x = x
 told-facts b (world.write s t k v) a ws x = x
+told-facts b (world.search s p k) a ws x = x
 told-facts b (world.commit s out t) a ws x = x
 told-facts b (world.abandon s out t) a ws x = x
 told-facts b (world.message s out m) a ws x = x

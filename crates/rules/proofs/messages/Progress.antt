@@ -95,6 +95,7 @@ call-known {w = w} r i f (world.write s t key v) h k = known-sent w s _ _ _ k (w
 call-known {w = w} r i f (world.commit s out t) h k = known-sent w s _ _ _ k (commit-writes (w .site s) (length out) (w .lists s) t .known)
 call-known {w = w} r i f (world.abandon s out t) h k = known-sent w s _ _ _ k (abandon-writes (w .site s) (length out) t .known)
 call-known {w = w} r i f (world.message s out m) h k = known-sent w s _ _ _ k (message-goes r i f s out m h .known)
+call-known r i f (world.search s q key) h k = k
 call-known r i f (world.install s out) h k = k
 call-known r i f (world.report s out) h k = k
 call-known r i f (world.merge m) h k = k

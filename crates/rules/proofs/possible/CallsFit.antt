@@ -170,7 +170,7 @@ module _ {s : Site} {lists : List ℕ} (y : Sound s lists) where
       (λ e. rw e (record { handed = y .handed; words = none }))
       (λ e. rw e
       (unless-fits y (readCode (isForgotten (s .counters .installs) (b .snapshot)) (readKey (b .keys) k) (b .keys .read)) [] _
-      (λ r. version-fits t (c .held) base k (c .here) (read-clear _ _ _ r .room)))))
+      (λ r. version-fits t (c .held) base k (c .key .here) (read-clear _ _ _ r .room)))))
 
   pub write-fits : (t k : ℕ) (v : Value) → EffectFits s (writeOf s t k v) lists
   unfolding writeOf writeAt writeCodeAt
@@ -180,7 +180,7 @@ module _ {s : Site} {lists : List ℕ} (y : Sound s lists) where
       (λ z.
       let c = access-clear _ _ _ _ _ _ _ z in
       by-test (wroteKey (subAt s place .keys) k)
-      (λ e. rw e (written-fits t (c .held) k v (c .here) (λ f. absurd (set-not _ e f))))
+      (λ e. rw e (written-fits t (c .held) k v (c .key .here) (λ f. absurd (set-not _ e f))))
       (λ e. rw e
       (unless-fits y (writeCodeAt s place k) [] _
-      (λ r. written-fits t (c .held) k v (c .here) (λ f. write-clear _ _ _ _ r .room)))))
+      (λ r. written-fits t (c .held) k v (c .key .here) (λ f. write-clear _ _ _ _ r .room)))))

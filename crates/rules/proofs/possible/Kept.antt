@@ -70,14 +70,14 @@ module _ (s : Site) (no : siteOk s ≡ false) where
   read-silent base t k =
       let place = placeOf (s .live) t in
       by-code Silent (accessCode (siteOk s) (length base) (s .house) (s .counters .own) k place (stageAt (s .live) place)) s [] _
-      (λ z. absurd (set-not _ (access-clear _ _ _ _ _ _ _ z .valid) no)) refl
+      (λ z. absurd (set-not _ (access-clear _ _ _ _ _ _ _ z .key .valid) no)) refl
 
   write-silent : (t k : ℕ) (v : Value) → Silent (writeOf s t k v)
   unfolding writeOf
   write-silent t k v =
       let place = placeOf (s .live) t in
       by-code Silent (accessCode (siteOk s) sizes.keys (s .house) (s .counters .own) k place (stageAt (s .live) place)) s [] _
-      (λ z. absurd (set-not _ (access-clear _ _ _ _ _ _ _ z .valid) no)) refl
+      (λ z. absurd (set-not _ (access-clear _ _ _ _ _ _ _ z .key .valid) no)) refl
 
   commit-silent : (room : ℕ) (lists : List ℕ) (t : ℕ) → Silent (commitOf s room lists t)
   unfolding commitOf
@@ -163,6 +163,7 @@ module _ {sites : ℕ} {w : World} {p : Protocol} (r : Refines sites w p) (i : I
       site-kept s _ _ _ (λ a b. read-fits (sound s a b) (w .base s) t key) (λ f. read-silent (w .site s) f (w .base s) t key)
   call-keeps (world.write s t key v) =
       site-kept s _ _ _ (λ a b. write-fits (sound s a b) t key v) (λ f. write-silent (w .site s) f t key v)
+  call-keeps (world.search s p key) = k
   call-keeps (world.commit s out t) =
       site-kept s _ _ _ (λ a b. commit-call (sound s a b) (length out) t (own-masked s t a b))
       (λ f. commit-silent (w .site s) f (length out) (w .lists s) t)

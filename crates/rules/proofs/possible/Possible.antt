@@ -10,6 +10,7 @@ use Rattle.laws.specs.Choice.{by-test}
 use Rattle.kinds.specs.Sizes as sizes
 use Rattle.kinds.specs.Reason as reason
 use Rattle.kinds.specs.declared.House.{House}
+use Rattle.kinds.specs.declared.Snapshot.{Snapshot}
 use Rattle.kinds.specs.declared.Answer.the-variants.{Refused}
 use Rattle.rules.specs.House.{isSite}
 use Rattle.rules.specs.Message.{messageHead, messageOk}
@@ -28,7 +29,7 @@ use Rattle.rules.proofs.stream.Stream.{Stream}
 use Rattle.rules.proofs.demand.Stands.{Stands, Keeps, list-stands}
 use Rattle.rules.proofs.messages.Progress.{messages-progress}
 use Rattle.rules.proofs.possible.WhyRefused.{begin-why, enlist-why, read-why, write-why, commit-why, abandon-why, install-why}
-use Rattle.rules.proofs.possible.WhyRefused.{report-why}
+use Rattle.rules.proofs.possible.WhyRefused.{report-why, search-why}
 use Rattle.rules.proofs.possible.WhyRefused.{merge-why, emit-why, replay-why, value-why}
 use Rattle.rules.proofs.possible.NextGoes.{message-why, next-stopped}
 use Rattle.rules.proofs.possible.Kept.{Kept, houseOf, house-is, call-keeps, fresh-kept}
@@ -76,6 +77,9 @@ module _ {sites : ℕ} {w : World} {b : List Fact} (x : Stands (More sites) site
   calls-possible (world.read s tx k) q =
       none-or s (λ t. rw (site-house s t) at (read-why (w .site s) (valid s t) (w .base s) tx k (base-long s t) 2 q refl))
   calls-possible (world.write s tx k v) q = none-or s (λ t. rw (site-house s t) at (write-why (w .site s) (valid s t) tx k v 2 q refl))
+  calls-possible (world.search s p k) q =
+      let snapshot : Snapshot = record { installs = p } in
+      none-or s (λ t. rw (site-house s t) at (search-why (w .site s) (valid s t) (w .base s) snapshot k (base-long s t) 2 q refl))
   calls-possible (world.commit s out tx) q =
       none-else s (λ t. commit-why (w .site s) (valid s t) (length out) (w .lists s) tx (site-ok s t) 2 q refl)
   calls-possible (world.abandon s out tx) q = none-else s (λ t. abandon-why (w .site s) (valid s t) (length out) tx 2 q refl)

@@ -14,6 +14,7 @@ use Rattle.kinds.specs.Reason as reason
 use Rattle.kinds.specs.Kind as kind
 use Rattle.kinds.specs.State.{Value, subAt}
 use Rattle.kinds.specs.declared.Site.{Site}
+use Rattle.kinds.specs.declared.Snapshot.{Snapshot}
 use Rattle.kinds.specs.declared.Merger.{Merger}
 use Rattle.kinds.specs.declared.Answer.{Answer}
 use Rattle.kinds.specs.declared.Answer.the-variants.{Refused}
@@ -29,8 +30,8 @@ use Rattle.rules.specs.Answers.{isRefused}
 use Rattle.rules.specs.Effect.{Effect, turnAt, unless}
 use Rattle.rules.specs.Course.{quietly, channelSpent}
 use Rattle.rules.specs.Begin.{beginCauses, beginCode, begun, beginOf}
-use Rattle.rules.specs.Access.{accessCauses, accessCode, readCauses, readCode, readVersion, readAt, readOf, writeCauses, writeCode}
-use Rattle.rules.specs.Access.{writeCodeAt, written, writeAt, writeOf}
+use Rattle.rules.specs.Access.{keyCauses, keyCode, accessCauses, accessCode, readCauses, readCode, readVersion, readAt, readOf}
+use Rattle.rules.specs.Access.{writeCauses, writeCode, writeCodeAt, written, writeAt, writeOf, searchOf}
 use Rattle.rules.specs.Enlist.{isMine, enlistCauses, enlistCode, joinerCauses, joinerCode, enlistAt, enlistOf}
 use Rattle.rules.specs.Commit.{requestCauses, requestCode, commitCauses, commitCode, abandonCauses, abandonCode, commitOf, abandonOf}
 use Rattle.rules.specs.Install.{installCauses, installCode, installedAt, installOf, reportCauses, reportCode, reportOf}
@@ -118,6 +119,17 @@ module _ (s : Site) (ok : siteOk s ≡ true) where
       (λ e. rw e
       (unless-refuses (Only X) (readCode lost (readKey (b .keys) k) (b .keys .read)) s [] _
       (λ y. other-cause (readCauses lost (readKey (b .keys) k) (b .keys .read)) refl) (λ y. accepted-refuses (Only X) _ refl))))
+
+  pub search-why : (base : List Value) (p : Snapshot) (k : ℕ) → length base ≡ sizes.keys
+      → Refuses (Only (isKey (s .house) k ≡ false)) (searchOf s base p k)
+  unfolding searchOf keyCode
+  search-why base p k size =
+      let P = Only (isKey (s .house) k ≡ false) in
+      let causes = keyCauses (siteOk s) (length base) (s .house) (s .counters .own) k in
+      by-test (eqb (codeOf causes) 0)
+      (λ h. rw h (accepted-refuses P _ refl))
+      (λ h. rw h
+      (refused-refuses P (codeOf causes) (λ e. fails _ (rw (ok, eq-eqb (length base) sizes.keys size) at (caused causes e)))))
 
   pub write-why : (t k : ℕ) (v : Value) → Refuses (Only (isKey (s .house) k ≡ false)) (writeOf s t k v .answer)
   unfolding writeOf writeAt writeCodeAt writeCode written quietly

@@ -133,6 +133,7 @@ call-kept {sites} {w} r i o (world.read s t k) =
     accessed sites w s _ _ (uses-told t k (step w (world.read s t k) .answer)) (read-once r i o s t k)
 call-kept {sites} {w} r i o (world.write s t k v) =
     accessed sites w s _ _ (writes-told t k v (step w (world.write s t k v) .answer)) (write-once r i o s t k v)
+call-kept {sites} {w} r i o (world.search s q k) = quietly sites w _ a-nil (λ s. refl)
 call-kept {sites} {w} r i o (world.commit s out t) = at-site sites w s _ _ (commits-quiet t (step w (world.commit s out t) .answer))
 call-kept {sites} {w} r i o (world.abandon s out t) = at-site sites w s _ _ a-nil
 call-kept {sites} {w} r i o (world.message s out m) =

@@ -19,6 +19,7 @@ use Rattle.rules.specs.Keys.{wroteKey, wroteValue, readKey}
 use Rattle.rules.specs.KeysLaws.{by-order}
 use Rattle.rules.specs.Live.{stageAt, placeOf}
 use Rattle.rules.specs.History.{isForgotten, versionOf}
+use Rattle.rules.specs.SearchLaws.{search-same}
 use Rattle.rules.specs.Valid.{siteOk}
 use Rattle.rules.specs.Effect.{Effect}
 use Rattle.rules.specs.Access.{accessCode, readCode, readVersion, readAt, readOf}
@@ -50,10 +51,10 @@ pub record ReadIs (sites : ℕ) (p : Protocol) (s t k : ℕ) (v : Value) : Type 
       ⊎ ((wroteKey (p .keys s t) k ≡ false) × LastSince (at p s) k 0 (p .snap s t) v)
 
 -- The call.
-found : (a v : Value) → Found a ≡ Found v → a ≡ v
+pub found : (a v : Value) → Found a ≡ Found v → a ≡ v
 found a v e = ap (onFound 0 (λ n. n)) e
 
-not-found : (n : ℕ) (v : Value) → Refused n ≡ Found v → ⊥
+pub not-found : (n : ℕ) (v : Value) → Refused n ≡ Found v → ⊥
 not-found n v e = let z : _≡_ {A = ℕ} 0 1 = ap (onFound 0 (λ n. 1)) e in omega arith
 
 low-key : (sites k s : ℕ) → home sites k ≡ s → s ≤ sizes.sites → k < sizes.keys
@@ -98,11 +99,12 @@ module _ {sites : ℕ} {w : World} {p : Protocol} (r : Refines sites w p) (i : I
   unfolding readVersion
   reads-seen a f c e =
       let d = subAt site spot in
+      let same = search-same (site .history) (site .counters .installs) (w .base s) (d .snapshot) k in
       let q = left a (read-clear (isForgotten (site .counters .installs) (d .snapshot)) (readKey (d .keys) k) (d .keys .read) c .kept) in
       record {
         has = i .parts .has s t (held a);
         lives = a .home;
-        value = inr (rw (← own a) f, rw (sym (found _ v e) ∙ q) (left-since (at p s) k 0 (p .snap s t) (omega arith)));
+        value = inr (rw (← own a) f, rw (sym (found _ v e) ∙ same ∙ q) (left-since (at p s) k 0 (p .snap s t) (omega arith)));
       }
 
   abbrev Goal : Effect → Type 0

@@ -134,6 +134,7 @@ module _ {sites : ℕ} {w : World} {p : Protocol} (r : Refines sites w p) (inv :
   call-written (world.enlist s out t n) = f
   call-written (world.read s t key) = f
   call-written (world.write s t key v) = f
+  call-written (world.search s p key) = f
   call-written (world.commit s out t) = f
   call-written (world.abandon s out t) = f
   call-written (world.message s out m) = f

@@ -137,7 +137,7 @@ module _ {sites : ℕ} {w : World} {p : Protocol} (r : Refines sites w p) (s t k
       → accessCode (siteOk here) room (here .house) (here .counters .own) k spot (stageAt (here .live) spot) ≡ 0 → Reaches
   reaches room e =
       let c = access-clear (siteOk here) room (here .house) (here .counters .own) k spot (stageAt (here .live) spot) e in
-      let (l, h) = inside r s (c .valid) in
+      let (l, h) = inside r s (c .key .valid) in
       let y = r .site s l h in
       let (q, f, o) = place-held (y .live) t (c .held) in
       record {
@@ -147,8 +147,8 @@ module _ {sites : ℕ} {w : World} {p : Protocol} (r : Refines sites w p) (s t k
         part = q;
         active = sym (ap (λ (b : Sub). b .course .stage) q) ∙ c .active;
         sized = y .live .sized t f;
-        few = rw q at (live-wrote here (c .valid) spot (c .held));
-        home = ap (λ (n : ℕ). homeOf (record { sites = n }) k) (sym (y .house)) ∙ c .here ∙ y .counters .own-is;
+        few = rw q at (live-wrote here (c .key .valid) spot (c .held));
+        home = ap (λ (n : ℕ). homeOf (record { sites = n }) k) (sym (y .house)) ∙ c .key .here ∙ y .counters .own-is;
         installs = y .counters .installs-are;
         history = y .history;
         live = y .live;

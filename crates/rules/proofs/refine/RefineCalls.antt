@@ -20,7 +20,7 @@ use Rattle.rules.proofs.stream.StreamReached.{Standing}
 use Rattle.rules.proofs.refine.RefineMerger.{StreamIs, Onward, site-onward}
 use Rattle.rules.proofs.refine.RefineMerge.{merge-onward}
 use Rattle.rules.proofs.refine.RefineEmit.{emit-onward}
-use Rattle.rules.proofs.refine.RefineReplay.{replay-onward, value-onward}
+use Rattle.rules.proofs.refine.RefineReplay.{replay-onward, stays-onward}
 
 module _ {sites : ℕ} {w : World} {v : Stream} (x : StreamIs sites w v) (z : Standing sites v) where
   site-call : {fs : List Fact} (s : ℕ) (e : Effect) (base : List Value) (lists : List ℕ)
@@ -40,6 +40,7 @@ module _ {sites : ℕ} {w : World} {v : Stream} (x : StreamIs sites w v) (z : St
   call-onward (world.enlist s out t n) h = site-call s _ _ _ (enlist-moves (x .refines) s out t n)
   call-onward (world.read s t k) h = site-call s _ _ _ (read-moves (x .refines) s t k)
   call-onward (world.write s t k a) h = site-call s _ _ _ (write-moves (x .refines) s t k a)
+  call-onward (world.search s p k) h = stays-onward x z
   call-onward (world.commit s out t) h = site-call s _ _ _ (commit-moves (x .refines) (z .invariant) s out t)
   call-onward (world.abandon s out t) h = site-call s _ _ _ (abandon-moves (x .refines) (z .invariant) s out t)
   call-onward (world.message s out m) h = site-call s _ _ _ (message-moves (x .refines) (z .invariant) s out m h)
@@ -48,4 +49,4 @@ module _ {sites : ℕ} {w : World} {v : Stream} (x : StreamIs sites w v) (z : St
   call-onward (world.merge m) h = merge-onward x z m h
   call-onward (world.emit out) h = emit-onward x z out
   call-onward (world.replay c m) h = replay-onward x z c m h
-  call-onward (world.value c k) h = value-onward x z c k
+  call-onward (world.value c k) h = stays-onward x z

@@ -19,8 +19,8 @@ use Rattle.kinds.specs.declared.Course.{Course}
 use Rattle.kinds.specs.declared.Site.{Site}
 use Rattle.kinds.specs.declared.MessageHead.{MessageHead}
 use Rattle.kinds.specs.declared.Answer.{Answer}
-use Rattle.kinds.specs.declared.Answer.the-variants.{Refused, Done, Begun, Found, Committed, Aborted, Installed, Reported, Emitted}
-use Rattle.kinds.specs.declared.Answer.the-variants.{Replayed, Standing}
+use Rattle.kinds.specs.declared.Answer.the-variants.{Refused, Done, Begun, Found, Searched, Committed, Aborted, Installed}
+use Rattle.kinds.specs.declared.Answer.the-variants.{Reported, Emitted, Replayed, Standing}
 use Rattle.kinds.specs.State.{noSub, subAt}
 use Rattle.rules.specs.House.{isTx, isMask}
 use Rattle.rules.specs.Message.{messageWords, entryTx, entryMask, entryMark, entryBefore, entryCount, entryOk, entryPossible}
@@ -76,6 +76,7 @@ no-join s k t words (Refused n) e = refl
 no-join s k t words Done e = rw e
 no-join s k t words (Begun n) e = refl
 no-join s k t words (Found v) e = refl
+no-join s k t words (Searched v n) e = refl
 no-join s k t words (Committed n) e = refl
 no-join s k t words (Aborted v) e = refl
 no-join s k t words (Installed n c) e = refl

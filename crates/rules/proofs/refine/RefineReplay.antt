@@ -244,6 +244,6 @@ module _ {sites : ℕ} {w : World} {v : Stream} (x : StreamIs sites w v) (z : St
             },
           )
 
-  pub value-onward : (c k : ℕ) → Onward sites v (step w (world.value c k) .world) []
-  unfolding step
-  value-onward c k = (v, stream.stop, refl, x)
+  -- a call that leaves the world
+  pub stays-onward : Onward sites v w []
+  stays-onward = (v, stream.stop, refl, x)

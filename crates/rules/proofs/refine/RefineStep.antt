@@ -32,6 +32,7 @@ toldBy (world.begin s) a words = factsOf (world.begin s) a words
 toldBy (world.enlist s out tx site) a words = factsOf (world.enlist s out tx site) a words
 toldBy (world.read s tx key) a words = factsOf (world.read s tx key) a words
 toldBy (world.write s tx key v) a words = factsOf (world.write s tx key v) a words
+toldBy (world.search s p key) a words = factsOf (world.search s p key) a words
 toldBy (world.commit s out tx) a words = factsOf (world.commit s out tx) a words
 toldBy (world.abandon s out tx) a words = factsOf (world.abandon s out tx) a words
 toldBy (world.message s out m) a words = factsOf (world.message s out m) a words

@@ -13,17 +13,18 @@ use Rattle.kinds.specs.Sizes as sizes
 use Rattle.kinds.specs.Reason as reason
 use Rattle.kinds.specs.Kind as kind
 use Rattle.kinds.specs.declared.Answer.{Answer}
-use Rattle.kinds.specs.declared.Answer.the-variants.{Refused, Done, Emitted, Replayed, Standing}
+use Rattle.kinds.specs.declared.Answer.the-variants.{Refused, Done, Searched, Emitted, Replayed, Standing}
 use Rattle.kinds.specs.declared.MessageHead.{MessageHead}
 use Rattle.kinds.specs.declared.Merger.{Merger}
 use Rattle.kinds.specs.declared.Site.{Site}
+use Rattle.kinds.specs.declared.Snapshot.{Snapshot}
 use Rattle.kinds.specs.State.{Value, subAt}
 use Rattle.rules.specs.House.{isSite, inMask}
 use Rattle.rules.specs.Record.{recordHead}
 use Rattle.rules.specs.Message.{messageOk, messageHead, messageEntries}
 use Rattle.rules.specs.Send.{countsLow}
 use Rattle.rules.specs.Keys.{wroteKey, readKey}
-use Rattle.rules.specs.History.{isForgotten, isNewer}
+use Rattle.rules.specs.History.{isForgotten, isNewer, searchIn}
 use Rattle.rules.specs.Valid.{siteOk, handedOk}
 use Rattle.rules.specs.Live.{placeOf, freePlace, keyHeld, allHeard}
 use Rattle.rules.specs.Certify.{concurrent}
@@ -31,8 +32,8 @@ use Rattle.rules.specs.CertifyLaws.{concurrent-whole}
 use Rattle.rules.specs.Effect.{Effect, Change, turnAt, changed, unless}
 use Rattle.rules.specs.Course.{withReply, sendTo, quietly, raise, channelSpent, enlistStep, abortStep}
 use Rattle.rules.specs.Begin.{beginCode, beginOf, begun}
-use Rattle.rules.specs.Access.{readCauses, writeCauses, accessCode, readCode, writeCode, writeCodeAt, readAt, readVersion, readOf}
-use Rattle.rules.specs.Access.{writeAt, written, writeOf}
+use Rattle.rules.specs.Access.{readCauses, writeCauses, keyCode, accessCode, readCode, writeCode, writeCodeAt, readAt, readVersion}
+use Rattle.rules.specs.Access.{readOf, writeAt, written, writeOf, searchOf}
 use Rattle.rules.specs.Enlist.{isMine, enlistCauses, joinerCauses, enlistCode, joinerCode, enlistAt, enlistOf}
 use Rattle.rules.specs.Commit.{requestCauses, commitCauses, abandonCauses, commitChange, requestCode, commitCode, abandonCode}
 use Rattle.rules.specs.Commit.{commitLists, commitOf, abandonOf}
@@ -50,8 +51,8 @@ use Rattle.rules.specs.Copy.{valueOf, copyStartCauses, copyStartOf}
 use Rattle.rules.specs.Answers.{isRefused}
 use Rattle.rules.specs.World as world
 use Rattle.rules.specs.World.{World, Call, step, siteStep, logStep, mergerStep, mergeStep, copyStep, replayStep}
-use Rattle.rules.specs.Refusals.{order, beginHas, accessHas, readHas, writeHas, enlistHas, commitHas, abandonHas, heldInTurn}
-use Rattle.rules.specs.Refusals.{isInTurn, heldSpent, isSpent, messageHas, installHas, mergeHas, emitHas, causesOf, ByFirst}
+use Rattle.rules.specs.Refusals.{order, beginHas, accessHas, readHas, writeHas, searchHas, enlistHas, commitHas, abandonHas}
+use Rattle.rules.specs.Refusals.{heldInTurn, isInTurn, heldSpent, isSpent, messageHas, installHas, mergeHas, emitHas, causesOf, ByFirst}
 use Rattle.rules.specs.Refusals.{FirstCause}
 use Rattle.rules.proofs.messages.Spoken.{Speaks, enlist-speaks, abort-speaks, quietly-speaks, prepared-speaks, certified-speaks}
 use Rattle.rules.proofs.messages.Spoken.{vote-speaks}
@@ -104,7 +105,7 @@ only-by : (l : List Cause) (s : Site) (lent : List ℕ) (e : Effect) → isRefus
     → By (unless (codeOf l) s lent e .answer) l
 only-by l s lent e f = alone-by l (e .answer) _ f (λ z. rw z) (λ n. rw (ne-eqb _ 0 n))
 
--- Begin, read, write, enlist.
+-- Begin, read, write, search, enlist.
 pub begin-by : (s : Site) → ByFirst (beginOf s .answer) (beginHas s)
 unfolding beginOf beginCode begun beginHas order
 begin-by s = by-first _ (beginHas s) refl (only-by (beginHas s) s [] _ refl)
@@ -134,6 +135,13 @@ write-by s tx k v =
     (unless-by (accessHas s sizes.keys tx k) [] s [] _ refl (accepted _ [] refl refl))))
     (λ t. rw t (by-first _ (accessHas s sizes.keys tx k ++ more) refl
     (unless-by (accessHas s sizes.keys tx k) more s [] _ refl (only-by more s [] (written s place k v) refl))))
+
+pub search-by : (s : Site) (base : List Value) (p : Snapshot) (k : ℕ) → ByFirst (searchOf s base p k) (searchHas s base k)
+unfolding searchOf keyCode searchHas order
+search-by s base p k =
+    let found = searchIn (s .history) (s .counters .installs) base p k in
+    by-first _ (searchHas s base k) refl
+    (alone-by (searchHas s base k) (Searched (found .value) (found .looked)) _ refl (λ z. rw z) (λ n. rw (ne-eqb _ 0 n)))
 
 pub enlist-by : (s : Site) (room tx site : ℕ) → ByFirst (enlistOf s room tx site .answer) (enlistHas s room tx site)
 unfolding enlistOf enlistCode enlistAt joinerCode enlistHas order
@@ -296,6 +304,7 @@ call-by w (world.begin s) = begin-by (w .site s)
 call-by w (world.enlist s out tx site) = enlist-by (w .site s) (length out) tx site
 call-by w (world.read s tx key) = read-by (w .site s) (w .base s) tx key
 call-by w (world.write s tx key v) = write-by (w .site s) tx key v
+call-by w (world.search s p key) = search-by (w .site s) (w .base s) (record { installs = p }) key
 call-by w (world.commit s out tx) = commit-by (w .site s) (length out) (w .lists s) tx
 call-by w (world.abandon s out tx) = abandon-by (w .site s) (length out) tx
 call-by w (world.message s out m) = message-by (w .site s) (length out) (w .lists s) m

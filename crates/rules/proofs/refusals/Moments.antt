@@ -126,6 +126,7 @@ no-six (world.begin s) = refl
 no-six (world.enlist s out tx site) = refl
 no-six (world.read s tx key) = refl
 no-six (world.write s tx key v) = refl
+no-six (world.search s p key) = refl
 no-six (world.commit s out tx) = refl
 no-six (world.abandon s out tx) = refl
 no-six (world.message s out m) = refl

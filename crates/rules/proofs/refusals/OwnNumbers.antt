@@ -21,8 +21,8 @@ use Rattle.rules.specs.Copy.{copyStartCauses}
 use Rattle.rules.specs.Answers.{isRefused}
 use Rattle.rules.specs.World as world
 use Rattle.rules.specs.World.{World, Call, step}
-use Rattle.rules.specs.Refusals.{order, beginHas, accessHas, readHas, writeHas, enlistHas, commitHas, abandonHas, messageHas}
-use Rattle.rules.specs.Refusals.{installHas, mergeHas, emitHas, causesOf, ByFirst, numbersOf, OwnNumbers}
+use Rattle.rules.specs.Refusals.{order, beginHas, accessHas, readHas, writeHas, searchHas, enlistHas, commitHas, abandonHas}
+use Rattle.rules.specs.Refusals.{messageHas, installHas, mergeHas, emitHas, causesOf, ByFirst, numbersOf, OwnNumbers}
 use Rattle.rules.proofs.messages.GoesOn.{refused-number}
 use Rattle.rules.proofs.refusals.FirstCause.{first-cause}
 
@@ -40,13 +40,14 @@ by-own : (a : Answer) (l : List Cause) (numbers : List ℕ) (n : ℕ) → ByFirs
 by-own a l numbers n x t k q = set-not (holdsAt n l) (by-cause a l n x q) (lacked n numbers l k t)
 
 own-order : (w : World) (c : Call) → inOrder (numbersOf c) (causesOf w c) ≡ true
-unfolding beginHas accessHas readHas writeHas enlistHas commitHas abandonHas messageHas installHas mergeHas emitHas
+unfolding beginHas accessHas readHas writeHas searchHas enlistHas commitHas abandonHas messageHas installHas mergeHas emitHas
 own-order w (world.begin s) = refl
 own-order w (world.enlist s out tx site) = refl
 own-order w (world.read s tx key) =
     let b = subAt (w .site s) (placeOf (w .site s .live) tx) in by-test (wroteKey (b .keys) key) (λ t. rw t refl) (λ t. rw t refl)
 own-order w (world.write s tx key v) =
     let b = subAt (w .site s) (placeOf (w .site s .live) tx) in by-test (wroteKey (b .keys) key) (λ t. rw t refl) (λ t. rw t refl)
+own-order w (world.search s p key) = refl
 own-order w (world.commit s out tx) = refl
 own-order w (world.abandon s out tx) = refl
 own-order w (world.message s out m) = refl

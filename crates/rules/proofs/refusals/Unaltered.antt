@@ -263,6 +263,7 @@ refused-leaves w (world.begin s) n q = at-site w s _ n (begin-writes (w .site s)
 refused-leaves w (world.enlist s out t r) n q = at-site w s _ n (enlist-writes (w .site s) (length out) t r .leaves) q
 refused-leaves w (world.read s t k) n q = at-site w s _ n (read-writes (w .site s) (w .base s) t k .leaves) q
 refused-leaves w (world.write s t k v) n q = at-site w s _ n (write-writes (w .site s) t k v .leaves) q
+refused-leaves w (world.search s p k) n q = (refl, refl)
 refused-leaves w (world.commit s out t) n q = at-lists w s _ n (commit-writes (w .site s) (length out) (w .lists s) t .leaves) q
 refused-leaves w (world.abandon s out t) n q = at-site w s _ n (abandon-writes (w .site s) (length out) t .leaves) q
 refused-leaves w (world.message s out m) n q = at-lists w s _ n (message-leaves (w .site s) (w .lists s) (length out) m) q

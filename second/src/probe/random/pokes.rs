@@ -25,6 +25,9 @@ impl Maker {
         if self.random.chance(50) {
             self.say(format!("commit {site} {}", part.transaction));
         }
+        if self.random.chance(30) {
+            self.search(site);
+        }
     }
 
     fn held(&mut self) -> Option<(u64, Part)> {
@@ -190,10 +193,11 @@ impl Maker {
     }
 
     fn some_calls(&mut self, site: u64, transaction: u64) {
-        match self.random.below(4) {
+        match self.random.below(5) {
             0 => drop(self.say(format!("begin {site}"))),
             1 => drop(self.say(format!("read {site} {transaction} {}", (site - 1) * SITE_KEYS))),
             2 => drop(self.say(format!("install {site}"))),
+            3 => self.search(site),
             _ => drop(self.say(format!("report {site}"))),
         }
         self.say(format!("commit {site} {transaction}"));

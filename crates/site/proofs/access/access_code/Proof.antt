@@ -1,137 +1,60 @@
--- Each return is the first cause, or none.
+-- Each return is the first cause, or none: those of the key, and then those of the part.
 use borrow.Author.Needs.{needs}
-use borrow.Author.Tests.{eq-eqb, le-leb, lt-leb, ne-eqb, not-false, not-true}
+use borrow.Author.Tests.{eq-eqb, le-leb, lt-leb, ne-eqb}
 use lib.Dec.{eqb, leb}
-use mathlib.Core.Bool.{false, true}
-use mathlib.Core.Path.{_≡_}
-use Rattle.rules.specs.Access.{accessCode}
+use mathlib.Core.Bool.{true, false}
+use mathlib.Core.Path.{_≡_, refl, sym}
+use Prim.Native.Nat.{ℕ}
+use Rattle.laws.specs.Choice.{pick}
+use Rattle.laws.specs.Cause.{codeOf, code-append}
+use Rattle.rules.specs.Access.{keyCauses, partCauses, keyCode, accessCode}
 use Rattle.kinds.specs.Sizes as sizes
 use Rattle.kinds.specs.Stage as stage
 use Rattle.site.proofs.access.access_code.Statement.{statement}
 use Rattle.site.proofs.access.access_code.Tie as tie
 
-abbrev start : tie.Else1 → tie.Start
-start c = c .before .before .before
+abbrev codeAt : tie.Start → ℕ
+codeAt s = let a = s .args in accessCode (a .ok) (a .room) (a .o) (a .own) (a .key) (a .place) (a .stage)
 
-abbrev after-is-key : tie.Else2 → tie.After-is-key
-after-is-key c = c .before .before .before
-
-abbrev after-home-of : tie.Else3 → tie.After-home-of
-after-home-of c = c .before .before .before
-
-abbrev else1 : tie.Else4 → tie.Else1
-else1 c = c .before .before .before
-
-abbrev else2 : tie.Else5 → tie.Else2
-else2 c = c .before .before .before
+-- where the key has a cause it is the first, and else the first is one of the part
+by-key : (c : tie.After-key-code)
+    → (let n = c .key-code .result in let a = c .before .args in
+    pick (eqb n 0) (codeOf (partCauses (a .place) (a .stage))) n ≡ codeAt (c .before))
+unfolding keyCode accessCode
+by-key c =
+    let a = c .before .args in
+    let first = keyCauses (a .ok) (a .room) (a .o) (a .own) (a .key) in
+    rw (c .key-code .ensures) (sym (code-append first (partCauses (a .place) (a .stage)) refl))
 
 -- what each passed test tells
-passed-1 : (c : tie.Else1) → eqb (c .before .before .before .args .room) sizes.keys ≡ true
-passed-1 c = eq-eqb (c .before .before .before .args .room) sizes.keys (c .if1 .left)
+passed-1 : (c : tie.Else1) → eqb (c .before .key-code .result) 0 ≡ true
+passed-1 c = eq-eqb (c .before .key-code .result) 0 (c .if1 .left)
 
-passed-2 : (c : tie.Else2) → start (c .before) .args .ok ≡ true
-passed-2 c = not-false (start (c .before) .args .ok) (c .if2 .left)
+passed-2 : (c : tie.Else2) → leb sizes.live (c .before .before .before .args .place) ≡ false
+passed-2 c = lt-leb sizes.live (c .before .before .before .args .place) (c .if2 .left)
 
-passed-3 : (c : tie.Else3) → after-is-key (c .before) .is-key .result ≡ true
-passed-3 c = not-false (after-is-key (c .before) .is-key .result) (c .if3 .left)
-
-passed-4 : (c : tie.Else4) → eqb (after-home-of (c .before) .home-of .result) (start (c .before .before .before) .args .own) ≡ true
-passed-4 c = eq-eqb (after-home-of (c .before) .home-of .result) (start (c .before .before .before) .args .own) (c .if4 .left)
-
-passed-5 : (c : tie.Else5) → leb sizes.live (start (else1 (c .before)) .args .place) ≡ false
-passed-5 c = lt-leb sizes.live (start (else1 (c .before)) .args .place) (c .if5 .left)
-
-passed-6 : (c : tie.Else6) → eqb (start (else1 (c .before .before)) .args .stage) stage.active ≡ true
-passed-6 c = eq-eqb (start (else1 (c .before .before)) .args .stage) stage.active (c .if6 .left)
-
-is-key-requires : tie.Need-is-key-requires
-is-key-requires c κs = search needs
-
-home-of-requires : tie.Need-home-of-requires
-home-of-requires c κs = search needs
+key-code-requires : tie.Need-key-code-requires
+key-code-requires c κs = search needs
 
 returns : tie.Need-returns
-unfolding accessCode
-returns c = simp (← c .before .home-of .ensures, ne-eqb (c .before .before .before .args .room) sizes.keys (c .if1 .taken))
+returns c = rw (ne-eqb (c .before .key-code .result) 0 (c .if1 .taken)) at (by-key (c .before))
 
 returns-2 : tie.Need-returns-2
-unfolding accessCode
-returns-2 c = simp (← c .before .before .home-of .ensures, passed-1 (c .before), not-true (start (c .before) .args .ok) (c .if2 .taken))
+returns-2 c =
+    let past = c .before in
+    rw (passed-1 past, le-leb sizes.live (past .before .before .args .place) (c .if2 .taken)) at (by-key (past .before))
 
 returns-3 : tie.Need-returns-3
-unfolding accessCode
 returns-3 c =
-    simp (
-      ← c .before .before .before .home-of .ensures,
-      passed-1 (c .before .before),
-      passed-2 (c .before),
-      ← after-is-key (c .before) .is-key .ensures,
-      not-true (after-is-key (c .before) .is-key .result) (c .if3 .taken),
-    )
+    let past = c .before .before in
+    let a = past .before .before .args in
+    rw (passed-1 past, passed-2 (c .before), ne-eqb (a .stage) stage.active (c .if3 .taken)) at (by-key (past .before))
 
 returns-4 : tie.Need-returns-4
-unfolding accessCode
 returns-4 c =
-    simp (
-      ← after-home-of (c .before) .home-of .ensures,
-      passed-1 (c .before .before .before),
-      passed-2 (c .before .before),
-      ← after-is-key (c .before .before) .is-key .ensures,
-      passed-3 (c .before),
-      ne-eqb (after-home-of (c .before) .home-of .result) (start (c .before .before .before) .args .own) (c .if4 .taken),
-    )
-
-returns-5 : tie.Need-returns-5
-unfolding accessCode
-returns-5 c =
-    simp (
-      ← else1 (c .before) .before .home-of .ensures,
-      passed-1 (else1 (c .before)),
-      passed-2 (c .before .before .before),
-      ← else1 (c .before) .before .before .is-key .ensures,
-      passed-3 (c .before .before),
-      passed-4 (c .before),
-      le-leb sizes.live (start (else1 (c .before)) .args .place) (c .if5 .taken),
-    )
-
-returns-6 : tie.Need-returns-6
-unfolding accessCode
-returns-6 c =
-    simp (
-      ← else1 (c .before .before) .before .home-of .ensures,
-      passed-1 (else1 (c .before .before)),
-      passed-2 (else2 (c .before)),
-      ← else1 (c .before .before) .before .before .is-key .ensures,
-      passed-3 (c .before .before .before),
-      passed-4 (c .before .before),
-      passed-5 (c .before),
-      ne-eqb (start (else1 (c .before .before)) .args .stage) stage.active (c .if6 .taken),
-    )
-
-returns-7 : tie.Need-returns-7
-unfolding accessCode
-returns-7 c =
-    simp (
-      ← else1 (c .before .before) .before .home-of .ensures,
-      passed-1 (else1 (c .before .before)),
-      passed-2 (else2 (c .before)),
-      ← else1 (c .before .before) .before .before .is-key .ensures,
-      passed-3 (c .before .before .before),
-      passed-4 (c .before .before),
-      passed-5 (c .before),
-      passed-6 c,
-    )
+    let past = c .before .before in
+    let a = past .before .before .args in
+    rw (passed-1 past, passed-2 (c .before), eq-eqb (a .stage) stage.active (c .if3 .left)) at (by-key (past .before))
 
 pub access-code-spec : {M : Type 1} → statement M
-access-code-spec =
-    tie.close
-    (tie.spec
-    is-key-requires
-    home-of-requires
-    returns
-    returns-2
-    returns-3
-    returns-4
-    returns-5
-    returns-6
-    returns-7)
+access-code-spec = tie.close (tie.spec key-code-requires returns returns-2 returns-3 returns-4)

@@ -1,5 +1,5 @@
 -- The own write, refused, or the version of the snapshot with the key among those read.
-use mathlib.Core.Path.{_≡_, sym, _∙_, refl}
+use mathlib.Core.Path.{_≡_, sym, ap, _∙_, refl}
 use mathlib.Core.Bool.{Bool, true, false}
 use mathlib.Core.List.{List, []}
 use Prim.Native.Nat.{ℕ, _≤_, _<_}
@@ -8,6 +8,7 @@ use borrow.Author.Tests.{ne-eqb}
 use Rattle.kinds.specs.Sizes as sizes
 use Rattle.kinds.specs.State.{Value, withKeys}
 use Rattle.kinds.specs.declared.Keys.{Keys}
+use Rattle.kinds.specs.declared.Search.{Search}
 use Rattle.kinds.specs.declared.Site.{Site}
 use Rattle.kinds.specs.declared.Turn.{Turn}
 use Rattle.kinds.specs.declared.Answer.the-variants.{Found}
@@ -15,7 +16,7 @@ use Rattle.rules.specs.Access.{readAt, readCode, readVersion}
 use Rattle.rules.specs.CallLaws.{read-clear}
 use Rattle.rules.specs.Course.{withSubOf}
 use Rattle.rules.specs.Effect.{Change, changed, refused, turnAt}
-use Rattle.rules.specs.History.{isForgotten, versionOf}
+use Rattle.rules.specs.History.{isForgotten, searchIn}
 use Rattle.rules.specs.Keys.{readKey, withRead, wroteKey, wroteValue}
 use Rattle.rules.specs.ValidLaws.{ValidKeys, ValidSite, valid-site}
 use Rattle.lent.specs.Laws.{Lengths, lent-lengths}
@@ -77,7 +78,7 @@ stepOf t more v = record { answer = Found v; words = []; turn = withSubOf t (wit
 
 reads : (s : Site) (base : List Value) (place k : ℕ) (t : Turn) (v : Value) (more : Keys) → t ≡ turnAt s place
     → wroteKey (t .sub .keys) k ≡ false
-    → versionCode s t k ≡ 0 → v ≡ versionOf (s .history) (s .counters .installs) base (t .sub .snapshot) k
+    → versionCode s t k ≡ 0 → v ≡ searchIn (s .history) (s .counters .installs) base (t .sub .snapshot) k .value
     → more ≡ withRead (t .sub .keys) k
     → readAt s base place k ≡ changed s place (stepOf t more v) []
 unfolding readAt readVersion turnAt
@@ -151,8 +152,8 @@ returns-2 c =
     (c .before .if2 .taken))
     (c .refused .ensures _ _ [])
 
-version-of-requires : tie.Need-version-of-requires
-version-of-requires c κs =
+search-requires : tie.Need-search-requires
+search-requires c κs =
     let s = begins (tested (asked (c .before)) .before) in
     (record { long = long s .history; few = λ i l. valid s .entry i l .keys .few-wrote }, s .pre .1)
 
@@ -189,7 +190,7 @@ returns-3 c =
     let a = s .args in
     rw (reads (handed s) (a .base .now) (a .place) (a .key) _ _ _ (turned (turn wrote)) (lacked test)
     (sym (first code) ∙ past keys .if2 .left)
-    (read .before .version-of .ensures) (read .with-read .ensures))
+    (ap (λ (f : Search). f .value) (read .before .search .ensures)) (read .with-read .ensures))
     (end .settled .ensures _ (keys .with-keys .ensures) (a .history .now) [])
 
 pub read-at-spec : {M : Type 1} → statement M
@@ -208,7 +209,7 @@ read-at-spec =
     refused-requires
     same-length-2
     returns-2
-    version-of-requires
+    search-requires
     with-read-requires
     with-keys-requires
     settled-requires

@@ -80,7 +80,7 @@ returns c =
     rw (← at code, ← first code, ne-eqb (code .access-code .result) 0 (c .before .if1 .taken)) (c .refused .ensures _ _ [])
 
 write-at-requires : tie.Need-write-at-requires
-write-at-requires c κs = let h = clear (c .before) in record { possible = h .valid; low = h .held }
+write-at-requires c κs = let h = clear (c .before) in record { possible = h .key .valid; low = h .held }
 
 same-length-2 : tie.Need-same-length-2
 same-length-2 c = search needs
