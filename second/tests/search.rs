@@ -29,9 +29,10 @@ fn grown(seed: u64, installs: u64) -> (Site, Log) {
     (two, log)
 }
 
-/// A lone save of none to three keys.
+/// A lone save that reads one key and writes none to three.
 fn save(site: &mut Site, log: &mut Log, random: &mut Random) {
     let transaction = site.begin().unwrap();
+    site.read(transaction, random.between(WRITTEN.start, WRITTEN.end)).unwrap();
     let mut writes = Vec::new();
     for _ in 0..random.below(4) {
         let key = random.between(WRITTEN.start, WRITTEN.end - 1);

@@ -42,6 +42,15 @@ fn start(
     o
 }
 
+// A search hands back no core.
+fn search(p: Core, l: Line, live: &[u64], history: &[u64], base: &[u64]) -> Reply {
+    Reply {
+        answer: store::search(p, live, history, base, l.b, l.c),
+        words: 0,
+        core: p,
+    }
+}
+
 // The call, with exactly the words that it is lent.
 fn call(
     p: Core,
@@ -58,6 +67,7 @@ fn call(
         verb::BEGIN => store::begin(p, live, history),
         verb::ENLIST => store::enlist(p, live, history, l.b, l.c, out),
         verb::READ => store::read(p, live, history, base, l.b, l.c),
+        verb::SEARCH => search(p, l, live, history, base),
         verb::WRITE => store::write(p, live, history, l.b, l.c, l.d),
         verb::COMMIT => store::commit(p, live, history, l.b, lists, out),
         verb::ABANDON => store::abandon(p, live, history, l.b, out),

@@ -84,20 +84,14 @@ pub fn search(h: &[u64], installs: u64, base: &[u64], p: Snapshot, k: Key) -> Se
         if wrote_key_in(h, at, k) {
             let value = wrote_value_in(h, at, k);
             let hit = looked + 1;
-            return Search {
-                value,
-                looked: hit,
-            };
+            return Search { value, looked: hit };
         }
         left -= 1;
         looked += 1;
     }
     let at = k as usize;
     let value = base[at];
-    Search {
-        value,
-        looked,
-    }
+    Search { value, looked }
 }
 
 // Whether a remembered install after the snapshot wrote `k`.

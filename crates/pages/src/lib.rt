@@ -47,6 +47,7 @@ fn outcome(page: &mut [u8], used: usize, a: Answer) -> usize
         Answer::Done => put(page, used, b" ok"),
         Answer::Begun { tx } => told(page, used, b" ok", tx),
         Answer::Found { value } => told(page, used, b" ok", value),
+        Answer::Searched { value, looked } => told_two(page, used, value, looked),
         Answer::Committed { number } => told(page, used, b" ok", number),
         Answer::Aborted { reason } => told(page, used, b" ok abort", reason),
         Answer::Installed {

@@ -43,7 +43,7 @@ unfolding scan.firstBelow scan.allBelow scan.anyBelow scan.foldBelow pair.preced
     keys.wroteValue keys.withRead keys.withWrite keys.commonKey keys.dependent keys.lesserKey keys.leastKey keys.keyFrom keys.sortedKey
     keys.sortedCount keys.sortedWords keys.keysAt keys.keysOk live.freePlace live.isPartOf live.placeOf live.isHeld live.otherHolds
     live.keyHeld live.isPrepared live.isQueued live.allHeard history.remembered history.forgotten history.isForgotten history.within
-    history.backwards history.newer history.versionOf history.isNewer history.recallPlace history.forgetInto queue.queuedBefore
+    history.walk history.searchIn history.isNewer history.recallPlace history.forgetInto queue.queuedBefore
     queue.comesFirst queue.betterPlace queue.leastQueued queue.isInstallable queue.stateBound queue.stateNumber valid.courseOk valid.subOk
     valid.slotOk valid.countersOk valid.liveOk valid.historyOk valid.siteOk valid.heldOk valid.gatheredOk valid.listsOk valid.handedOk
     effect.takenOf effect.turnAt effect.settle course.newSub course.raise course.headOf course.channelSpent
@@ -51,8 +51,9 @@ unfolding scan.firstBelow scan.allBelow scan.anyBelow scan.foldBelow pair.preced
     course.abortStep course.withDecision course.commitStep course.decideStep course.withQueueMark course.castStep course.withRequest
     course.prepareStep course.voteDecides course.voteStep course.withStage course.preparedStep course.certifiedStep send.isRecipient
     send.headTo send.wordsTo send.messagesTo send.stepRecipients send.countsLow begin.nextTx begin.beginCode begin.begun begin.beginOf
-    access.accessCode access.readCode access.readVersion access.readAt access.readOf access.writeCode access.writeCodeAt access.written
-    access.writeAt access.writeOf enlist.enlistCode enlist.joinerCode enlist.enlistAt enlist.enlistOf commit.requestCode commit.commitCode
+    access.keyCode access.accessCode access.readCode access.readVersion access.readAt access.readOf access.writeCode access.writeCodeAt
+    access.written access.writeAt access.writeOf access.searchOf enlist.enlistCode enlist.joinerCode enlist.enlistAt enlist.enlistOf
+    commit.requestCode commit.commitCode
     commit.requestChange commit.isFull commit.commitChange commit.commitLists commit.commitOf commit.abandonCode commit.abandonOf
     certify.preparedWords certify.installedWords certify.preparedList certify.installedList certify.candidates certify.concurrent
     certify.conflictsAt certify.conflictsWith certify.isRecorded certify.uncertainOf certify.voteOf join.lesserAbove join.leastAbove

@@ -10,8 +10,8 @@ use lib.ListN.{length, getD}
 use lib.Dec.{ltb, leb}
 use Rattle.laws.specs.Choice.{pick, picked-left, picked-right}
 use Rattle.rules.specs.World.{World, Member, here, there, Reached, Handed, Lawful, step}
-use Rattle.played.specs.Script.{Line, begin, enlist, read, write, commit, commitAt, abandon, take, install, report, merge, emit}
-use Rattle.played.specs.Script.{replay, value, sentAt, callOf, callsFrom}
+use Rattle.played.specs.Script.{Line, begin, enlist, read, write, search, commit, commitAt, abandon, take, install, report, merge}
+use Rattle.played.specs.Script.{emit, replay, value, sentAt, callOf, callsFrom}
 
 -- place i of a list of records, of which so many were taken, is there and may be handed in
 unfoldable pub reachable : List (List ℕ) → ℕ → ℕ → Bool
@@ -23,6 +23,7 @@ playable w (begin s) = true
 playable w (enlist tx site) = true
 playable w (read s tx key) = true
 playable w (write s tx key v) = true
+playable w (search s snapshot key) = true
 playable w (commit tx) = true
 playable w (commitAt s tx) = true
 playable w (abandon tx) = true
@@ -56,6 +57,7 @@ handed w (begin s) e = tt
 handed w (enlist tx site) e = tt
 handed w (read s tx key) e = tt
 handed w (write s tx key v) e = tt
+handed w (search s snapshot key) e = tt
 handed w (commit tx) e = tt
 handed w (commitAt s tx) e = tt
 handed w (abandon tx) e = tt

@@ -1,6 +1,6 @@
 -- Scripts as `house` has them (H1 to H20): a line is a call. Where it hands in words they are named: a message by its channel and its
--- number there, a record by its place in its site's log, a merged one by its place in the stream, all from 1. `commitAt` asks any site,
--- which no line of `house` does.
+-- number there, a record by its place in its site's log, a merged one by its place in the stream, all from 1. `commitAt` asks any site;
+-- no line of `house` does that, or is a search.
 use Prim.Native.Nat.{ℕ, _-_}
 use mathlib.Core.Bool.{Bool}
 use mathlib.Core.List.{List, [], _∷_, map}
@@ -21,6 +21,7 @@ pub data Line : Type 0 where
   enlist : (tx site : ℕ) → Line
   read : (s tx key : ℕ) → Line
   write : (s tx key : ℕ) (value : Value) → Line
+  search : (s snapshot key : ℕ) → Line
   commit : (tx : ℕ) → Line
   commitAt : (s tx : ℕ) → Line
   abandon : (tx : ℕ) → Line
@@ -50,6 +51,7 @@ callOf w (begin s) = world.begin s
 callOf w (enlist tx site) = world.enlist (coordinatorOf tx) (room sizes.outgoing) tx site
 callOf w (read s tx key) = world.read s tx key
 callOf w (write s tx key v) = world.write s tx key v
+callOf w (search s snapshot key) = world.search s snapshot key
 callOf w (commit tx) = world.commit (coordinatorOf tx) (room sizes.outgoing) tx
 callOf w (commitAt s tx) = world.commit s (room sizes.outgoing) tx
 callOf w (abandon tx) = world.abandon (coordinatorOf tx) (room sizes.outgoing) tx

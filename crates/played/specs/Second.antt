@@ -1,16 +1,16 @@
--- Two sites, and each of the thirteen calls. `spanning` writes at both sites and commits after a yes of both. `halfSeeing` saw that
+-- Two sites, and each of the fourteen calls. `spanning` writes at both sites and commits after a yes of both. `halfSeeing` saw that
 -- at site 1 and missed it at site 2: it is voted 18 and aborts. `later` saw it at both, and writes over it. `lone` stays at site 1.
 use Prim.Native.Nat.{ℕ}
 use mathlib.Core.List.{List, [], _∷_}
-use Rattle.kinds.specs.declared.Answer.the-variants.{Refused, Done, Begun, Found, Committed, Aborted, Installed, Reported, Emitted}
-use Rattle.kinds.specs.declared.Answer.the-variants.{Replayed, Standing}
+use Rattle.kinds.specs.declared.Answer.the-variants.{Refused, Done, Begun, Found, Searched, Committed, Aborted, Installed}
+use Rattle.kinds.specs.declared.Answer.the-variants.{Reported, Emitted, Replayed, Standing}
 use Rattle.kinds.specs.Kind as kind
 use Rattle.rules.specs.Message.{messageWords, entryCount}
 use Rattle.rules.specs.Course.{headOf}
 use Rattle.rules.specs.World.{Call}
 use Rattle.rules.specs.Book.{Fact, began, used, wrote, committed, installed, replayed}
-use Rattle.played.specs.Script.{Told, _⟶_, begin, enlist, read, write, commit, commitAt, abandon, take, install, report, merge}
-use Rattle.played.specs.Script.{emit, replay, value, callsOf}
+use Rattle.played.specs.Script.{Told, _⟶_, begin, enlist, read, write, search, commit, commitAt, abandon, take, install, report}
+use Rattle.played.specs.Script.{merge, emit, replay, value, callsOf}
 
 -- the first, second and third of site 1, the first and second of site 2
 abbrev pub spanning : ℕ
@@ -52,7 +52,10 @@ secondScript =
     -- `halfSeeing` begins at site 2 before `spanning` is installed there, and at site 1 after it is installed there. Its JOINED
     -- cannot overtake the COMMIT.
     ∷ begin 2 ⟶ Begun halfSeeing
+    ∷ search 1 1 5 ⟶ Searched 0 0
     ∷ install 1 ⟶ Installed 1 1
+    ∷ search 1 1 5 ⟶ Searched 700 1
+    ∷ search 1 0 5 ⟶ Searched 0 0
     ∷ enlist halfSeeing 1 ⟶ Done
     ∷ take 2 1 4 ⟶ Done
     ∷ take 1 2 5 ⟶ Refused 4
@@ -113,6 +116,15 @@ secondScript =
     ∷ take 2 1 11 ⟶ Done
     ∷ install 1 ⟶ Installed 3 2
     ∷ install 2 ⟶ Installed 3 2
+    -- Site 1 has three installs, of `spanning`, `lone` and `later`, which wrote nothing there; site 2 has two that wrote key 261.
+    ∷ search 1 3 5 ⟶ Searched 700 3
+    ∷ search 1 2 5 ⟶ Searched 700 2
+    ∷ search 1 9 6 ⟶ Searched 600 2
+    ∷ search 1 3 7 ⟶ Searched 0 3
+    ∷ search 2 1 261 ⟶ Searched 900 1
+    ∷ search 2 2 261 ⟶ Searched 901 1
+    ∷ search 2 2 5 ⟶ Refused 3
+    ∷ search 1 3 512 ⟶ Refused 2
     ∷ merge 1 3 ⟶ Done
     ∷ merge 2 3 ⟶ Done
     ∷ emit ⟶ Emitted 3 2 later

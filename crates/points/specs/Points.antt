@@ -15,7 +15,7 @@ use Rattle.kinds.specs.State.{noSub}
 use Rattle.rules.specs.House.{homeOf, maskOf, wholeHouse}
 use Rattle.rules.specs.Keys.{dependent}
 use Rattle.rules.specs.Begin.{beginOf}
-use Rattle.rules.specs.Access.{readOf, writeOf}
+use Rattle.rules.specs.Access.{readOf, writeOf, searchOf}
 use Rattle.rules.specs.Install.{freshSite, installOf, reportOf}
 use Rattle.rules.specs.Merger.{emitOf}
 use Rattle.said.specs.Said.{Said, ok, abort, no, saidOf}
@@ -58,6 +58,7 @@ points =
     ∷ point (said (reportOf (queueing (replicate sizes.live noSub)) sizes.part .answer)) (0 ∷ 9 ∷ [])
     ∷ point (said (reportOf (queueing (queueOf (queued 1 stage.queued 6) (queued 2 stage.decided 6))) sizes.part .answer)) (0 ∷ 5 ∷ [])
     ∷ point (said (readOf versions (replicate sizes.keys 0) 4294967301 5 .answer)) (0 ∷ 70 ∷ [])
+    ∷ point (said (searchOf versions (replicate sizes.keys 0) (record { installs = 3 }) 5)) (0 ∷ 70 ∷ 2 ∷ [])
     ∷ point (said (writeOf versions 4294967301 5 90 .answer)) (2 ∷ 10 ∷ [])
     ∷ point (said (emitOf (merging 4) sizes.merged (headWords ++ replicate (sizes.queues - length headWords) 0) .answer)) (2 ∷ 17 ∷ [])
     ∷ point (said (emitOf (merging 5) sizes.merged (headWords ++ replicate (sizes.queues - length headWords) 0) .answer))

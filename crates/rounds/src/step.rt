@@ -10,7 +10,8 @@
 //  7 read at 1                     15 merge, the part           23 replay
 //  8 commit at 1                   16 install at 2              24 value
 //
-// 25 is abandon at 1, behind 7 and in no save. 28 is a message at 2, of no save, to a state that the caller makes. 0, 26 and 27 make
+// 25 is abandon at 1, behind 7 and in no save. 28 is a message at 2, of no save, to a state that the caller makes. 29 and 30 are reads
+// at 1 as 7 is, and 31 a search there: 7 and 31 find no entry that has their key, 29 finds the newest, 30 the oldest. 0, 26 and 27 make
 // no call: they are passed what a site's call, the merger's and the copy's are, and pass it on, so that their time is that of the
 // others without the call.
 use kinds::Answer;
@@ -19,6 +20,7 @@ use kinds::Merger;
 use kinds::MergerOut;
 use kinds::Reply;
 use kinds::sizes::COPY;
+use kinds::sizes::HISTORY;
 use kinds::sizes::OUTGOING;
 use kinds::sizes::QUEUES;
 use kinds::sizes::SITE_KEYS;
@@ -33,7 +35,7 @@ const AT_COPY: u64 = 3;
 // The last step of a save, and the last of all.
 pub const LAST_STEP: u64 = 24;
 
-pub const LAST_TIMED: u64 = 28;
+pub const LAST_TIMED: u64 = 31;
 
 // The CERT that asks the most work.
 pub const WORST: u64 = 28;
@@ -63,7 +65,7 @@ pub struct Made {
 
 fn called_by(step: u64) -> u64 {
     match step {
-        0..=14 | 16 | 18 | 20 | 25 | 28 => AT_SITE,
+        0..=14 | 16 | 18 | 20 | 25 | 28..=31 => AT_SITE,
         15 | 17 | 19 | 21 | 22 | 26 => AT_MERGER,
         _ => AT_COPY,
     }
@@ -74,6 +76,20 @@ pub fn site_of(step: u64) -> usize {
     match step {
         3 | 6 | 9 | 11 | 13 | 16 | 20 | 28 => 1,
         _ => 0,
+    }
+}
+
+// The key that the save wrote which is so many before the next one.
+fn key_before(n: u64, back: u64) -> u64 {
+    (n % WRITTEN + WRITTEN - back % WRITTEN) % WRITTEN
+}
+
+// A search at the site, with all that is installed visible.
+fn searched(p: Core, live: &[u64], history: &[u64], base: &[u64]) -> Reply {
+    Reply {
+        answer: store::search(p, live, history, base, p.counters.installs, UNWRITTEN),
+        words: 0,
+        core: p,
     }
 }
 
@@ -106,6 +122,9 @@ fn at_site(
         14 | 16 => store::install(p, live, history, base, out),
         18 | 20 => store::report(p, live, history, out),
         25 => store::abandon(p, live, history, tx, out),
+        29 => store::read(p, live, history, base, tx, key_before(n, 1)),
+        30 => store::read(p, live, history, base, tx, key_before(n, HISTORY as u64)),
+        31 => searched(p, live, history, base),
         _ => store::message(p, live, history, m, lists, out),
     }
 }

@@ -125,7 +125,7 @@ pub record Holds (o : House) (b : List Fact) (w : World) : Type 0 where
   pub writers : WritersInOrder o b
   pub half-seen : NoneHalfSeen b
 
--- the claim: any list of the thirteen calls, from a fresh house of 1 to 8 sites
+-- the claim: any list of the fourteen calls, from a fresh house of 1 to 8 sites
 unfoldable pub Demand3 : Type 0
 Demand3 =
     (sites : ℕ) (calls : List Call) → 1 ≤ sites → sites ≤ sizes.sites → Lawful (freshWorld sites) calls

@@ -64,7 +64,7 @@ NextGoes o w =
     h .channel ≡ getD (s .channels .taken) (h .from - 1) 0 + 1
     → (n : ℕ) → step w (world.message (h .to) out m) .answer ≡ Refused n → (n ≡ reason.spent) × CountEnds o s)
 
--- the claim: any list of the thirteen calls, from a fresh house of 1 to 8 sites
+-- the claim: any list of the fourteen calls, from a fresh house of 1 to 8 sites
 unfoldable pub Possible : Type 0
 Possible =
     (sites : ℕ) (calls : List Call) → 1 ≤ sites → sites ≤ sizes.sites → Lawful (freshWorld sites) calls

@@ -28,7 +28,7 @@ NoneOutOfTurn w =
 abbrev pub NoneUnknown : World → Type 0
 NoneUnknown w = (m : List ℕ) → Member m (w .sent) → messageHead m .kind ≡ kind.vote → messageHead m .argument ≡ reason.unknown → ⊥
 
--- the claim: any list of the thirteen calls, from a fresh house of 1 to 8 sites
+-- the claim: any list of the fourteen calls, from a fresh house of 1 to 8 sites
 unfoldable pub MessagesProgress : Type 0
 MessagesProgress =
     (sites : ℕ) (calls : List Call) → 1 ≤ sites → sites ≤ sizes.sites → Lawful (freshWorld sites) calls

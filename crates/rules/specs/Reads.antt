@@ -37,7 +37,7 @@ pub data ReadLeft (b : List Fact) (s tx key : ℕ) (v : Value) : Type 0 where
   own : LastWrite b tx key v → ReadLeft b s tx key v
   seen : (none : Wrote b tx key → ⊥) → SeenLeft b s tx key v → ReadLeft b s tx key v
 
--- the claim: a read after any list of the thirteen calls, from a fresh house of 1 to 8 sites. Each read of a list comes after those
+-- the claim: a read after any list of the fourteen calls, from a fresh house of 1 to 8 sites. Each read of a list comes after those
 -- before it.
 unfoldable pub ReadsRight : Type 0
 ReadsRight =

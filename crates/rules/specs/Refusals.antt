@@ -197,7 +197,7 @@ pub record ByFirst (a : Answer) (l : List Cause) : Type 0 where
   pub refused : (firstIn order l ≡ 0 → ⊥) → a ≡ Refused (firstIn order l)
   pub taken : firstIn order l ≡ 0 → isRefused a ≡ false
 
--- the claim: in any state, of the thirteen calls and the three starts
+-- the claim: in any state, of the fourteen calls and the three starts
 pub record FirstCause : Type 0 where
   pub call : (w : World) (c : Call) → ByFirst (step w c .answer) (causesOf w c)
   pub start : (sites own base lists : ℕ) → ByFirst (startOf sites own base lists .answer) (startCauses sites own base lists)
@@ -221,7 +221,7 @@ numbersOf (world.emit out) = 1 ∷ 2 ∷ 16 ∷ 17 ∷ []
 numbersOf (world.replay c m) = 2 ∷ 14 ∷ []
 numbersOf (world.value c key) = 2 ∷ []
 
--- the claim, of the thirteen calls and the three starts: a number that the list lacks is never answered
+-- the claim, of the fourteen calls and the three starts: a number that the list lacks is never answered
 pub record OwnNumbers : Type 0 where
   pub call : (w : World) (c : Call) (n : ℕ) → lacks n (numbersOf c) ≡ true → step w c .answer ≡ Refused n → ⊥
   pub start : (sites own base lists n : ℕ) → startOf sites own base lists .answer ≡ Refused n → n ≡ 2

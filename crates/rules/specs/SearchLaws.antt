@@ -27,7 +27,8 @@ module _ (entry : ℕ → Entry) (k : ℕ) (v : Value) where
   unfolding walk
   walk-end looked = refl
 
-  pub walk-hit : (left looked : ℕ) → has left ≡ true → walk entry k v (suc left) looked ≡ answer (wroteValue (entry left .keys) k) (looked + 1)
+  pub walk-hit : (left looked : ℕ) → has left ≡ true
+      → walk entry k v (suc left) looked ≡ answer (wroteValue (entry left .keys) k) (looked + 1)
   unfolding walk
   walk-hit left looked t = rw t
 

@@ -1,4 +1,5 @@
--- Q5.1 to Q5.3, in any state: what the search answers for each key and snapshot, and that a read runs it.
+-- Q5.1 to Q5.3, in any state: what the search answers for each key and snapshot, and that a read runs it. `versionOf` is C9, the newest
+-- version within the snapshot, else the base value; the search is another definition.
 use Prim.Native.Nat.{ℕ, _+_, _-_, _≤_, _<_}
 use mathlib.Core.Path.{_≡_}
 use mathlib.Core.List.{List}
@@ -27,7 +28,7 @@ module _ (history : List Entry) (installs : ℕ) (base : List Value) (p : Snapsh
   hasKey j = wroteKey (backwards history installs visible j .keys) k
 
   pub record Exact : Type 0 where
-    -- the value is the one that the old definition gives
+    -- the value is the version that the snapshot sees (C9)
     pub same : searchIn history installs base p k .value ≡ versionOf history installs base p k
     -- the first that has the key counts, and where none has it all visible ones do
     pub hit : (j : ℕ) → j < visible → NoneBelow hasKey j → hasKey j ≡ true → looked ≡ j + 1

@@ -17,7 +17,7 @@ pub fn reads_right()
     ensures { λ _. ⌜ ReadsRight ⌝ }
 {}
 
-// In any state a search answers the version that the old definition gives, and exactly how many entries it looked at; a read runs it.
+// In any state a search answers the version that its snapshot sees, and exactly how many entries it looked at; a read runs it.
 pub fn searches_right()
     ensures { λ _. ⌜ SearchesRight ⌝ }
 {}

@@ -10,18 +10,20 @@ use Rattle.kinds.specs.Kind as kind
 use Rattle.kinds.specs.Reason as reason
 use Rattle.kinds.specs.State.{Value, subAt}
 use Rattle.kinds.specs.declared.Site.{Site}
+use Rattle.kinds.specs.declared.Snapshot.{Snapshot}
 use Rattle.kinds.specs.declared.Merger.{Merger}
 use Rattle.rules.specs.Record.{recordHead}
 use Rattle.rules.specs.House.{isSite, inMask}
 use Rattle.rules.specs.Send.{countsLow}
 use Rattle.rules.specs.Keys.{wroteKey, readKey}
 use Rattle.rules.specs.History.{isForgotten}
+use Rattle.rules.specs.SearchLaws.{search-same}
 use Rattle.rules.specs.Queue.{leastQueued, isInstallable}
 use Rattle.rules.specs.Valid.{siteOk}
 use Rattle.rules.specs.Live.{placeOf, freePlace, stageAt}
 use Rattle.rules.specs.Course.{channelSpent, sendTo, sendAll, quietly, enlistStep, abortStep}
 use Rattle.rules.specs.Begin.{beginCode, nextTx, begun, beginOf}
-use Rattle.rules.specs.Access.{accessCode, readCode, writeCodeAt, readVersion, readAt, readOf, written, writeAt, writeOf}
+use Rattle.rules.specs.Access.{keyCode, accessCode, readCode, writeCodeAt, readVersion, readAt, readOf, written, writeAt, writeOf, searchOf}
 use Rattle.rules.specs.Enlist.{isMine, enlistCode, joinerCode, enlistAt, enlistOf}
 use Rattle.rules.specs.Commit.{requestCode, abandonCode, abandonOf}
 use Rattle.rules.specs.Install.{installCode, reportCode, installedAt, installOf, reportOf, startCode, startOf}
@@ -29,10 +31,10 @@ use Rattle.rules.specs.Merger.{sourceAt, headsOf, leastSite, mergeCode, mergePa
 use Rattle.rules.specs.Merger.{mergerStartOf, mergePart, mergeState, mergeOf, emitDue, emitOf}
 use Rattle.rules.specs.Copy.{copyStartOf, replayCode, replayOf, valueCode, valueOf}
 use Rattle.rules.proofs.refusals.FirstCause.{begin-by, read-by, write-by, enlist-by, commit-by, abandon-by, install-by, report-by}
-use Rattle.rules.proofs.refusals.FirstCause.{message-by}
+use Rattle.rules.proofs.refusals.FirstCause.{message-by, search-by}
 use Rattle.rules.proofs.refusals.FirstCause.{merge-by, emit-by, replay-by, value-by, start-by, merger-start-by, copy-start-by}
 use Rattle.said.specs.Said.{ok, abort, saidOf}
-use Rattle.said.specs.Outcomes.{readSaid, installSaid, reportSaid, emitSaid, replaySaid, valueSaid, Says}
+use Rattle.said.specs.Outcomes.{readSaid, searchSaid, installSaid, reportSaid, emitSaid, replaySaid, valueSaid, Says}
 use Rattle.said.proofs.Taken.{Taken, says, Takes, past, MergerTakes, past-merger}
 use Rattle.said.proofs.Decisions.{commit-taken, message-taken}
 
@@ -68,7 +70,15 @@ read-taken s base tx k =
     let late = readCode (isForgotten (s .counters .installs) (b .snapshot)) (readKey (b .keys) k) (b .keys .read) in
     by-test (wroteKey (b .keys) k)
     (λ w. rw w (past (accessNo s (length base) tx k) s [] _ _ (record { said = λ r. refl })))
-    (λ w. rw w (past (accessNo s (length base) tx k) s [] _ _ (past late s [] _ _ (record { said = λ r. refl }))))
+    (λ w. rw (w, ← search-same (s .history) (s .counters .installs) base (b .snapshot) k)
+    (past (accessNo s (length base) tx k) s [] _ _ (past late s [] _ _ (record { said = λ r. refl }))))
+
+search-taken : (s : Site) (base : List Value) (p : Snapshot) (k : ℕ) → Taken (searchOf s base p k) (searchSaid s base p k)
+unfolding saidOf searchOf searchSaid
+search-taken s base p k =
+    by-test (eqb (keyCode (siteOk s) (length base) (s .house) (s .counters .own) k) 0)
+    (λ e. rw e (λ f. refl))
+    (λ e. rw e (λ f. absurd (set-not _ refl f)))
 
 write-taken : (s : Site) (tx k : ℕ) (v : Value) → Takes (writeOf s tx k v) (ok [])
 unfolding saidOf writeOf writeAt written quietly
@@ -140,6 +150,7 @@ calls-say =
       begins = λ s. says _ _ _ (begin-by s) (begin-taken s .said);
       enlists = λ s r t n. says _ _ _ (enlist-by s r t n) (enlist-taken s r t n .said);
       reads = λ s b t k. says _ _ _ (read-by s b t k) (read-taken s b t k .said);
+      searches = λ s b p k. says _ _ _ (search-by s b p k) (search-taken s b p k);
       writes = λ s t k v. says _ _ _ (write-by s t k v) (write-taken s t k v .said);
       commits = λ s r l t. says _ _ _ (commit-by s r l t) (commit-taken s r l t .said);
       abandons = λ s r t. says _ _ _ (abandon-by s r t) (abandon-taken s r t .said);

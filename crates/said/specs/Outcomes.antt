@@ -1,5 +1,6 @@
--- A5, F20 and H5 to H20: what each of the sixteen calls says, in any state and for any arguments. After `ok`: begin, transaction; commit,
--- number; install and replay, number and coordinator; emit also transaction; value, value and pair; read, value; report, state.
+-- A5, F20, H5 to H20 and Q5.4: what each of the seventeen calls says, in any state and for any arguments. After `ok`: begin, transaction;
+-- commit, number; install and replay, number and coordinator; emit also transaction; value, value and pair; read, value; search, value and
+-- how many entries it looked at; report, state.
 use Prim.Native.Nat.{ℕ}
 use mathlib.Core.Path.{_≡_}
 use mathlib.Core.List.{List, [], _∷_}
@@ -9,16 +10,17 @@ use Rattle.kinds.specs.Sizes as sizes
 use Rattle.kinds.specs.Reason as reason
 use Rattle.kinds.specs.State.{Value, subAt}
 use Rattle.kinds.specs.declared.Site.{Site}
+use Rattle.kinds.specs.declared.Snapshot.{Snapshot}
 use Rattle.kinds.specs.declared.Merger.{Merger}
 use Rattle.rules.specs.House.{coordinatorOf}
 use Rattle.rules.specs.Record.{recordHead}
 use Rattle.rules.specs.Keys.{wroteKey, wroteValue}
 use Rattle.rules.specs.Live.{placeOf}
-use Rattle.rules.specs.History.{versionOf}
+use Rattle.rules.specs.History.{versionOf, searchIn}
 use Rattle.rules.specs.Queue.{leastQueued, stateNumber}
 use Rattle.rules.specs.Valid.{siteOk}
 use Rattle.rules.specs.Begin.{nextTx, beginOf}
-use Rattle.rules.specs.Access.{readOf, writeOf}
+use Rattle.rules.specs.Access.{readOf, writeOf, searchOf}
 use Rattle.rules.specs.Enlist.{enlistOf}
 use Rattle.rules.specs.Commit.{commitOf, abandonOf}
 use Rattle.rules.specs.Deliver.{messageOf}
@@ -26,7 +28,8 @@ use Rattle.rules.specs.Install.{installOf, reportCauses, reportOf, startCauses,
 use Rattle.rules.specs.Merger.{mergerStartCauses, mergerStartOf, mergeOf, dueHead, emitOf}
 use Rattle.rules.specs.Copy.{copyNumber, copyCoordinator, copyValue, copyStartCauses, copyStartOf, replayCauses, replayOf, valueCauses}
 use Rattle.rules.specs.Copy.{valueOf}
-use Rattle.rules.specs.Refusals.{beginHas, readHas, writeHas, enlistHas, commitHas, abandonHas, messageHas, installHas, mergeHas, emitHas}
+use Rattle.rules.specs.Refusals.{beginHas, readHas, writeHas, searchHas, enlistHas, commitHas, abandonHas, messageHas, installHas}
+use Rattle.rules.specs.Refusals.{mergeHas, emitHas}
 use Rattle.said.specs.Said.{Said, ok, abort, saidOf, unlessFirst}
 use Rattle.said.specs.Decided.{commitSaid, messageSaid}
 
@@ -35,6 +38,9 @@ unfoldable pub readSaid : Site → List Value → ℕ → ℕ → Said
 readSaid s base tx k =
     let b = subAt s (placeOf (s .live) tx) in
     ok (pick (wroteKey (b .keys) k) (wroteValue (b .keys) k) (versionOf (s .history) (s .counters .installs) base (b .snapshot) k) ∷ [])
+
+unfoldable pub searchSaid : Site → List Value → Snapshot → ℕ → Said
+searchSaid s base p k = let found = searchIn (s .history) (s .counters .installs) base p k in ok (found .value ∷ found .looked ∷ [])
 
 -- install: the pair of the queue's least
 unfoldable pub installSaid : Site → Said
@@ -61,6 +67,8 @@ pub record Says : Type 0 where
   pub reads : (s : Site) (base : List Value) (tx k : ℕ)
       → saidOf (readOf s base tx k .answer) ≡ unlessFirst (readHas s base tx k) (readSaid s base tx k)
   pub writes : (s : Site) (tx k : ℕ) (v : Value) → saidOf (writeOf s tx k v .answer) ≡ unlessFirst (writeHas s tx k) (ok [])
+  pub searches : (s : Site) (base : List Value) (p : Snapshot) (k : ℕ)
+      → saidOf (searchOf s base p k) ≡ unlessFirst (searchHas s base k) (searchSaid s base p k)
   pub commits : (s : Site) (room : ℕ) (lists : List ℕ) (tx : ℕ)
       → saidOf (commitOf s room lists tx .answer) ≡ unlessFirst (commitHas s room lists tx) (commitSaid s tx)
   pub abandons : (s : Site) (room tx : ℕ)

@@ -6,8 +6,8 @@ use Rattle.laws.specs.Choice.{pick}
 use Rattle.laws.specs.Cause.{Cause, firstIn}
 use Rattle.rules.specs.Refusals.{order}
 use Rattle.kinds.specs.declared.Answer.{Answer}
-use Rattle.kinds.specs.declared.Answer.the-variants.{Refused, Done, Begun, Found, Committed, Aborted, Installed, Reported, Emitted}
-use Rattle.kinds.specs.declared.Answer.the-variants.{Replayed, Standing}
+use Rattle.kinds.specs.declared.Answer.the-variants.{Refused, Done, Begun, Found, Searched, Committed, Aborted, Installed}
+use Rattle.kinds.specs.declared.Answer.the-variants.{Reported, Emitted, Replayed, Standing}
 
 pub data Said : Type 0 where
   ok : List ℕ → Said
@@ -19,6 +19,7 @@ saidOf (Refused n) = no n
 saidOf Done = ok []
 saidOf (Begun tx) = ok (tx ∷ [])
 saidOf (Found v) = ok (v ∷ [])
+saidOf (Searched v n) = ok (v ∷ n ∷ [])
 saidOf (Committed n) = ok (n ∷ [])
 saidOf (Aborted r) = abort r
 saidOf (Installed n c) = ok (n ∷ c ∷ [])

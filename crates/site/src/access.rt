@@ -183,7 +183,14 @@ pub fn read(p: Core, live: &mut [u64], history: &[u64], base: &[u64], tx: u64, k
 }
 
 // The version of a key of this site that any snapshot sees, and how many entries of the history the search looked at.
-pub fn search(p: Core, live: &[u64], history: &[u64], base: &[u64], snapshot: u64, key: u64) -> Answer
+pub fn search(
+    p: Core,
+    live: &[u64],
+    history: &[u64],
+    base: &[u64],
+    snapshot: u64,
+    key: u64,
+) -> Answer
     ensures { λ r. ⌜ r ≡ searchOf (siteOf p (now (live .entry)) (now (history .entry))) (now (base .entry))
         (record { installs = snapshot }) key ⌝ }
 {

@@ -1,4 +1,4 @@
-// The sixteen calls of the store. A caller uses this crate, and `kinds` for the types and sizes.
+// The seventeen calls of the store. A caller uses this crate, and `kinds` for the types and sizes.
 pub use copy::replay;
 pub use copy::start as start_copy;
 pub use copy::value;
@@ -11,6 +11,7 @@ pub use merger::start as start_merger;
 pub use saves::abandon::abandon;
 pub use saves::commit::commit;
 pub use site::access::read;
+pub use site::access::search;
 pub use site::access::write;
 pub use site::begin::begin;
 pub use site::enlist::enlist;

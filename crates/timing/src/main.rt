@@ -161,7 +161,7 @@ fn saves_asked() -> Number {
 
 fn run(step: u64, count: u64, saves: u64) {
     if LAST_TIMED < step {
-        complain(b"the first argument has to be the number of a step, 0 to 28");
+        complain(b"the first argument has to be the number of a step, 0 to 31");
         return;
     }
     if MOST_SAVES < saves {
@@ -177,7 +177,7 @@ fn main() {
     let count = argument(2);
     let saves = saves_asked();
     if !step.ok {
-        complain(b"the first argument has to be the number of a step, 0 to 28");
+        complain(b"the first argument has to be the number of a step, 0 to 31");
         return;
     }
     if !count.ok {

@@ -88,6 +88,7 @@ fn three(v: u64) -> u64 {
     match v {
         verb::ENLIST => SITE,
         verb::READ => SITE,
+        verb::SEARCH => SITE,
         verb::START => SITE,
         verb::SITE => SITE,
         verb::SOURCE => MERGER,

@@ -22,6 +22,8 @@ pub const ENLIST: u64 = 111524939658100;
 
 pub const READ: u64 = 1919246692;
 
+pub const SEARCH: u64 = 126879263777640;
+
 pub const WRITE: u64 = 513020621925;
 
 pub const COMMIT: u64 = 109330228406644;

@@ -12,16 +12,16 @@ pub struct Found {
 }
 
 impl Site {
-    /// Any snapshot has an answer, also one beyond the installs, and one after which
-    /// an install is forgotten.
+    /// Q5.4: any snapshot has an answer, also one beyond the installs, and one after
+    /// which an install is forgotten.
     pub fn search(&self, snapshot: u64, key: u64) -> Result<Found, Refusal> {
         self.require_own_key(key)?;
         Ok(self.version(snapshot, key))
     }
 
-    /// The newest version of a key within a snapshot, else the base value. The walk
-    /// goes from the newest visible entry backwards and ends at the first that has
-    /// the key.
+    /// Q5.3: the newest version of a key within a snapshot, else the base value. The
+    /// walk goes from the newest visible entry backwards and ends at the first that
+    /// has the key.
     pub(super) fn version(&self, snapshot: u64, key: u64) -> Found {
         let mut looked_at = 0;
         for entry in self.history.iter().rev().skip_while(|entry| entry.install > snapshot) {

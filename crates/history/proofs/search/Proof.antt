@@ -106,7 +106,8 @@ returns c =
     let l = slot .before .before .loop in
     let a = start (entered (slot .before)) .args in
     let wrote = rw (seen slot) at (sym (found .wrote-key-in .ensures) ∙ c .before .if1 .taken) in
-    let hit = walk-hit (recall (historyOf (a .h .now)) (a .installs)) (a .k) (getD (a .base .now) (a .k) fresh) (l .left - 1) (l .looked) wrote in
+    let entry = recall (historyOf (a .h .now)) (a .installs) in
+    let hit = walk-hit entry (a .k) (getD (a .base .now) (a .k) fresh) (l .left - 1) (l .looked) wrote in
     rw (rw (seen slot) at (c .wrote-value-in .ensures)) (sym (here (slot .before) ∙ hit))
 
 sub-left : tie.Need-sub-left Inv-loop μ-loop
@@ -127,7 +128,8 @@ loop-again c =
     let a = start (entered (slot .before)) .args in
     let q : l .left ≡ suc (l .left - 1) = omega (arith, slot .before .loop-test .taken) in
     let lacks = rw (seen slot) at (sym (c .before .wrote-key-in .ensures) ∙ c .if1 .left) in
-    let on = walk-on (recall (historyOf (a .h .now)) (a .installs)) (a .k) (getD (a .base .now) (a .k) fresh) (l .left - 1) (l .looked) lacks in
+    let entry = recall (historyOf (a .h .now)) (a .installs) in
+    let on = walk-on entry (a .k) (getD (a .base .now) (a .k) fresh) (l .left - 1) (l .looked) lacks in
     (omega (arith, l .inv .0), rw q at (l .inv .1) ∙ on)
 
 mul-value : tie.Need-mul-value Inv-loop μ-loop
@@ -143,7 +145,8 @@ returns-2 c =
     let begun = c .before .before .before in
     let a = start begun .args in
     let q : l .left ≡ 0 = omega (arith, c .before .loop-test .left) in
-    let end = walk-end (recall (historyOf (a .h .now)) (a .installs)) (a .k) (getD (a .base .now) (a .k) fresh) (l .looked) in
+    let entry = recall (historyOf (a .h .now)) (a .installs) in
+    let end = walk-end entry (a .k) (getD (a .base .now) (a .k) fresh) (l .looked) in
     rw (← begun .within .ensures) (sym (rw q at (l .inv .1) ∙ end))
 
 pub search-spec : {M : Type 1} → statement M

@@ -8,20 +8,21 @@ use denote.Enum.Declared.{tagOf}
 use types.Run.{OneOf, miss}
 use Rattle.kinds.proofs.Answer.{the-type}
 use Rattle.kinds.specs.declared.Answer.{Answer}
-use Rattle.kinds.specs.declared.Answer.the-variants.{Refused, Done, Begun, Found, Committed, Aborted, Installed, Reported, Emitted}
-use Rattle.kinds.specs.declared.Answer.the-variants.{Replayed, Standing}
+use Rattle.kinds.specs.declared.Answer.the-variants.{Refused, Done, Begun, Found, Searched, Committed, Aborted, Installed}
+use Rattle.kinds.specs.declared.Answer.the-variants.{Reported, Emitted, Replayed, Standing}
 use Rattle.rules.specs.Answers.{isRefused}
 use Rattle.pages.proofs.is_refused.Statement.{statement}
 use Rattle.pages.proofs.is_refused.Tie as tie
 
 abbrev others : List ℕ
-others = 1 ∷ 2 ∷ 3 ∷ 4 ∷ 5 ∷ 6 ∷ 7 ∷ 8 ∷ 9 ∷ 10 ∷ []
+others = 1 ∷ 2 ∷ 3 ∷ 4 ∷ 5 ∷ 6 ∷ 7 ∷ 8 ∷ 9 ∷ 10 ∷ 11 ∷ []
 
 accepted : (a : Answer) → OneOf others (tagOf the-type a) → false ≡ isRefused a
 accepted (Refused n) h = absurd (miss others 0 tt h)
 accepted Done h = refl
 accepted (Begun tx) h = refl
 accepted (Found v) h = refl
+accepted (Searched v n) h = refl
 accepted (Committed n) h = refl
 accepted (Aborted r) h = refl
 accepted (Installed n c) h = refl

@@ -44,14 +44,20 @@ told-requires-3 c κs = search needs
 enum-known-a-4 : tie.Need-enum-known-a-4
 enum-known-a-4 c = search needs
 
+told-two-requires : tie.Need-told-two-requires
+told-two-requires c κs = search needs
+
+enum-known-a-5 : tie.Need-enum-known-a-5
+enum-known-a-5 c = search needs
+
 slice-aggregate-told-4 : tie.Need-slice-aggregate-told-4
 slice-aggregate-told-4 c = search needs
 
 told-requires-4 : tie.Need-told-requires-4
 told-requires-4 c κs = search needs
 
-enum-known-a-5 : tie.Need-enum-known-a-5
-enum-known-a-5 c = search needs
+enum-known-a-6 : tie.Need-enum-known-a-6
+enum-known-a-6 c = search needs
 
 slice-aggregate-told-5 : tie.Need-slice-aggregate-told-5
 slice-aggregate-told-5 c = search needs
@@ -59,14 +65,14 @@ slice-aggregate-told-5 c = search needs
 told-requires-5 : tie.Need-told-requires-5
 told-requires-5 c κs = search needs
 
-enum-known-a-6 : tie.Need-enum-known-a-6
-enum-known-a-6 c = search needs
-
-told-two-requires : tie.Need-told-two-requires
-told-two-requires c κs = search needs
-
 enum-known-a-7 : tie.Need-enum-known-a-7
 enum-known-a-7 c = search needs
+
+told-two-requires-2 : tie.Need-told-two-requires-2
+told-two-requires-2 c κs = search needs
+
+enum-known-a-8 : tie.Need-enum-known-a-8
+enum-known-a-8 c = search needs
 
 slice-aggregate-told-6 : tie.Need-slice-aggregate-told-6
 slice-aggregate-told-6 c = search needs
@@ -74,20 +80,20 @@ slice-aggregate-told-6 c = search needs
 told-requires-6 : tie.Need-told-requires-6
 told-requires-6 c κs = search needs
 
-enum-known-a-8 : tie.Need-enum-known-a-8
-enum-known-a-8 c = search needs
+enum-known-a-9 : tie.Need-enum-known-a-9
+enum-known-a-9 c = search needs
 
 told-three-requires : tie.Need-told-three-requires
 told-three-requires c κs = search needs
 
-enum-known-a-9 : tie.Need-enum-known-a-9
-enum-known-a-9 c = search needs
-
-told-two-requires-2 : tie.Need-told-two-requires-2
-told-two-requires-2 c κs = search needs
-
 enum-known-a-10 : tie.Need-enum-known-a-10
 enum-known-a-10 c = search needs
+
+told-two-requires-3 : tie.Need-told-two-requires-3
+told-two-requires-3 c κs = search needs
+
+enum-known-a-11 : tie.Need-enum-known-a-11
+enum-known-a-11 c = search needs
 
 told-three-requires-2 : tie.Need-told-three-requires-2
 told-three-requires-2 c κs = search needs
@@ -125,7 +131,7 @@ same-length-5 c = search needs
 
 returns-5 : tie.Need-returns-5
 unfolding saidOf outcomeOf
-returns-5 c = let arm = c .before .before .before in rw (arm .before .before .before .a4 .given .1) (search needs)
+returns-5 c = let arm = c .before .before .before in rw (arm .before .before .a4 .given .1) (search needs)
 
 same-length-6 : tie.Need-same-length-6
 same-length-6 c = search needs
@@ -139,21 +145,21 @@ same-length-7 c = search needs
 
 returns-7 : tie.Need-returns-7
 unfolding saidOf outcomeOf
-returns-7 c = let arm = c .before .before .before in rw (arm .before .before .a6 .given .1) (search needs)
+returns-7 c = let arm = c .before .before .before in rw (arm .before .before .before .a6 .given .1) (search needs)
 
 same-length-8 : tie.Need-same-length-8
 same-length-8 c = search needs
 
 returns-8 : tie.Need-returns-8
 unfolding saidOf outcomeOf
-returns-8 c = let arm = c .before .before .before in rw (arm .before .before .before .a7 .given .1) (search needs)
+returns-8 c = let arm = c .before .before .before in rw (arm .before .before .a7 .given .1) (search needs)
 
 same-length-9 : tie.Need-same-length-9
 same-length-9 c = search needs
 
 returns-9 : tie.Need-returns-9
 unfolding saidOf outcomeOf
-returns-9 c = let arm = c .before .before .before in rw (arm .before .before .a8 .given .1) (search needs)
+returns-9 c = let arm = c .before .before .before in rw (arm .before .before .before .a8 .given .1) (search needs)
 
 same-length-10 : tie.Need-same-length-10
 same-length-10 c = search needs
@@ -168,6 +174,13 @@ same-length-11 c = search needs
 returns-11 : tie.Need-returns-11
 unfolding saidOf outcomeOf
 returns-11 c = let arm = c .before .before .before in rw (arm .before .before .a10 .given .1) (search needs)
+
+same-length-12 : tie.Need-same-length-12
+same-length-12 c = search needs
+
+returns-12 : tie.Need-returns-12
+unfolding saidOf outcomeOf
+returns-12 c = let arm = c .before .before .before in rw (arm .before .before .a11 .given .1) (search needs)
 
 pub outcome-spec : {M : Type 1} → statement M
 outcome-spec =
@@ -186,21 +199,23 @@ outcome-spec =
     slice-aggregate-told-3
     told-requires-3
     enum-known-a-4
+    told-two-requires
+    enum-known-a-5
     slice-aggregate-told-4
     told-requires-4
-    enum-known-a-5
+    enum-known-a-6
     slice-aggregate-told-5
     told-requires-5
-    enum-known-a-6
-    told-two-requires
     enum-known-a-7
+    told-two-requires-2
+    enum-known-a-8
     slice-aggregate-told-6
     told-requires-6
-    enum-known-a-8
-    told-three-requires
     enum-known-a-9
-    told-two-requires-2
+    told-three-requires
     enum-known-a-10
+    told-two-requires-3
+    enum-known-a-11
     told-three-requires-2
     same-length
     returns
@@ -223,4 +238,6 @@ outcome-spec =
     same-length-10
     returns-10
     same-length-11
-    returns-11)
+    returns-11
+    same-length-12
+    returns-12)

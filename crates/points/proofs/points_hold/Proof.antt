@@ -14,7 +14,7 @@ use Rattle.rules.specs.Record.{keyAscends, partWriteOk, mergedWriteOk, recordSh
 use Rattle.rules.specs.Keys.{keyPlace, wroteKey, readKey, wroteValue, withRead, withWrite, commonKey, dependent, lesserKey, leastKey}
 use Rattle.rules.specs.Keys.{keyFrom, sortedKey, sortedCount, sortedWords, keysAt, keysOk}
 use Rattle.rules.specs.Live.{freePlace, isPartOf, placeOf, isHeld, otherHolds, keyHeld, isPrepared, isQueued, allHeard}
-use Rattle.rules.specs.History.{remembered, forgotten, isForgotten, within, backwards, newer, versionOf, isNewer, recallPlace, forgetInto}
+use Rattle.rules.specs.History.{remembered, forgotten, isForgotten, within, walk, searchIn, isNewer, recallPlace, forgetInto}
 use Rattle.rules.specs.Queue.{queuedBefore, comesFirst, betterPlace, leastQueued, isInstallable, stateBound, stateNumber}
 use Rattle.rules.specs.Valid.{courseOk, subOk, countersOk, liveOk, historyOk, siteOk, heldOk}
 use Rattle.rules.specs.Valid as valids
@@ -24,7 +24,8 @@ use Rattle.rules.specs.Course.{withReply, abortStep, withDecision, commitStep, 
 use Rattle.rules.specs.Course.{prepareStep}
 use Rattle.rules.specs.Course.{voteDecides, voteStep, withStage, preparedStep, certifiedStep}
 use Rattle.rules.specs.Begin.{nextTx, beginCode, begun, beginOf}
-use Rattle.rules.specs.Access.{accessCode, readCode, readVersion, readAt, readOf, writeCode, writeCodeAt, written, writeAt, writeOf}
+use Rattle.rules.specs.Access.{keyCode, accessCode, readCode, readVersion, readAt, readOf, writeCode, writeCodeAt, written, writeAt}
+use Rattle.rules.specs.Access.{writeOf, searchOf}
 use Rattle.rules.specs.Install.{installCode, entryOf, partHead, partWords, baseAfter, installedAt, installOf, reportCode, stateWords}
 use Rattle.rules.specs.Install.{reportOf, freshSite, startCode, startOf, startTable}
 use Rattle.rules.specs.Merger.{mergerOutOf, placeWords, queuedPart, queuedOk, sourceOk, mergerOk, mergePartCode, mergePart, mergeStateCode}
@@ -48,13 +49,14 @@ unfolding firstBelow allBelow anyBelow foldBelow precedes onesBelow overlay putA
     writeOffset recordWords recordHead recordWrites pairOk partHeadOk stateHeadOk mergedHeadOk keyAscends partWriteOk mergedWriteOk
     recordShape partOk stateOk mergedOk keyPlace wroteKey readKey wroteValue withRead withWrite commonKey dependent lesserKey leastKey
     keyFrom sortedKey sortedCount sortedWords keysAt keysOk freePlace isPartOf placeOf isHeld otherHolds keyHeld isPrepared isQueued
-    allHeard remembered forgotten isForgotten within backwards newer versionOf isNewer recallPlace forgetInto queuedBefore comesFirst
+    allHeard remembered forgotten isForgotten within walk searchIn isNewer recallPlace forgetInto queuedBefore comesFirst
     betterPlace leastQueued isInstallable stateBound stateNumber courseOk subOk countersOk liveOk heldOk historyOk siteOk valids.slotOk
     takenOf
     turnAt settle saidOf newSub raise headOf channelSpent sendTo sendAll quietly withParticipant enlistStep isOutstanding
     withReply abortStep withDecision commitStep decideStep withQueueMark castStep withRequest prepareStep voteDecides voteStep withStage
-    preparedStep certifiedStep nextTx beginCode begun beginOf accessCode readCode readVersion readAt readOf writeCode writeCodeAt written
-    writeAt writeOf installCode entryOf partHead partWords baseAfter installedAt installOf reportCode stateWords reportOf freshSite
+    preparedStep certifiedStep nextTx beginCode begun beginOf keyCode accessCode readCode readVersion readAt readOf writeCode writeCodeAt
+    written
+    writeAt writeOf searchOf installCode entryOf partHead partWords baseAfter installedAt installOf reportCode stateWords reportOf freshSite
     startCode startOf startTable mergerOutOf placeWords queuedPart queuedOk sourceOk mergerOk mergePartCode mergePart mergeStateCode
     mergeState mergeCode mergeOf headAt headsOf hasHead betterHead leastHead isDueAt hasPart isWholeAt isWhole dueCode partWrites
     joinedWrites mergedWords siteWords popQueue popQueueAt popQueues popMergerAt popMerger emitDue emitCode emitOf freshMerger

@@ -53,7 +53,7 @@ module _ (history : List Entry) (installs : ℕ) (base : List Value) (p : Snapsh
       let e = search-none history installs base p k none in
       let n : search .looked ≡ visible = ap (λ (a : Search). a .looked) e in
       let lacks : (j : ℕ) → j < visible → hasKey j ≡ false =
-          λ j a. turned (visible - 1 - j) j refl ∙ none (visible - 1 - j) (omega arith) in
+      λ j a. turned (visible - 1 - j) j refl ∙ none (visible - 1 - j) (omega arith) in
       record {
         same = search-same history installs base p k;
         hit = λ j a b t. absurd (set-not (hasKey j) t (lacks j a));
@@ -70,7 +70,7 @@ module _ (history : List Entry) (installs : ℕ) (base : List Value) (p : Snapsh
       let n : search .looked ≡ visible - i = ap (λ (a : Search). a .looked) e in
       let newest = turned i (visible - 1 - i) (omega arith) ∙ l .holds in
       let newer : (j : ℕ) → j < visible - 1 - i → hasKey j ≡ false =
-          λ j a. turned (visible - 1 - j) j refl ∙ l .later (visible - 1 - j) (omega arith) (omega arith) in
+      λ j a. turned (visible - 1 - j) j refl ∙ l .later (visible - 1 - j) (omega arith) (omega arith) in
       record {
         same = search-same history installs base p k;
         hit = λ j a b t.
@@ -95,8 +95,13 @@ read-runs s base tx k v other =
     by-code Goal code s [] (readAt s base place k)
     (λ e. rw other
     (by-code Goal late s [] (readVersion s base place k)
-    (λ f q. (search .looked, rw (key-passed (siteOk s) (length base) (s .house) (s .counters .own) k place (stageAt (s .live) place) e,
-    found (search .value) v q)))
+    (λ f q. (
+      search .looked,
+      rw (
+        key-passed (siteOk s) (length base) (s .house) (s .counters .own) k place (stageAt (s .live) place) e,
+        found (search .value) v q,
+      ),
+    ))
     (λ q. absurd (not-found late v q))))
     (λ q. absurd (not-found code v q))
 

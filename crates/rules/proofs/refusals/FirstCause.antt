@@ -52,8 +52,8 @@ use Rattle.rules.specs.Answers.{isRefused}
 use Rattle.rules.specs.World as world
 use Rattle.rules.specs.World.{World, Call, step, siteStep, logStep, mergerStep, mergeStep, copyStep, replayStep}
 use Rattle.rules.specs.Refusals.{order, beginHas, accessHas, readHas, writeHas, searchHas, enlistHas, commitHas, abandonHas}
-use Rattle.rules.specs.Refusals.{heldInTurn, isInTurn, heldSpent, isSpent, messageHas, installHas, mergeHas, emitHas, causesOf, ByFirst}
-use Rattle.rules.specs.Refusals.{FirstCause}
+use Rattle.rules.specs.Refusals.{heldInTurn, isInTurn, heldSpent, isSpent, messageHas, installHas, mergeHas, emitHas, causesOf}
+use Rattle.rules.specs.Refusals.{ByFirst, FirstCause}
 use Rattle.rules.proofs.messages.Spoken.{Speaks, enlist-speaks, abort-speaks, quietly-speaks, prepared-speaks, certified-speaks}
 use Rattle.rules.proofs.messages.Spoken.{vote-speaks}
 use Rattle.rules.proofs.messages.Spoken.{vote-known}

@@ -89,9 +89,10 @@ read-at-requires c κs =
     let past = c .before in
     let h = clear past in
     let s = begins (past .before) in
-    let v = valid-site (handed s) (h .key .valid) .house in
-    let low = key-low (handed s .house) (handed s .counters .own) (s .args .key) (omega (arith, v .own-high, v .few-sites)) (h .key .here) in
-    (record { possible = h .key .valid; low = h .held }, omega (arith, h .key .whole, low))
+    let k = h .key in
+    let v = valid-site (handed s) (k .valid) .house in
+    let low = key-low (handed s .house) (handed s .counters .own) (s .args .key) (omega (arith, v .own-high, v .few-sites)) (k .here) in
+    (record { possible = k .valid; low = h .held }, omega (arith, k .whole, low))
 
 same-length-2 : tie.Need-same-length-2
 same-length-2 c = search needs
