@@ -7,8 +7,9 @@ use std::collections::{BTreeMap, HashMap, HashSet};
 use crate::answer::{Decision, Pair, Refusal};
 use crate::copy::Copy;
 use crate::house::messages;
+use crate::site::Found;
 use crate::sizes::*;
-use crate::world::{Answer, Call};
+use crate::world::{Answer, Call, World};
 
 /// Positions of message words that the book reads.
 const KIND: usize = 1;
@@ -60,6 +61,8 @@ pub struct Book {
     chapters: HashMap<u64, Chapter>,
     committed: BTreeMap<Pair, u64>,
     installs: Vec<Installs>,
+    /// How many installs each site counts when the book begins.
+    counted: [u64; SITES],
     shelves: Vec<Shelf>,
 }
 
@@ -71,6 +74,7 @@ impl Default for Book {
             chapters: HashMap::new(),
             committed: BTreeMap::new(),
             installs: vec![Vec::new(); SITES],
+            counted: [0; SITES],
             shelves: vec![shelf; COPIES],
         }
     }
@@ -87,6 +91,15 @@ fn claim(holds: bool, otherwise: impl FnOnce() -> String) -> Checked {
 }
 
 impl Book {
+    /// The book of a house whose counts may begin near their ends.
+    pub fn of(world: &World) -> Self {
+        let mut book = Book::default();
+        for (counted, site) in book.counted.iter_mut().zip(&world.sites) {
+            *counted = site.installs;
+        }
+        book
+    }
+
     pub fn committed(&self) -> usize {
         self.committed.len()
     }
@@ -106,6 +119,9 @@ impl Book {
             (Call::Begin { site }, Answer::Begun(transaction)) => self.begin(site, transaction)?,
             (Call::Read { site, transaction, key }, Answer::Value(value)) => {
                 self.read(site, transaction, key, value)?;
+            }
+            (Call::Search { site, snapshot, key }, Answer::Found(found)) => {
+                self.search(site, snapshot, key, found)?;
             }
             (Call::Write { transaction, key, value, .. }, _) => {
                 let chapter = self.chapters.entry(transaction).or_default();
@@ -187,6 +203,24 @@ impl Book {
         let due = chapter.writes.get(&key).copied().unwrap_or_else(left);
         claim(due == value, || format!("{transaction} read {value} at {key}, {due} is due"))?;
         self.recheck(transaction)
+    }
+
+    /// Beyond demand 3 (Q5.1 to Q5.3): a search gives what the installs within its
+    /// snapshot left, and how many of the last 32 it looked at. Where a later install is
+    /// forgotten it looks at none, and its value is no version of the snapshot.
+    fn search(&self, site: u64, snapshot: u64, key: u64, found: Found) -> Checked {
+        let site = site as usize - 1;
+        let installs = &self.installs[site];
+        let within =
+            snapshot.saturating_sub(self.counted[site]).min(installs.len() as u64) as usize;
+        let forgotten = installs.len().saturating_sub(HISTORY);
+        let version = |place: usize| installs[place].1.iter().find(|write| write.0 == key);
+        let hit = (0..within).rev().find(|&place| version(place).is_some());
+        let left = hit.and_then(version).map_or(0, |write| write.1);
+        let oldest = hit.map_or(forgotten, |place| place.max(forgotten));
+        let looked_at = within.saturating_sub(oldest) as u64;
+        let right = found.looked_at == looked_at && (within < forgotten || found.value == left);
+        claim(right, || format!("{key} searched at {snapshot}: {found:?}, {left} {looked_at} due"))
     }
 
     /// Claim A: the last pair is a committed one.

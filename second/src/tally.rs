@@ -89,6 +89,7 @@ fn name(call: &Call) -> &'static str {
         Call::Enlist { .. } => "enlist",
         Call::Read { .. } => "read",
         Call::Write { .. } => "write",
+        Call::Search { .. } => "search",
         Call::Commit { .. } => "commit",
         Call::Abandon { .. } => "abandon",
         Call::Message { words, .. } => match words.get(1) {

@@ -1,4 +1,4 @@
-//! Sites, merger and copies of one house, and the thirteen calls on them as values.
+//! Sites, merger and copies of one house, and the fourteen calls on them as values.
 
 use crate::answer::{Decision, Pair, Refusal, Sent};
 use crate::copy::Copy;
@@ -12,6 +12,7 @@ pub enum Call<'a> {
     Enlist { site: u64, transaction: u64, target: u64 },
     Read { site: u64, transaction: u64, key: u64 },
     Write { site: u64, transaction: u64, key: u64, value: u64 },
+    Search { site: u64, snapshot: u64, key: u64 },
     Commit { site: u64, transaction: u64 },
     Abandon { site: u64, transaction: u64 },
     Message { site: u64, words: &'a [u64] },
@@ -34,7 +35,6 @@ pub enum Answer {
     Emitted(Emitted),
     Replayed(Pair),
     CopyValue(u64, Pair),
-    /// Of a search, which is none of the thirteen calls.
     Found(Found),
 }
 
@@ -108,6 +108,9 @@ impl World {
             }
             Call::Write { site, transaction, key, value } => {
                 self.site(site)?.write(transaction, key, value).map(|()| Answer::Done)
+            }
+            Call::Search { site, snapshot, key } => {
+                self.site(site)?.search(snapshot, key).map(Answer::Found)
             }
             Call::Commit { site, transaction } => {
                 self.site(site)?.commit(transaction, out).map(Answer::Sent)

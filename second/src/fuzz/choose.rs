@@ -5,10 +5,10 @@ use crate::site::Stage;
 use crate::sizes::*;
 use crate::world::Call;
 
-//                         begin enl read wri com ab take inst rep merge emit repl val
-const SPANNING: [u64; 13] = [8, 10, 8, 14, 10, 1, 60, 16, 4, 14, 10, 8, 2];
+//                         begin enl read wri com ab take inst rep merge emit repl val search
+const SPANNING: [u64; 14] = [8, 10, 8, 14, 10, 1, 60, 16, 4, 14, 10, 8, 2, 6];
 /// Few messages, many installs: history is forgotten.
-const LONE: [u64; 13] = [30, 3, 8, 14, 40, 0, 30, 40, 2, 16, 12, 6, 1];
+const LONE: [u64; 14] = [30, 3, 8, 14, 40, 0, 30, 40, 2, 16, 12, 6, 1, 12];
 
 /// A call but for the words that are handed in.
 #[derive(Clone, Copy)]
@@ -52,15 +52,29 @@ impl Fuzz {
             9 => (self.any_record(), Source::Merge),
             10 => plain(Call::Emit),
             11 => self.any_replay(),
-            _ => {
+            12 => {
                 let (copy, key) = (self.random.between(0, 9), self.random.below(KEYS + 2));
                 plain(Call::Value { copy, key })
             }
+            _ => plain(self.any_search(site)),
         }
     }
 
     fn any_site(&mut self) -> u64 {
         self.random.site(self.world.sites.len() as u64)
+    }
+
+    /// Mostly a snapshot of which little or nothing is forgotten.
+    fn any_search(&mut self, site: u64) -> Call<'static> {
+        let place = (site as usize).clamp(1, self.world.sites.len()) - 1;
+        let installs = self.world.sites[place].installs;
+        let snapshot = match self.random.below(10) {
+            0 => self.random.word(),
+            1 => installs.saturating_add(self.random.below(3)),
+            _ => installs.saturating_sub(self.random.below(HISTORY as u64 + 2)),
+        };
+        let key = self.random.key(site, self.keys);
+        Call::Search { site, snapshot, key }
     }
 
     /// A site with a decided part, if there is one.

@@ -78,8 +78,8 @@ impl Fuzz {
         }
         let mute = (random.between(1, 24), random.between(1, 8));
         Fuzz {
+            book: Book::of(&world),
             world,
-            book: Book::default(),
             tally: Tally::default(),
             posted: Vec::new(),
             logs: vec![Spool::default(); sites as usize],
@@ -111,8 +111,9 @@ impl Fuzz {
         if buffer[words..] != blank[words..] {
             return Err("words behind the last one written changed".to_string());
         }
-        if answer.is_err() && before != self.before(&call) {
-            return Err(format!("a refused call altered its state: {call:?}"));
+        let leaves = answer.is_err() || matches!(call, Call::Search { .. });
+        if leaves && before != self.before(&call) {
+            return Err(format!("a call altered its state: {call:?} gave {answer:?}"));
         }
         if answer.is_err_and(|refusal| self.is_out_of_reach(&call, refusal)) {
             return Err(format!("{call:?} gave {answer:?}"));
@@ -127,6 +128,7 @@ impl Fuzz {
     /// Beyond demand 3: a channel's next message is in turn, a log's next
     /// record ascends, a due record is whole. Of the coordinator's calls, 26 falls
     /// only at another site and 27 only at the coordinator; 26 falls in no other call.
+    /// A search is refused 2 or 3.
     fn is_out_of_reach(&self, call: &Call, refusal: Refusal) -> bool {
         match *call {
             Call::Enlist { site, transaction, .. }
@@ -137,6 +139,7 @@ impl Fuzz {
                 _ => false,
             },
             _ if refusal == Refusal::NotCoordinator => true,
+            Call::Search { .. } => !matches!(refusal, Refusal::Impossible | Refusal::OtherSite),
             Call::Message { .. } => refusal == Refusal::WrongStage,
             Call::Merge { words } => {
                 let mut logs = self.logs.iter();
@@ -177,6 +180,7 @@ impl Fuzz {
             | Call::Enlist { site: number, .. }
             | Call::Read { site: number, .. }
             | Call::Write { site: number, .. }
+            | Call::Search { site: number, .. }
             | Call::Commit { site: number, .. }
             | Call::Abandon { site: number, .. }
             | Call::Message { site: number, .. }
