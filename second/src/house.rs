@@ -4,7 +4,7 @@
 use std::collections::VecDeque;
 use std::fmt::Write;
 
-use crate::answer::{require, Refusal};
+use crate::answer::{require, Decision, Refusal};
 use crate::script::Command;
 use crate::sizes::*;
 use crate::world::{Answer, Call, World};
@@ -199,6 +199,34 @@ fn print(event: u64, answer: &Result<Answer, Refusal>, output: &mut String) {
     // Writing to a String cannot fail.
     let _ = match answer {
         Err(refusal) => writeln!(output, "{event} refused {}", refusal.number()),
-        Ok(answer) => writeln!(output, "{event} ok{}", answer.results()),
+        Ok(answer) => match *answer {
+            Answer::Done => writeln!(output, "{event} ok"),
+            Answer::Begun(number) | Answer::Value(number) => {
+                writeln!(output, "{event} ok {number}")
+            }
+            Answer::Sent(sent) => match sent.decision {
+                None => writeln!(output, "{event} ok"),
+                Some(Decision::Commit(number)) => writeln!(output, "{event} ok {number}"),
+                Some(Decision::Abort(reason)) => writeln!(output, "{event} ok abort {reason}"),
+            },
+            Answer::Installed(done) => {
+                writeln!(output, "{event} ok {} {}", done.pair.number, done.pair.coordinator)
+            }
+            Answer::Reported(report) => writeln!(output, "{event} ok {}", report.state),
+            Answer::Emitted(emitted) => {
+                let pair = emitted.pair;
+                let transaction = emitted.transaction;
+                writeln!(output, "{event} ok {} {} {transaction}", pair.number, pair.coordinator)
+            }
+            Answer::Replayed(pair) => {
+                writeln!(output, "{event} ok {} {}", pair.number, pair.coordinator)
+            }
+            Answer::CopyValue(value, pair) => {
+                writeln!(output, "{event} ok {value} {} {}", pair.number, pair.coordinator)
+            }
+            Answer::Found(found) => {
+                writeln!(output, "{event} ok {} {}", found.value, found.looked_at)
+            }
+        },
     };
 }

@@ -56,30 +56,6 @@ impl Answer {
             _ => None,
         }
     }
-
-    /// What `house` and a probe print after `ok`, with a space before each word.
-    pub fn results(&self) -> String {
-        match *self {
-            Answer::Done => String::new(),
-            Answer::Begun(number) | Answer::Value(number) => format!(" {number}"),
-            Answer::Sent(sent) => match sent.decision {
-                None => String::new(),
-                Some(Decision::Commit(number)) => format!(" {number}"),
-                Some(Decision::Abort(reason)) => format!(" abort {reason}"),
-            },
-            Answer::Installed(done) => format!(" {} {}", done.pair.number, done.pair.coordinator),
-            Answer::Reported(report) => format!(" {}", report.state),
-            Answer::Emitted(emitted) => {
-                let pair = emitted.pair;
-                format!(" {} {} {}", pair.number, pair.coordinator, emitted.transaction)
-            }
-            Answer::Replayed(pair) => format!(" {} {}", pair.number, pair.coordinator),
-            Answer::CopyValue(value, pair) => {
-                format!(" {value} {} {}", pair.number, pair.coordinator)
-            }
-            Answer::Found(found) => format!(" {} {}", found.value, found.looked_at),
-        }
-    }
 }
 
 #[derive(Clone, PartialEq, Eq, Debug)]

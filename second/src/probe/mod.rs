@@ -12,7 +12,7 @@ pub mod sums;
 
 use std::fmt::Write;
 
-use crate::answer::{require, Refusal};
+use crate::answer::{require, Decision, Refusal};
 use crate::copy::Copy;
 use crate::merger::Merger;
 use crate::site::Site;
@@ -316,6 +316,29 @@ fn tell(output: &mut String, event: u64, answer: &Result<Answer, Refusal>) {
     // Writing to a String cannot fail.
     let _ = match answer {
         Err(refusal) => write!(output, "{event} refused {}", refusal.number()),
-        Ok(answer) => write!(output, "{event} ok{}", answer.results()),
+        Ok(answer) => write!(output, "{event} ok{}", results(answer)),
     };
+}
+
+fn results(answer: &Answer) -> String {
+    match *answer {
+        Answer::Done => String::new(),
+        Answer::Begun(number) | Answer::Value(number) => format!(" {number}"),
+        Answer::Sent(sent) => match sent.decision {
+            None => String::new(),
+            Some(Decision::Commit(number)) => format!(" {number}"),
+            Some(Decision::Abort(reason)) => format!(" abort {reason}"),
+        },
+        Answer::Installed(done) => format!(" {} {}", done.pair.number, done.pair.coordinator),
+        Answer::Reported(report) => format!(" {}", report.state),
+        Answer::Emitted(emitted) => {
+            let pair = emitted.pair;
+            format!(" {} {} {}", pair.number, pair.coordinator, emitted.transaction)
+        }
+        Answer::Replayed(pair) => format!(" {} {}", pair.number, pair.coordinator),
+        Answer::CopyValue(value, pair) => {
+            format!(" {value} {} {}", pair.number, pair.coordinator)
+        }
+        Answer::Found(found) => format!(" {} {}", found.value, found.looked_at),
+    }
 }
