@@ -1,3 +1,3 @@
--- The fixed points P1 to P14.
+-- The fixed points P1 to P14 and Q5.7.
 pub mod States
 pub mod Points
