@@ -96,7 +96,8 @@ wrote-value-in-requires c κs =
 
 add-hit : tie.Need-add-hit Inv-loop μ-loop
 add-hit c =
-    let turn = c .before .before .before .before in
+    let slot = c .before .before .before in
+    let turn = slot .before in
     omega (arith, few (entered turn), turn .before .loop .inv .0)
 
 returns : tie.Need-returns Inv-loop μ-loop

@@ -1,17 +1,16 @@
 -- The search ends at the last entry within the snapshot that has the key, or has looked at all: by cases.
-use Prim.Native.Nat.{ℕ, _+_, _-_, _<_}
-use mathlib.Core.Path.{_≡_, refl, sym, ap, _∙_}
+use Prim.Native.Nat.{ℕ, _-_, _<_}
+use mathlib.Core.Path.{_≡_, refl, ap, _∙_}
 use mathlib.Core.List.{List, []}
 use mathlib.Core.Logic.{⊎-elim}
-use mathlib.Core.Bool.{Bool, true, false}
+use mathlib.Core.Bool.{Bool, false}
 use native.Mathlib.Omega.{arith}
 use lib.ListN.{length}
 use Rattle.laws.specs.Choice.{set-not}
 use Rattle.laws.specs.Scan.{NoneBelow, LastBelow, last-below}
-use Rattle.kinds.specs.declared.Answer.the-variants.{Refused, Found, Searched}
+use Rattle.kinds.specs.declared.Answer.the-variants.{Found, Searched}
 use Rattle.kinds.specs.declared.Entry.{Entry}
 use Rattle.kinds.specs.declared.Search.{Search}
-use Rattle.kinds.specs.declared.Site.{Site}
 use Rattle.kinds.specs.declared.Snapshot.{Snapshot}
 use Rattle.kinds.specs.State.{Value, subAt}
 use Rattle.rules.specs.Keys.{wroteKey, readKey}
@@ -48,6 +47,7 @@ module _ (history : List Entry) (installs : ℕ) (base : List Value) (p : Snapsh
   abbrev Right : Type 0
   Right = Exact history installs base p k
 
+  -- none has the key
   all-lack : NoneBelow has visible → Right
   all-lack none =
       let e = search-none history installs base p k none in
@@ -63,24 +63,25 @@ module _ (history : List Entry) (installs : ℕ) (base : List Value) (p : Snapsh
         last = λ a. absurd (omega (arith, n));
       }
 
+  -- the last that has the key is the first from the newest backwards
   one-has : (i : ℕ) → LastBelow has visible i → Right
   one-has i l =
       let e = search-last history installs base p k i l in
       let low = l .low in
       let n : search .looked ≡ visible - i = ap (λ (a : Search). a .looked) e in
-      let newest = turned i (visible - 1 - i) (omega arith) ∙ l .holds in
+      let first = turned i (visible - 1 - i) (omega arith) ∙ l .holds in
       let newer : (j : ℕ) → j < visible - 1 - i → hasKey j ≡ false =
       λ j a. turned (visible - 1 - j) j refl ∙ l .later (visible - 1 - j) (omega arith) (omega arith) in
       record {
         same = search-same history installs base p k;
         hit = λ j a b t.
             by-order (visible - 1 - i) j
-            (λ z. absurd (set-not _ newest (b (visible - 1 - i) z)))
+            (λ z. absurd (set-not _ first (b (visible - 1 - i) z)))
             (λ z. by-order j (visible - 1 - i) (λ y. absurd (set-not _ t (newer j y))) (λ y. omega (arith, n)));
-        none = λ b. absurd (set-not (hasKey (visible - 1 - i)) newest (b (visible - 1 - i) (omega arith)));
+        none = λ b. absurd (set-not (hasKey (visible - 1 - i)) first (b (visible - 1 - i) (omega arith)));
         few = omega (arith, n);
         passed = λ j a. newer j (omega (arith, n));
-        last = λ a. let q : search .looked - 1 ≡ visible - 1 - i = omega (arith, n) in rw q newest;
+        last = λ a. let q : search .looked - 1 ≡ visible - 1 - i = omega (arith, n) in rw q first;
       }
 
 read-runs : ReadRuns
