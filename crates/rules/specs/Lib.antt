@@ -27,8 +27,10 @@ pub mod Answers
 pub mod World
 pub mod Book
 pub mod Claim
+pub mod Left
 pub mod Reads
 pub mod Searches
+pub mod Snapshots
 pub mod Progress
 pub mod Possible
 pub mod Refusals

@@ -4,6 +4,7 @@ ghost use Rattle.rules.specs.Progress.{MessagesProgress, RecordsProgress
 ghost use Rattle.rules.specs.Possible.{Possible};
 ghost use Rattle.rules.specs.Reads.{ReadsRight};
 ghost use Rattle.rules.specs.Searches.{SearchesRight};
+ghost use Rattle.rules.specs.Snapshots.{SnapshotsStay};
 ghost use Rattle.rules.specs.Refusals.{RefusedLeaves, FirstCause, OwnNumbers};
 ghost use Rattle.rules.specs.Moments.{WrongMoments};
 
@@ -20,6 +21,11 @@ pub fn reads_right()
 // In any state a search answers the version that its snapshot sees, and exactly how many entries it looked at; a read runs it.
 pub fn searches_right()
     ensures { λ _. ⌜ SearchesRight ⌝ }
+{}
+
+// In such a list what a snapshot sees stays: a search answers what was installed at the site by then, while none after it is forgotten.
+pub fn snapshots_stay()
+    ensures { λ _. ⌜ SnapshotsStay ⌝ }
 {}
 
 // In such a list no message is refused 26 or 27, and none is voted 5.

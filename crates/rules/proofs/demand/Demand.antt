@@ -2,7 +2,7 @@
 use Prim.Native.Nat.{ℕ, _≤_, _<_}
 use mathlib.Core.Path.{_≡_, refl, sym, ap, _∙_}
 use mathlib.Core.Bool.{true}
-use mathlib.Core.Logic.{_⊎_, inl, inr, ⊎-elim}
+use mathlib.Core.Logic.{inl, inr, ⊎-elim}
 use mathlib.Core.List.{List}
 use native.Mathlib.Omega.{arith}
 use lib.ListN.{length}
@@ -13,7 +13,8 @@ use Rattle.rules.specs.Keys.{dependent}
 use Rattle.rules.specs.KeysLaws.{conflict-dependent}
 use Rattle.rules.specs.World.{World}
 use Rattle.rules.specs.Book.{Fact}
-use Rattle.rules.specs.Claim.{Dependent, on-write-of-other, on-own-write, Saw, Ordered, WritersInOrder, NoneHalfSeen, Holds}
+use Rattle.rules.specs.Claim.{Committed, Dependent, on-write-of-other, on-own-write, Saw, Ordered, WritersInOrder, NoneHalfSeen}
+use Rattle.rules.specs.Claim.{Holds}
 use Rattle.rules.proofs.protocol.ProtocolTables.{Protocol, inst}
 use Rattle.rules.proofs.protocol.Invariants.{at, Seen, Invariant}
 use Rattle.rules.proofs.protocol.Committed.{low-coordinator, coordinator-has}
@@ -54,9 +55,16 @@ module _ {sites : ℕ} {p : Protocol} {b : List Fact} (few : sites ≤ 8) (i : I
             (sym e ∙ g, sym f ∙ h);
       }
 
-  -- the pair of an install is that of its transaction
-  pair-at : (s j t n c : ℕ) → j < length (inst p s) → at p s j .tx ≡ t → p .num t ≡ n → coordinatorOf t ≡ c → PairAt p s j n c
+  -- the pair of an install is that of its transaction,
+  pub pair-at : (s j t n c : ℕ) → j < length (inst p s) → at p s j .tx ≡ t → p .num t ≡ n → coordinatorOf t ≡ c → PairAt p s j n c
   pair-at s j t n c l e f g = (i .account .entry s j l .0 ∙ ap (p .num) e ∙ f, ap coordinatorOf e ∙ g)
+
+  -- and of no other
+  pub pair-of : (s j t n c : ℕ) → j < length (inst p s) → PairAt p s j n c → Committed b t n c → at p s j .tx ≡ t
+  pair-of s j t n c l (g, k) y =
+      let (a, e, f) = x .commits .commit t n c y in
+      let (o, q, _, _) = i .account .entry s j l in
+      pair-once i (at p s j .tx) t q (sym o ∙ g ∙ sym e) (k ∙ sym f)
 
   writers : WritersInOrder (record { sites = sites }) b
   writers t u k n c m d y z (v, f) (w, g) e =
@@ -71,15 +79,13 @@ module _ {sites : ℕ} {p : Protocol} {b : List Fact} (few : sites ≤ 8) (i : I
       x .sees .before s u j n c hu o (pair-at s j t n c l q et ct)
 
   -- what the book saw, the machine saw
-  pub saw-seen : (s t u : ℕ) → p .has s t ≡ true → Saw b s t u → Seen p s t u
+  saw-seen : (s t u : ℕ) → p .has s t ≡ true → Saw b s t u → Seen p s t u
   saw-seen s t u h saw =
-      let (a, e, f) = x .commits .commit u (saw .number) (saw .coordinator) (saw .committed) in
-      let (j, l, (g, k)) = x .sees .seen s t (saw .number) (saw .coordinator) (saw .before) in
+      let (j, l, y) = x .sees .seen s t (saw .number) (saw .coordinator) (saw .before) in
       let m : j < length (inst p s) = omega (arith, i .parts .low s t h) in
-      let (o, q, _, _) = i .account .entry s j m in
-      (j, (m, pair-once i (at p s j .tx) u q (sym o ∙ g ∙ sym e) (k ∙ sym f)), l)
+      (j, (m, pair-of s j u (saw .number) (saw .coordinator) m y (saw .committed)), l)
 
-  pub seen-saw : (s t u : ℕ) → p .has s t ≡ true → Seen p s t u → Saw b s t u
+  seen-saw : (s t u : ℕ) → p .has s t ≡ true → Seen p s t u → Saw b s t u
   seen-saw s t u h (j, (l, e), k) =
       let z : 0 < p .num u = rw e at (i .account .entry s j l .1) in
       record {

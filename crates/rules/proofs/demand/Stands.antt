@@ -67,7 +67,7 @@ module _ (More : World → Stream → Type 0) {sites : ℕ} (few : sites ≤ 8) 
         more = keeps w (x .stream) u c h (x .is) (x .standing) ss e i (x .more);
       }
 
-  run-stands : (calls : List Call) (w : World) (b : List Fact) → Lawful w calls → Stands More sites w b
+  pub run-stands : (calls : List Call) (w : World) (b : List Fact) → Lawful w calls → Stands More sites w b
       → Stands More sites (run w calls) (b ++ bookFrom w calls)
   unfolding run bookFrom
   run-stands [] w b h x = rw append-nil x

@@ -156,7 +156,7 @@ installs-steps few z (stream.more ss s) n j =
     ∙ installs-steps few z ss (λ f h. n f (is-kept (toldStep s) h)) j
 
 -- what was installed stays, whatever is told
-abbrev Stays : Stream → Stream → Type 0
+abbrev pub Stays : Stream → Stream → Type 0
 Stays v u = (s j : ℕ) → j < length (inst (v .protocol) s)
     → (j < length (inst (u .protocol) s)) × (at (u .protocol) s j ≡ at (v .protocol) s j)
 

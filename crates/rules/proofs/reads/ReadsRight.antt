@@ -25,9 +25,9 @@ use Rattle.rules.proofs.reads.CallsKept.{KeysStay, BasesStay, call-kept
 use Rattle.rules.proofs.reads.ReadAnswers.{read-is, read-left}
 
 -- A house whose reads are right.
-record Reads (sites : ℕ) (w : World) (v : Stream) : Type 0 where
-  once : WritesOnce (v .protocol)
-  bases : BasesAre sites w (v .protocol)
+pub record Reads (sites : ℕ) (w : World) (v : Stream) : Type 0 where
+  pub once : WritesOnce (v .protocol)
+  pub bases : BasesAre sites w (v .protocol)
 
 -- After some steps that lead to the world x.
 module _ {sites : ℕ} {w x : World} {v u : Stream} (few : sites ≤ 8) (i : StreamIs sites w v) (z : Standing sites v) (r : Reads sites w v)
@@ -46,7 +46,7 @@ module _ {sites : ℕ} {w x : World} {v u : Stream} (few : sites ≤ 8) (i : Str
   bases-after (inl (n, e)) = bases-kept sites w x (v .protocol) (u .protocol) e (installs-steps few z ss n) (r .bases)
   bases-after (inr (s, k)) = bases-installed (i .refines) (y .refines) (r .once) (stays-steps few z ss) (r .bases) s k
 
-call-reads : {sites : ℕ} → sites ≤ 8 → Keeps (Reads sites) sites
+pub call-reads : {sites : ℕ} → sites ≤ 8 → Keeps (Reads sites) sites
 call-reads few w v u c h i z ss e j m =
     let k = call-kept (i .refines) (z .invariant) (m .once) c in
     record { once = once-after few i z m ss j (rw e (k .keys)); bases = bases-after few i z m ss j (rw e (k .bases)) }
@@ -58,7 +58,7 @@ bases-fresh sites s k l h low =
     rw (fresh-table (startCode sites s sizes.keys sizes.lists) sizes.keys)
     (getD-replicate {A = ℕ} sizes.keys k 0 0 low ∙ sym (left-none _ k))
 
-fresh-reads : (sites : ℕ) → Reads sites (freshWorld sites) freshStream
+pub fresh-reads : (sites : ℕ) → Reads sites (freshWorld sites) freshStream
 unfolding freshStream
 fresh-reads sites = record { once = writes-fresh; bases = bases-fresh sites }
 

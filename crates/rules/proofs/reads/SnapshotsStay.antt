@@ -1,0 +1,156 @@
+-- A search answers what the installs within its snapshot leave by the machine's tables. What is installed stays in its place, so after more
+-- calls the same installs are within the snapshot.
+use Prim.Native.Nat.{ℕ, _≤_}
+use mathlib.Core.Path.{_≡_, refl, sym, ap, _∙_}
+use mathlib.Core.Bool.{false}
+use mathlib.Core.List.{List}
+use native.Mathlib.Omega.{arith}
+use borrow.Author.Tests.{eqb-true}
+use lib.Dec.{eqb}
+use lib.ListN.{length}
+use Rattle.laws.specs.Choice.{by-test}
+use Rattle.kinds.specs.declared.Site.{Site}
+use Rattle.kinds.specs.declared.Snapshot.{Snapshot}
+use Rattle.kinds.specs.declared.Answer.the-variants.{Refused, Searched}
+use Rattle.kinds.specs.State.{Value}
+use Rattle.rules.specs.House.{homeOf}
+use Rattle.rules.specs.KeysLaws.{by-order}
+use Rattle.rules.specs.History.{isForgotten, searchIn}
+use Rattle.rules.specs.SearchLaws.{search-same}
+use Rattle.rules.specs.Valid.{siteOk}
+use Rattle.rules.specs.Access.{keyCode, searchOf}
+use Rattle.rules.specs.CallLaws.{key-clear}
+use Rattle.rules.specs.World.{World, freshWorld, step, run}
+use Rattle.rules.specs.World as world
+use Rattle.rules.specs.Book.{Fact, bookFrom}
+use Rattle.rules.specs.Left.{LeftOf}
+use Rattle.rules.specs.Snapshots.{InstalledAt, installsAt, SnapshotsStay}
+use Rattle.rules.proofs.protocol.ProtocolTables.{Protocol, inst}
+use Rattle.rules.proofs.protocol.Invariants.{at, Invariant}
+use Rattle.rules.proofs.refine.Refines.{Refines}
+use Rattle.rules.proofs.refine.RefineStep.{inside}
+use Rattle.rules.proofs.stream.Stream.{Stream}
+use Rattle.rules.proofs.book.Booked.{home, Booked}
+use Rattle.rules.proofs.demand.Demand.{pair-of}
+use Rattle.rules.proofs.demand.Stands.{Stands, Keeps, list-stands, run-stands}
+use Rattle.rules.proofs.reads.Versions.{leftBelow, left-same, left-since, version-left}
+use Rattle.rules.proofs.reads.MovesTold.{Stays, stays-steps}
+use Rattle.rules.proofs.reads.BasesKept.{BasesAre}
+use Rattle.rules.proofs.reads.LeftInstalls.{Counted, left-of}
+use Rattle.rules.proofs.reads.ReadAnswers.{low-key}
+use Rattle.rules.proofs.reads.ReadsRight.{Reads, call-reads, fresh-reads}
+
+-- The call.
+searched : (a v : Value) (n m : ℕ) → Searched a n ≡ Searched v m → a ≡ v
+searched a v n m e = cc
+
+not-searched : (n m : ℕ) (v : Value) → Refused n ≡ Searched v m → ⊥
+not-searched n m v e = let z : _≡_ {A = ℕ} 0 1 = cc in omega arith
+
+record SearchIs (sites : ℕ) (p : Protocol) (s n k : ℕ) (v : Value) : Type 0 where
+  low : 1 ≤ s
+  high : s ≤ sites
+  lives : home sites k ≡ s
+  value : n ≤ length (inst p s) → v ≡ leftBelow (at p s) k n
+
+module _ {sites : ℕ} {w : World} {p : Protocol} (r : Refines sites w p) (b : BasesAre sites w p) (s n k looked : ℕ) (v : Value)
+    (kept : isForgotten (installsAt w s) (record { installs = n }) ≡ false) where
+  abbrev site : Site
+  site = w .site s
+
+  abbrev snapshot : Snapshot
+  snapshot = record { installs = n }
+
+  abbrev code : ℕ
+  code = keyCode (siteOk site) (length (w .base s)) (site .house) (site .counters .own) k
+
+  finds : code ≡ 0 → searchIn (site .history) (site .counters .installs) (w .base s) snapshot k .value ≡ v → SearchIs sites p s n k v
+  finds z e =
+      let c = key-clear (siteOk site) (length (w .base s)) (site .house) (site .counters .own) k z in
+      let (l, h) = inside r s (c .valid) in
+      let y = r .site s l h in
+      let lives = ap (λ (n : ℕ). homeOf (record { sites = n }) k) (sym (y .house)) ∙ c .here ∙ y .counters .own-is in
+      let many = y .counters .installs-are in
+      let base = b s k l h (low-key sites k s lives (omega (arith, r .few))) in
+      record {
+        low = l;
+        high = h;
+        lives = lives;
+        value = λ few.
+            sym e ∙ search-same (site .history) (site .counters .installs) (w .base s) snapshot k
+            ∙ rw many (version-left (site .history) (inst p s) (w .base s) snapshot k (y .history) few (rw many at kept) base);
+      }
+
+  search-is : step w (world.search s n k) .answer ≡ Searched v looked → SearchIs sites p s n k v
+  unfolding step searchOf
+  search-is =
+      by-test (eqb code 0)
+      (λ z. rw z (λ e. finds (eqb-true code 0 z) (searched _ v _ looked e)))
+      (λ z. rw z (λ e. absurd (not-searched code looked v e)))
+
+-- After more calls.
+record Since (sites : ℕ) (v : Stream) (w : World) (u : Stream) : Type 0 where
+  reads : Reads sites w u
+  stays : Stays v u
+
+call-since : {sites : ℕ} → sites ≤ 8 → (v : Stream) → Keeps (Since sites v) sites
+call-since few v w u t c h i z ss e j m =
+    record {
+      reads = call-reads few w u t c h i z ss e j (m .reads);
+      stays = λ s k l. let (a, q) = m .stays s k l in let (d, f) = stays-steps few z ss s k a in (d, f ∙ q);
+    }
+
+-- the pairs installed at s are those of all installs there
+all-counted : {sites : ℕ} {b : List Fact} {p : Protocol} → sites ≤ 8 → Invariant sites p → Booked sites b p → (s : ℕ)
+    → Counted b p s (length (inst p s)) (InstalledAt b s)
+all-counted few i x s =
+    record {
+      few = omega arith;
+      place = λ t m c y z. let (j, l, q) = x .installs .installed s m c z in (j, l, pair-of few i x s j t m c l q y);
+      pair = λ j m c l q. x .installs .installs s j m c l q;
+    }
+
+-- After the first calls, and after more of them.
+module _ {sites : ℕ} (few : sites ≤ 8) {w x : World} {b c : List Fact} (first : Stands (Reads sites) sites w b)
+    (end : Stands (Since sites (first .stream)) sites x c) (s k : ℕ) (v : Value) where
+  abbrev p : Protocol
+  p = first .stream .protocol
+
+  abbrev q : Protocol
+  q = end .stream .protocol
+
+  longer : length (inst p s) ≤ length (inst q s)
+  longer =
+      by-order (length (inst q s)) (length (inst p s))
+      (λ z. absurd (omega (arith, end .more .stays s (length (inst q s)) z .0)))
+      (λ z. z)
+
+  left-then : SearchIs sites q s (installsAt w s) k v → LeftOf b (InstalledAt b s) k v
+  left-then found =
+      let i = first .standing .invariant in
+      let many = first .is .refines .site s (found .low) (found .high) .counters .installs-are in
+      let same = left-same (at q s) (at p s) k (length (inst p s)) (λ j l. end .more .stays s j l .1) in
+      let value : v ≡ leftBelow (at p s) k (length (inst p s)) = rw many at (found .value) longer ∙ same in
+      left-of few i (first .booked) s k (found .lives) (all-counted few i (first .booked) s) v
+      (rw value (left-since (at p s) k 0 (length (inst p s)) (omega arith)))
+
+-- the first calls leave what they leave, and nothing is installed since
+begun : {sites : ℕ} {w : World} {b : List Fact} (first : Stands (Reads sites) sites w b) → Stands (Since sites (first .stream)) sites w b
+begun first =
+    record {
+      stream = first .stream;
+      standing = first .standing;
+      is = first .is;
+      booked = first .booked;
+      more = record { reads = first .more; stays = λ j m l. (l, refl) };
+    }
+
+pub snapshots-stay : SnapshotsStay
+unfolding SnapshotsStay
+snapshots-stay sites calls more some few lawful then s k looked v kept e =
+    let w = run (freshWorld sites) calls in
+    let first = list-stands (Reads sites) few (call-reads few) some (fresh-reads sites) calls lawful in
+    let v₀ = first .stream in
+    let end = run-stands (Since sites v₀) few (call-since few v₀) more w (bookFrom (freshWorld sites) calls) then (begun first) in
+    left-then few first end s k v
+    (search-is (end .is .refines) (end .more .reads .bases) s (installsAt w s) k looked v kept e)
