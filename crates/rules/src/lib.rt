@@ -23,7 +23,7 @@ pub fn searches_right()
     ensures { λ _. ⌜ SearchesRight ⌝ }
 {}
 
-// In such a list what a snapshot sees stays: a search answers what was installed at the site by then, while none after it is forgotten.
+// In such a list what a snapshot sees stays, until more than 32 installs come after it: a search answers what was installed by then.
 pub fn snapshots_stay()
     ensures { λ _. ⌜ SnapshotsStay ⌝ }
 {}

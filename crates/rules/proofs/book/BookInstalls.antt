@@ -7,6 +7,7 @@ use mathlib.Core.List.{List, [], _∷_, _++_}
 use native.Mathlib.Omega.{arith}
 use lib.ListN.{length, getD, length-append, List·getD-append}
 use lib.Seq.{getD-append-seam}
+use Rattle.laws.specs.Choice.{by-same}
 use Rattle.kinds.specs.declared.Entry.{Entry}
 use Rattle.kinds.specs.State.{pastEntry}
 use Rattle.rules.specs.House.{coordinatorOf}
@@ -14,11 +15,13 @@ use Rattle.rules.specs.World.{Member, here, upd}
 use Rattle.rules.specs.Book as book
 use Rattle.rules.specs.Book.{Fact}
 use Rattle.rules.specs.Claim.{Before}
-use Rattle.rules.proofs.lists.Tables.{upd-same, upd-cases, all-one, last-cases, is-append}
+use Rattle.rules.specs.Snapshots.{installsIn}
+use Rattle.rules.proofs.lists.Tables.{upd-same, upd-other, upd-cases, all-one, last-cases, is-append}
 use Rattle.rules.proofs.protocol.ProtocolTables.{Protocol, rPart, inst}
 use Rattle.rules.proofs.protocol.Invariants.{at}
 use Rattle.rules.proofs.steps.StepParts.{parts-append, inst-cases}
-use Rattle.rules.proofs.book.BookLists.{is-kept, is-last, before-append, not-alone, OfKind}
+use Rattle.rules.proofs.book.BookLists.{is-kept, is-last, installs-append, install-here, install-away, before-append, not-alone}
+use Rattle.rules.proofs.book.BookLists.{OfKind}
 use Rattle.rules.proofs.book.Booked.{PairAt, Booked}
 use Rattle.rules.proofs.book.BookKept.{commits-kept, begins-kept, writes-kept, installs-kept, sees-kept, at-same}
 
@@ -139,6 +142,21 @@ module _ {sites : ℕ} {b : List Fact} {p q : Protocol} {s : ℕ} {e : Entry} (c
       c .new m o z
   once j n d (inr (inr x)) = not-alone x
 
+  -- there is one more here
+  many : (j : ℕ) → installsIn j (b ++ fact) ≡ length (inst q j)
+  many j =
+      by-same j s
+      (λ z. rw (z, new) (omega (
+        arith,
+        length-append (inst p s) (e ∷ []),
+        installs-append s b fact,
+        install-here s (e .number)
+            (coordinatorOf (e .tx)),
+        i .installs .many s,
+      )))
+      (λ z. rw (c .log, upd-other (p .log) s (p .log s ++ (rPart e ∷ [])) j z)
+      (omega (arith, installs-append j b fact, install-away j s (e .number) (coordinatorOf (e .tx)) z, i .installs .many j)))
+
   pub booked-installed : Booked sites (b ++ (book.installed s (e .number) (coordinatorOf (e .tx)) ∷ [])) q
   booked-installed =
       record {
@@ -149,6 +167,7 @@ module _ {sites : ℕ} {b : List Fact} {p q : Protocol} {s : ℕ} {e : Entry} (c
           installed = λ j n d x. installed j n d (is-append b fact x);
           installs = λ j m n d. installs n d j m;
           once = λ j n d x. once j n d (before-append b fact x);
+          many = many;
         };
         sees = sees-kept installed-kind (λ z. omega arith) (c .has) (c .snap) (λ j u m x d. stays m j (omega (arith, c .low j u x)))
             (i .begins) (i .sees);

@@ -13,7 +13,8 @@ use Rattle.rules.proofs.steps.StepParts.{same}
 use Rattle.rules.proofs.lists.Tables.{a-nil, all-one, all-is}
 use Rattle.rules.proofs.protocol.ProtocolTables.{Protocol, inst}
 use Rattle.rules.proofs.protocol.Invariants.{at}
-use Rattle.rules.proofs.book.BookLists.{is-kept, OfKind, old, before-second, before-kept, before-old, last-kept}
+use Rattle.rules.proofs.book.BookLists.{is-kept, OfKind, old, installs-append, installs-other, before-second, before-kept}
+use Rattle.rules.proofs.book.BookLists.{before-old, last-kept}
 use Rattle.rules.proofs.book.Booked.{Commits, Begins, Writes, Installs, Sees, Booked}
 
 module _ {b l : List Fact} {p q : Protocol} {k : ℕ} (a : OfKind k l) where
@@ -48,6 +49,7 @@ module _ {b l : List Fact} {p q : Protocol} {k : ℕ} (a : OfKind k l) where
         installed = λ s m c x. rw (e s) (i .installed s m c (old b l a n x));
         installs = λ s j m c x y. is-kept l (i .installs s j m c (rw (e s) at x) (rw (e s) at y));
         once = λ s m c x. i .once s m c (before-old b l (λ z. n (all-is a z)) x);
+        many = λ s. rw (e s) (omega (arith, installs-append s b l, installs-other s a n, i .many s));
       }
 
   -- the installs that a part saw stay

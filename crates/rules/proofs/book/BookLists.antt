@@ -1,16 +1,18 @@
 -- The book with facts behind it: what stands in it, what stands before what, and each transaction's last writes.
-use Prim.Native.Nat.{ℕ}
+use Prim.Native.Nat.{ℕ, _+_}
 use mathlib.Core.Path.{_≡_, refl, sym, ap, _∙_}
 use mathlib.Core.Logic.{_⊎_, inl, inr, ⊎-elim}
 use mathlib.Core.List.{List, [], _∷_, _++_, append-assoc}
 use native.Mathlib.Omega.{arith}
+use borrow.Author.Tests.{eq-eqb, ne-eqb}
 use lib.ListN.{length}
 use Rattle.kinds.specs.State.{Value}
 use Rattle.rules.specs.World.{Member, here, there}
 use Rattle.rules.specs.Book as book
 use Rattle.rules.specs.Book.{Fact}
 use Rattle.rules.specs.Claim.{Before, LastWrite}
-use Rattle.rules.proofs.lists.Tables.{All, all-is, is-append}
+use Rattle.rules.specs.Snapshots.{oneAt, installsIn}
+use Rattle.rules.proofs.lists.Tables.{All, a-nil, a-cons, all-is, is-append}
 
 -- What stands in a list.
 pub none-is : {A : Type 0} {a : A} → Member a [] → ⊥
@@ -48,6 +50,33 @@ OfKind k = All (λ f. factKind f ≡ k)
 -- behind the book there are only facts of another kind
 pub old : {f : Fact} {k : ℕ} (b l : List Fact) → OfKind k l → (factKind f ≡ k → ⊥) → Member f (b ++ l) → Member f b
 old b l a n i = ⊎-elim (λ j. j) (λ j. absurd (n (all-is a j))) (is-append b l i)
+
+-- How many installs at a site: in a book with more behind it, of facts of another kind, and of one install.
+pub installs-append : (s : ℕ) (b l : List Fact) → installsIn s (b ++ l) ≡ installsIn s b + installsIn s l
+unfolding installsIn
+installs-append s [] l = omega arith
+installs-append s (f ∷ b) l = omega (arith, installs-append s b l)
+
+other-one : (s : ℕ) (f : Fact) → (3 ≡ factKind f → ⊥) → oneAt s f ≡ 0
+other-one s (book.began r t) n = refl
+other-one s (book.used t k) n = refl
+other-one s (book.wrote t k v) n = refl
+other-one s (book.committed t m c) n = refl
+other-one s (book.installed r m c) n = absurd (n refl)
+other-one s (book.replayed y m c) n = refl
+
+pub installs-other : {k : ℕ} {l : List Fact} (s : ℕ) → OfKind k l → (3 ≡ k → ⊥) → installsIn s l ≡ 0
+unfolding installsIn
+installs-other s a-nil n = refl
+installs-other s (a-cons {x = f} e a) n = omega (arith, other-one s f (λ z. n (z ∙ e)), installs-other s a n)
+
+pub install-here : (s n c : ℕ) → installsIn s (book.installed s n c ∷ []) ≡ 1
+unfolding installsIn
+install-here s n c = rw (eq-eqb s s refl)
+
+pub install-away : (s r n c : ℕ) → (s ≡ r → ⊥) → installsIn s (book.installed r n c ∷ []) ≡ 0
+unfolding installsIn
+install-away s r n c o = rw (ne-eqb s r o)
 
 -- Before.
 pub before-second : {f g : Fact} {b : List Fact} → Before f g b → Member g b

@@ -10,6 +10,7 @@ use Rattle.rules.specs.House.{coordinatorOf}
 use Rattle.rules.specs.Install.{entryOf}
 use Rattle.rules.specs.Book as book
 use Rattle.rules.specs.Book.{Fact}
+use Rattle.rules.specs.Snapshots.{installsIn}
 use Rattle.rules.proofs.lists.Tables.{regroup}
 use Rattle.rules.proofs.protocol.ProtocolTables.{Protocol, inst}
 use Rattle.rules.proofs.protocol.Protocol.{AtStage, courseAt, Move, begin, enlist, access, request, abort, cast, decide}
@@ -123,7 +124,7 @@ booked-steps {sites} {u = u} {b = b} h z (stream.more ss s) x =
 
 -- an empty book of the fresh tables
 pub booked-fresh : (sites : ℕ) → Booked sites [] freshProtocol
-unfolding freshProtocol
+unfolding freshProtocol installsIn
 booked-fresh sites =
     record {
       commits = record { commit = λ t n c x. absurd (none-is x); committed = λ t z. absurd (omega arith) };
@@ -141,6 +142,7 @@ booked-fresh sites =
         installed = λ s n c x. absurd (none-is x);
         installs = λ s j n c x. absurd (omega arith);
         once = λ s n c x. absurd (none-is (before-second x));
+        many = λ s. refl;
       };
       sees = record { seen = λ s t n c x. absurd (none-is (before-second x)); before = λ s t j n c x. absurd (true≢false (sym x)) };
     }

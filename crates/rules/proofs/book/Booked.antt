@@ -14,6 +14,7 @@ use Rattle.rules.specs.World.{Member}
 use Rattle.rules.specs.Book as book
 use Rattle.rules.specs.Book.{Fact}
 use Rattle.rules.specs.Claim.{Before, LastWrite}
+use Rattle.rules.specs.Snapshots.{installsIn}
 use Rattle.rules.proofs.protocol.ProtocolTables.{Protocol, inst}
 use Rattle.rules.proofs.protocol.Invariants.{at}
 
@@ -49,6 +50,7 @@ pub record Installs (b : List Fact) (p : Protocol) : Type 0 where
   pub installed : (s n c : ℕ) → Member (book.installed s n c) b → (i : ℕ) × (i < length (inst p s)) × PairAt p s i n c
   pub installs : (s i n c : ℕ) → i < length (inst p s) → PairAt p s i n c → Member (book.installed s n c) b
   pub once : (s n c : ℕ) → Before (book.installed s n c) (book.installed s n c) b → ⊥
+  pub many : (s : ℕ) → installsIn s b ≡ length (inst p s)
 
 pub record Sees (b : List Fact) (p : Protocol) : Type 0 where
   pub seen : (s t n c : ℕ) → Before (book.installed s n c) (book.began s t) b → (i : ℕ) × (i < p .snap s t) × PairAt p s i n c

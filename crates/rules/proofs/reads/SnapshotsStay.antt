@@ -1,21 +1,22 @@
 -- A search answers what the installs within its snapshot leave by the machine's tables. What is installed stays in its place, so after more
 -- calls the same installs are within the snapshot.
-use Prim.Native.Nat.{ℕ, _≤_}
+use Prim.Native.Nat.{ℕ, _+_, _-_, _≤_}
 use mathlib.Core.Path.{_≡_, refl, sym, ap, _∙_}
 use mathlib.Core.Bool.{false}
 use mathlib.Core.List.{List}
 use native.Mathlib.Omega.{arith}
-use borrow.Author.Tests.{eqb-true}
+use borrow.Author.Tests.{eqb-true, le-ltb}
 use lib.Dec.{eqb}
 use lib.ListN.{length}
 use Rattle.laws.specs.Choice.{by-test}
+use Rattle.kinds.specs.Sizes as sizes
 use Rattle.kinds.specs.declared.Site.{Site}
 use Rattle.kinds.specs.declared.Snapshot.{Snapshot}
 use Rattle.kinds.specs.declared.Answer.the-variants.{Refused, Searched}
 use Rattle.kinds.specs.State.{Value}
 use Rattle.rules.specs.House.{homeOf}
 use Rattle.rules.specs.KeysLaws.{by-order}
-use Rattle.rules.specs.History.{isForgotten, searchIn}
+use Rattle.rules.specs.History.{forgotten, isForgotten, searchIn}
 use Rattle.rules.specs.SearchLaws.{search-same}
 use Rattle.rules.specs.Valid.{siteOk}
 use Rattle.rules.specs.Access.{keyCode, searchOf}
@@ -24,12 +25,13 @@ use Rattle.rules.specs.World.{World, freshWorld, step, run}
 use Rattle.rules.specs.World as world
 use Rattle.rules.specs.Book.{Fact, bookFrom}
 use Rattle.rules.specs.Left.{LeftOf}
-use Rattle.rules.specs.Snapshots.{InstalledAt, installsAt, SnapshotsStay}
+use Rattle.rules.specs.Snapshots.{InstalledAt, installsIn, SnapshotsStay}
 use Rattle.rules.proofs.protocol.ProtocolTables.{Protocol, inst}
 use Rattle.rules.proofs.protocol.Invariants.{at, Invariant}
 use Rattle.rules.proofs.refine.Refines.{Refines}
 use Rattle.rules.proofs.refine.RefineStep.{inside}
 use Rattle.rules.proofs.stream.Stream.{Stream}
+use Rattle.rules.proofs.book.BookLists.{installs-append}
 use Rattle.rules.proofs.book.Booked.{home, Booked}
 use Rattle.rules.proofs.demand.Demand.{pair-of}
 use Rattle.rules.proofs.demand.Stands.{Stands, Keeps, list-stands, run-stands}
@@ -48,13 +50,11 @@ not-searched : (n m : ℕ) (v : Value) → Refused n ≡ Searched v m → ⊥
 not-searched n m v e = let z : _≡_ {A = ℕ} 0 1 = cc in omega arith
 
 record SearchIs (sites : ℕ) (p : Protocol) (s n k : ℕ) (v : Value) : Type 0 where
-  low : 1 ≤ s
-  high : s ≤ sites
   lives : home sites k ≡ s
   value : n ≤ length (inst p s) → v ≡ leftBelow (at p s) k n
 
 module _ {sites : ℕ} {w : World} {p : Protocol} (r : Refines sites w p) (b : BasesAre sites w p) (s n k looked : ℕ) (v : Value)
-    (kept : isForgotten (installsAt w s) (record { installs = n }) ≡ false) where
+    (kept : isForgotten (length (inst p s)) (record { installs = n }) ≡ false) where
   abbrev site : Site
   site = w .site s
 
@@ -73,12 +73,10 @@ module _ {sites : ℕ} {w : World} {p : Protocol} (r : Refines sites w p) (b : B
       let many = y .counters .installs-are in
       let base = b s k l h (low-key sites k s lives (omega (arith, r .few))) in
       record {
-        low = l;
-        high = h;
         lives = lives;
         value = λ few.
             sym e ∙ search-same (site .history) (site .counters .installs) (w .base s) snapshot k
-            ∙ rw many (version-left (site .history) (inst p s) (w .base s) snapshot k (y .history) few (rw many at kept) base);
+            ∙ rw many (version-left (site .history) (inst p s) (w .base s) snapshot k (y .history) few kept base);
       }
 
   search-is : step w (world.search s n k) .answer ≡ Searched v looked → SearchIs sites p s n k v
@@ -87,6 +85,11 @@ module _ {sites : ℕ} {w : World} {p : Protocol} (r : Refines sites w p) (b : B
       by-test (eqb code 0)
       (λ z. rw z (λ e. finds (eqb-true code 0 z) (searched _ v _ looked e)))
       (λ z. rw z (λ e. absurd (not-searched code looked v e)))
+
+-- what at most 32 installs came after is not forgotten
+not-lost : (n m : ℕ) → m ≤ n + sizes.history → isForgotten m (record { installs = n }) ≡ false
+unfolding isForgotten forgotten
+not-lost n m h = le-ltb n (m - sizes.history) (omega arith)
 
 -- After more calls.
 record Since (sites : ℕ) (v : Stream) (w : World) (u : Stream) : Type 0 where
@@ -125,10 +128,10 @@ module _ {sites : ℕ} (few : sites ≤ 8) {w x : World} {b c : List Fact} (firs
       (λ z. absurd (omega (arith, end .more .stays s (length (inst q s)) z .0)))
       (λ z. z)
 
-  left-then : SearchIs sites q s (installsAt w s) k v → LeftOf b (InstalledAt b s) k v
+  left-then : SearchIs sites q s (installsIn s b) k v → LeftOf b (InstalledAt b s) k v
   left-then found =
       let i = first .standing .invariant in
-      let many = first .is .refines .site s (found .low) (found .high) .counters .installs-are in
+      let many = first .booked .installs .many s in
       let same = left-same (at q s) (at p s) k (length (inst p s)) (λ j l. end .more .stays s j l .1) in
       let value : v ≡ leftBelow (at p s) k (length (inst p s)) = rw many at (found .value) longer ∙ same in
       left-of few i (first .booked) s k (found .lives) (all-counted few i (first .booked) s) v
@@ -147,10 +150,12 @@ begun first =
 
 pub snapshots-stay : SnapshotsStay
 unfolding SnapshotsStay
-snapshots-stay sites calls more some few lawful then s k looked v kept e =
+snapshots-stay sites calls more some few lawful then s k looked v late e =
     let w = run (freshWorld sites) calls in
+    let b = bookFrom (freshWorld sites) calls in
     let first = list-stands (Reads sites) few (call-reads few) some (fresh-reads sites) calls lawful in
     let v₀ = first .stream in
-    let end = run-stands (Since sites v₀) few (call-since few v₀) more w (bookFrom (freshWorld sites) calls) then (begun first) in
-    left-then few first end s k v
-    (search-is (end .is .refines) (end .more .reads .bases) s (installsAt w s) k looked v kept e)
+    let end = run-stands (Since sites v₀) few (call-since few v₀) more w b then (begun first) in
+    let kept = not-lost (installsIn s b) (length (inst (end .stream .protocol) s))
+    (omega (arith, end .booked .installs .many s, installs-append s b (bookFrom w more))) in
+    left-then few first end s k v (search-is (end .is .refines) (end .more .reads .bases) s (installsIn s b) k looked v kept e)
