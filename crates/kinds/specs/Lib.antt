@@ -3,5 +3,6 @@ pub mod Sizes
 pub mod Kind
 pub mod Word
 pub mod Stage
+pub mod Desk
 pub mod Reason
 pub mod State

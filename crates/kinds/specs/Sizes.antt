@@ -28,6 +28,9 @@ reads = 16
 abbrev pub writes : ℕ
 writes = 16
 
+abbrev pub proofingWrites : ℕ
+proofingWrites = 4
+
 abbrev pub history : ℕ
 history = 32
 
@@ -86,7 +89,7 @@ abbrev pub keyset : ℕ
 keyset = 2 + reads + writes + writes
 
 abbrev pub place : ℕ
-place = 6 + keyset
+place = 7 + keyset
 
 abbrev pub liveWords : ℕ
 liveWords = live * place

@@ -13,6 +13,7 @@ use Rattle.kinds.specs.declared.Seat.{Seat}
 use Rattle.kinds.specs.declared.Site.{Site}
 use Rattle.kinds.specs.Sizes as sizes
 use Rattle.kinds.specs.Stage as stage
+use Rattle.kinds.specs.Desk as desk
 
 abbrev pub Value : Type 0
 Value = ℕ
@@ -32,7 +33,7 @@ abbrev pub noSnapshot : Snapshot
 noSnapshot = record { installs = 0 }
 
 abbrev pub pastSub : Sub
-pastSub = record { tx = 0; snapshot = noSnapshot; course = noCourse; keys = pastKeys }
+pastSub = record { tx = 0; desk = desk.house; snapshot = noSnapshot; course = noCourse; keys = pastKeys }
 
 abbrev pub pastEntry : Entry
 pastEntry = record { tx = 0; mask = 0; number = 0; keys = pastKeys }
@@ -51,7 +52,7 @@ noKeys = record {
 }
 
 unfoldable pub noSub : Sub
-noSub = record { tx = 0; snapshot = noSnapshot; course = noCourse; keys = noKeys }
+noSub = record { tx = 0; desk = desk.house; snapshot = noSnapshot; course = noCourse; keys = noKeys }
 
 unfoldable pub noEntry : Entry
 noEntry = record { tx = 0; mask = 0; number = 0; keys = noKeys }
@@ -83,7 +84,7 @@ abbrev pub withInstalls : Counters → ℕ → Counters
 withInstalls c n = record { own = c .own; clock = c .clock; serial = c .serial; installs = n }
 
 abbrev pub withCourse : Sub → Course → Sub
-withCourse b c = record { tx = b .tx; snapshot = b .snapshot; course = c; keys = b .keys }
+withCourse b c = record { tx = b .tx; desk = b .desk; snapshot = b .snapshot; course = c; keys = b .keys }
 
 abbrev pub withKeys : Sub → Keys → Sub
-withKeys b k = record { tx = b .tx; snapshot = b .snapshot; course = b .course; keys = k }
+withKeys b k = record { tx = b .tx; desk = b .desk; snapshot = b .snapshot; course = b .course; keys = k }

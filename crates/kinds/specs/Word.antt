@@ -108,8 +108,11 @@ placeReason = 4
 abbrev pub placeListed : ℕ
 placeListed = 5
 
+abbrev pub placeDesk : ℕ
+placeDesk = 6
+
 abbrev pub placeKeys : ℕ
-placeKeys = 6
+placeKeys = 7
 
 abbrev pub slotTx : ℕ
 slotTx = 0

@@ -1,4 +1,5 @@
 // The types of the store's state, messages, records and answers, and every size of a house.
+pub mod desk;
 pub mod kind;
 pub mod reason;
 pub mod sizes;
@@ -51,9 +52,10 @@ pub struct Course {
     pub listed: usize,
 }
 
-// A subtransaction: a live transaction's part at this site.
+// A subtransaction: a live transaction's part at this site. `desk` is one of `desk`'s numbers.
 pub struct Sub {
     pub tx: u64,
+    pub desk: u64,
     pub snapshot: Snapshot,
     pub course: Course,
     pub keys: Keys,

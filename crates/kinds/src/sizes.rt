@@ -19,6 +19,8 @@ pub const LIVE: usize = 16;
 pub const READS: usize = 16;
 
 pub const WRITES: usize = 16;
+// Keys that a part for the proofing desk may write.
+pub const PROOFING_WRITES: usize = 4;
 // Installed ones that a site remembers.
 pub const HISTORY: usize = 32;
 // Parts that the merger queues for a site.
@@ -61,8 +63,8 @@ pub const COPY: usize = COPY_HEADER + KEYS;
 
 // Words of a part's keys: two counts, the keys read, the keys written and their values.
 pub const KEYSET: usize = 2 + READS + WRITES + WRITES;
-// Words of a place of the live table beside its seat: snapshot and course, then the keys.
-pub const PLACE: usize = 6 + KEYSET;
+// Words of a place of the live table beside its seat: snapshot, course and desk, then the keys.
+pub const PLACE: usize = 7 + KEYSET;
 
 pub const LIVE_WORDS: usize = LIVE * PLACE;
 // Words of a slot of the history: transaction, mask and number, then the keys.

@@ -73,7 +73,9 @@ pub const PLACE_REASON: usize = 4;
 
 pub const PLACE_LISTED: usize = 5;
 
-pub const PLACE_KEYS: usize = 6;
+pub const PLACE_DESK: usize = 6;
+
+pub const PLACE_KEYS: usize = 7;
 
 pub const SLOT_TX: usize = 0;
 

@@ -1,4 +1,4 @@
--- C8 to C14, Q5.1, Q5.4 and Q5.5: read, write and search. Nobody waits: the first writer of a key wins.
+-- C8 to C14, Q5.1, Q5.4, Q5.5, Q10.4 and Q10.5: read, write and search. Nobody waits: the first writer of a key wins.
 use Prim.Native.Nat.{ℕ}
 use mathlib.Core.List.{List, [], _∷_, _++_}
 use mathlib.Core.Bool.{Bool, not}
@@ -16,6 +16,7 @@ use Rattle.kinds.specs.declared.Answer.the-variants.{Refused, Found, Searched}
 use Rattle.kinds.specs.declared.Snapshot.{Snapshot}
 use Rattle.kinds.specs.State.{Value, subAt, withKeys}
 use Rattle.rules.specs.House.{homeOf, isKey}
+use Rattle.rules.specs.Desk.{writeLimit}
 use Rattle.rules.specs.Keys.{wroteKey, readKey, wroteValue, withRead, withWrite}
 use Rattle.rules.specs.Live.{placeOf, keyHeld, stageAt}
 use Rattle.rules.specs.History.{isForgotten, isNewer, searchIn}
@@ -87,23 +88,23 @@ searchOf s base p k =
     let found = searchIn (s .history) (s .counters .installs) base p k in
     pick (eqb code 0) (Searched (found .value) (found .looked)) (Refused code)
 
--- Write: kept privately; the key is held until install or abort.
-abbrev pub writeCauses : Bool → Bool → Bool → ℕ → List Cause
-writeCauses lost held newer wrote =
+-- Write: kept privately; the key is held until install or abort. `most` is how many keys the part's desk lets it write.
+abbrev pub writeCauses : Bool → Bool → Bool → ℕ → ℕ → List Cause
+writeCauses lost held newer most wrote =
     cause lost reason.forgotten
     ∷ cause held reason.held
     ∷ cause newer reason.newer
-    ∷ cause (leb sizes.writes wrote) reason.tooMany
+    ∷ cause (leb most wrote) reason.tooMany
     ∷ []
 
-unfoldable pub writeCode : Bool → Bool → Bool → ℕ → ℕ
-writeCode lost held newer wrote = codeOf (writeCauses lost held newer wrote)
+unfoldable pub writeCode : Bool → Bool → Bool → ℕ → ℕ → ℕ
+writeCode lost held newer most wrote = codeOf (writeCauses lost held newer most wrote)
 
 unfoldable pub writeCodeAt : Site → ℕ → ℕ → ℕ
 writeCodeAt s place k =
     let b = subAt s place in
     writeCode (isForgotten (s .counters .installs) (b .snapshot)) (keyHeld (s .live) place k)
-    (isNewer (s .history) (s .counters .installs) (b .snapshot) k) (b .keys .wrote)
+    (isNewer (s .history) (s .counters .installs) (b .snapshot) k) (writeLimit (b .desk)) (b .keys .wrote)
 
 unfoldable pub written : Site → ℕ → ℕ → Value → Effect
 written s place k v =

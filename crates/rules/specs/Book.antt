@@ -54,7 +54,7 @@ replays copy = onReplayed [] (λ n c. replayed copy n c ∷ [])
 
 -- what one call adds; refused calls leave it
 abbrev pub factsOf : Call → Answer → List ℕ → List Fact
-factsOf (world.begin s) a words = begins s a
+factsOf (world.begin s d) a words = begins s a
 factsOf (world.read s tx key) a words = uses tx key a
 factsOf (world.write s tx key v) a words = writes tx key v a
 factsOf (world.commit s out tx) a words = commits tx a

@@ -80,22 +80,22 @@ read-clear lost has read e =
       room = λ h. leb-false sizes.reads read (not-both (not has) (leb sizes.reads read) (clear-at l 1 refl e) (rw h));
     }
 
-pub record WriteClear (lost : Bool) (held : Bool) (newer : Bool) (wrote : ℕ) : Type 0 where
+pub record WriteClear (lost : Bool) (held : Bool) (newer : Bool) (most wrote : ℕ) : Type 0 where
   pub kept : lost ≡ false
   pub free : held ≡ false
   pub latest : newer ≡ false
-  pub room : wrote < sizes.writes
+  pub room : wrote < most
 
-pub write-clear : (lost : Bool) (held : Bool) (newer : Bool) (wrote : ℕ) → writeCode lost held newer wrote ≡ 0
-    → WriteClear lost held newer wrote
+pub write-clear : (lost : Bool) (held : Bool) (newer : Bool) (most wrote : ℕ) → writeCode lost held newer most wrote ≡ 0
+    → WriteClear lost held newer most wrote
 unfolding writeCode
-write-clear lost held newer wrote e =
-    let l = writeCauses lost held newer wrote in
+write-clear lost held newer most wrote e =
+    let l = writeCauses lost held newer most wrote in
     record {
       kept = (clear-at l 0 refl e);
       free = (clear-at l 1 refl e);
       latest = (clear-at l 2 refl e);
-      room = leb-false sizes.writes wrote (clear-at l 3 refl e);
+      room = leb-false most wrote (clear-at l 3 refl e);
     }
 
 pub record EnlistClear (ok : Bool) (room : ℕ) (known : Bool) (place : ℕ) (mine : Bool) : Type 0 where

@@ -25,11 +25,12 @@ use Rattle.rules.specs.Send.{messagesTo, stepCount, stepRecipients, Coun
 use Rattle.rules.specs.Live.{allHeard}
 use Rattle.rules.specs.Effect.{Change}
 
--- a part that begins now: it sees the installs so far
-unfoldable pub newSub : ℕ → ℕ → ℕ → Sub
-newSub tx mask installs =
+-- a part that begins now, for a desk: it sees the installs so far
+unfoldable pub newSub : ℕ → ℕ → ℕ → ℕ → Sub
+newSub tx d mask installs =
     record {
       tx = tx;
+      desk = d;
       snapshot = record { installs = installs };
       course = record { stage = stage.active; mask = mask; number = 0; heard = 0; reason = 0; listed = 0 };
       keys = noKeys;
@@ -101,7 +102,7 @@ leaving b c = record { answer = c .answer; words = c .words; turn = withSubOf (c
 
 -- The coordinator's steps.
 
--- enlist: a participant more, and JOIN to it
+-- enlist: a participant more, and JOIN to it, which says the part's desk (Q10.3)
 unfoldable pub withParticipant : Course → ℕ → Course
 withParticipant c site =
     record {
@@ -114,7 +115,7 @@ withParticipant c site =
     }
 
 unfoldable pub enlistStep : Turn → ℕ → Change
-enlistStep t site = sendTo (withCourseOf t (withParticipant (t .sub .course) site)) kind.join site 0 0 []
+enlistStep t site = sendTo (withCourseOf t (withParticipant (t .sub .course) site)) kind.join site 0 (t .sub .desk) []
 
 -- a reply of this round is still to come from that site
 unfoldable pub isOutstanding : Course → ℕ → Bool

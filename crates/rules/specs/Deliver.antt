@@ -1,4 +1,4 @@
--- M18 to M30, and C3 to C50: a message taken, by its kind.
+-- M18 to M30, C3 to C50 and Q10.3: a message taken, by its kind.
 use Prim.Native.Nat.{ℕ, _+_, _-_, _*_, _≤_, _<_}
 use mathlib.Core.List.{List, [], _∷_}
 use mathlib.Core.Bool.{Bool, true, false, not}
@@ -11,6 +11,7 @@ use Rattle.kinds.specs.Sizes as sizes
 use Rattle.kinds.specs.Stage as stage
 use Rattle.kinds.specs.Reason as reason
 use Rattle.kinds.specs.Kind as kind
+use Rattle.kinds.specs.Desk as desk
 use Rattle.kinds.specs.declared.Course.{Course}
 use Rattle.kinds.specs.declared.MessageHead.{MessageHead}
 use Rattle.kinds.specs.declared.Site.{Site}
@@ -77,10 +78,10 @@ spentToAll s mask = not (countsLow (s .channels .sent) mask (s .counters .own))
 abbrev pub stepUnless : ℕ → Site → ℕ → Change → Effect
 stepUnless code s place c = unless code s [] (changed s place c [])
 
--- JOIN: the part begins, or is answered 12 where 16 are live.
-unfoldable pub joinTurn : Site → MessageHead → Turn
-joinTurn s h =
-    record { counters = s .counters; channels = takenFrom (s .channels) (h .from); sub = newSub (h .tx) 0 (s .counters .installs) }
+-- JOIN: the part begins for the desk that JOIN says, or is answered 12 where 16 are live.
+unfoldable pub joinTurn : Site → MessageHead → ℕ → Turn
+joinTurn s h d =
+    record { counters = s .counters; channels = takenFrom (s .channels) (h .from); sub = newSub (h .tx) d 0 (s .counters .installs) }
 
 -- without a part
 unfoldable pub spoken : Site → Change → Effect
@@ -95,8 +96,8 @@ spoken s c =
 unfoldable pub joinAt : Site → MessageHead → ℕ → Effect
 joinAt s h free =
     pick (ltb free sizes.live)
-    (changed s free (sendTo (joinTurn s h) kind.joined (h .from) 0 0 []) [])
-    (spoken s (sendTo (joinTurn s h) kind.joined (h .from) 0 reason.full []))
+    (changed s free (sendTo (joinTurn s h (h .argument)) kind.joined (h .from) 0 0 []) [])
+    (spoken s (sendTo (joinTurn s h (h .argument)) kind.joined (h .from) 0 reason.full []))
 
 unfoldable pub takeJoin : Site → MessageHead → ℕ → Effect
 takeJoin s h place = unless (replyCode (leb sizes.live place) (spentTo s (h .from))) s [] (joinAt s h (freePlace (s .live)))
@@ -120,7 +121,7 @@ takePrepare s h place =
 
 unfoldable pub passPrepare : Site → MessageHead → Effect
 passPrepare s h =
-    let t = raise (joinTurn s h) (h .clock) in
+    let t = raise (joinTurn s h desk.house) (h .clock) in
     unless (replyCode true (spentTo s (h .from))) s [] (spoken s (sendTo t kind.vote (h .from) (t .counters .clock) reason.unknown []))
 
 -- CONC: appended to the gathered lists; the last one brings the vote on their join

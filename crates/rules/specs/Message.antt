@@ -1,4 +1,4 @@
--- M1 to M17: messages. One layout gives what is written, what is read and what is refused.
+-- M1 to M17 and Q10.3: messages. One layout gives what is written, what is read and what is refused.
 use Prim.Native.Nat.{ℕ, _+_, _-_, _*_, _/_}
 use mathlib.Core.Path.{_≡_}
 use mathlib.Core.List.{List, [], _∷_, _++_}
@@ -14,6 +14,7 @@ use Rattle.kinds.specs.Reason as reason
 use Rattle.kinds.specs.declared.House.{House}
 use Rattle.kinds.specs.declared.MessageHead.{MessageHead}
 use Rattle.rules.specs.House.{isSite, isTx, coordinatorOf, inMask, isMask}
+use Rattle.rules.specs.Desk.{isDesk}
 
 -- The layout.
 
@@ -78,15 +79,16 @@ coordinatorEnd h = pick (toCoordinator (h .kind)) (h .to) (h .from)
 unfoldable pub carriesClock : ℕ → Bool
 carriesClock k = some (eqb k kind.prepare ∷ eqb k kind.vote ∷ eqb k kind.commit ∷ [])
 
--- JOINED 0 or 12; PREPARE participants, both sites among them; VOTE 0, 5, 18 or 19; the others 0
+-- JOIN a desk; JOINED 0 or 12; PREPARE participants, both sites among them; VOTE 0, 5, 18 or 19; the others 0
 unfoldable pub argumentOk : House → MessageHead → Bool
 argumentOk o h =
-    pick (eqb (h .kind) kind.joined) (some (eqb (h .argument) 0 ∷ eqb (h .argument) reason.full ∷ []))
+    pick (eqb (h .kind) kind.join) (isDesk (h .argument))
+    (pick (eqb (h .kind) kind.joined) (some (eqb (h .argument) 0 ∷ eqb (h .argument) reason.full ∷ []))
     (pick (eqb (h .kind) kind.prepare) (every (isMask o (h .argument) ∷ inMask (h .argument) (h .from) ∷ inMask (h .argument) (h .to) ∷ []))
     (pick (eqb (h .kind) kind.vote)
     (some (eqb (h .argument) 0 ∷ eqb (h .argument) reason.unknown ∷ eqb (h .argument) reason.conflict
     ∷ eqb (h .argument) reason.uncertain ∷ []))
-    (eqb (h .argument) 0)))
+    (eqb (h .argument) 0))))
 
 -- at most 47 entries in a CONC, 376 in a CERT, none elsewhere
 unfoldable pub mostEntries : ℕ → ℕ

@@ -12,6 +12,7 @@ use Rattle.kinds.specs.declared.House.{House}
 use Rattle.kinds.specs.declared.Site.{Site}
 use Rattle.kinds.specs.declared.Answer.the-variants.{Refused}
 use Rattle.rules.specs.House.{isSite, isKey}
+use Rattle.rules.specs.Desk.{isDesk}
 use Rattle.rules.specs.Message.{messageHead, messageOk}
 use Rattle.rules.specs.Record.{partOk, stateOk, mergedOk}
 use Rattle.rules.specs.Valid.{handedOk}
@@ -21,7 +22,7 @@ use Rattle.rules.specs.World.{Call, World, Member, Lawful, freshWorld, s
 
 -- Cause 2: what is handed in is impossible by itself, whatever state the list left
 abbrev pub Impossible : House → Call → Type 0
-Impossible o (world.begin s) = isSite o s ≡ false
+Impossible o (world.begin s d) = (isSite o s ≡ false) ⊎ (isDesk d ≡ false)
 Impossible o (world.enlist s out tx site) = (isSite o s ≡ false) ⊎ (isSite o site ≡ false)
 Impossible o (world.read s tx key) = (isSite o s ≡ false) ⊎ (isKey o key ≡ false)
 Impossible o (world.write s tx key v) = (isSite o s ≡ false) ⊎ (isKey o key ≡ false)

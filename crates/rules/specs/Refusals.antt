@@ -19,6 +19,7 @@ use Rattle.kinds.specs.declared.Merger.{Merger}
 use Rattle.kinds.specs.declared.Site.{Site}
 use Rattle.kinds.specs.State.{Value, subAt}
 use Rattle.rules.specs.House.{isSite, inMask}
+use Rattle.rules.specs.Desk.{isDesk, writeLimit}
 use Rattle.rules.specs.Message.{messageOk, messageHead}
 use Rattle.rules.specs.Record.{recordHead}
 use Rattle.rules.specs.Send.{countsLow}
@@ -74,8 +75,8 @@ order =
     ∷ []
 
 -- Every cause of each call. Causes 8 to 11 are none for a key that the transaction already wrote.
-unfoldable pub beginHas : Site → List Cause
-beginHas s = beginCauses (siteOk s) (s .counters) (freePlace (s .live))
+unfoldable pub beginHas : Site → ℕ → List Cause
+beginHas s d = beginCauses (siteOk s) (isDesk d) (s .counters) (freePlace (s .live))
 
 unfoldable pub accessHas : Site → ℕ → ℕ → ℕ → List Cause
 accessHas s room tx k =
@@ -95,7 +96,8 @@ writeHas s tx k =
     let n = s .counters .installs in
     accessHas s sizes.keys tx k
     ++ pick (wroteKey (b .keys) k) []
-    (writeCauses (isForgotten n (b .snapshot)) (keyHeld (s .live) place k) (isNewer (s .history) n (b .snapshot) k) (b .keys .wrote))
+    (writeCauses (isForgotten n (b .snapshot)) (keyHeld (s .live) place k) (isNewer (s .history) n (b .snapshot) k) (writeLimit (b .desk))
+    (b .keys .wrote))
 
 unfoldable pub searchHas : Site → List Value → ℕ → List Cause
 searchHas s base k = keyCauses (siteOk s) (length base) (s .house) (s .counters .own) k
@@ -177,7 +179,7 @@ unfoldable pub emitHas : Merger → ℕ → List ℕ → List Cause
 emitHas g room queues = emitCauses g queues room ++ dueCauses g (headsOf queues (g .house .sites)) (leastSite g queues)
 
 abbrev pub causesOf : World → Call → List Cause
-causesOf w (world.begin s) = beginHas (w .site s)
+causesOf w (world.begin s d) = beginHas (w .site s) d
 causesOf w (world.enlist s out tx site) = enlistHas (w .site s) (length out) tx site
 causesOf w (world.read s tx key) = readHas (w .site s) (w .base s) tx key
 causesOf w (world.write s tx key v) = writeHas (w .site s) tx key
@@ -206,7 +208,7 @@ pub record FirstCause : Type 0 where
 
 -- The numbers that each call is ever refused with; a start is refused 2 only.
 abbrev pub numbersOf : Call → List ℕ
-numbersOf (world.begin s) = 2 ∷ 12 ∷ 13 ∷ []
+numbersOf (world.begin s d) = 2 ∷ 12 ∷ 13 ∷ []
 numbersOf (world.enlist s out tx site) = 1 ∷ 2 ∷ 5 ∷ 26 ∷ 27 ∷ 13 ∷ []
 numbersOf (world.read s tx key) = 2 ∷ 3 ∷ 5 ∷ 27 ∷ 8 ∷ 11 ∷ []
 numbersOf (world.write s tx key v) = 2 ∷ 3 ∷ 5 ∷ 27 ∷ 8 ∷ 9 ∷ 10 ∷ 11 ∷ []

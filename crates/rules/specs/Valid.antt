@@ -1,5 +1,6 @@
--- S19: a handed state whose counts, keys or masks are past these sizes gives 2. A number that is no transaction of
--- the house counts with them: it goes out in messages that every receiver refuses 2.
+-- S19 and Q10.6: a handed state whose counts, keys or masks are past these sizes gives 2, and so does one with a desk that is none, or with
+-- more writes than the desk allows. A number that is no transaction of the house counts with them: it goes out in messages that every
+-- receiver refuses 2.
 use Prim.Native.Nat.{ℕ, _+_, _*_}
 use mathlib.Core.List.{List, [], _∷_}
 use mathlib.Core.Bool.{Bool, true, not}
@@ -11,12 +12,14 @@ use Rattle.kinds.specs.Sizes as sizes
 use Rattle.kinds.specs.Stage as stage
 use Rattle.kinds.specs.declared.House.{House}
 use Rattle.kinds.specs.declared.Course.{Course}
+use Rattle.kinds.specs.declared.Keys.{Keys}
 use Rattle.kinds.specs.declared.Sub.{Sub}
 use Rattle.kinds.specs.declared.Entry.{Entry}
 use Rattle.kinds.specs.declared.Counters.{Counters}
 use Rattle.kinds.specs.declared.Site.{Site}
 use Rattle.kinds.specs.State.{pastSub, pastEntry}
 use Rattle.rules.specs.House.{houseOk, isSite, isTx, isMask, inMask, participants}
+use Rattle.rules.specs.Desk.{isDesk, writeLimit}
 use Rattle.rules.specs.Message.{entryPossible}
 use Rattle.rules.specs.Keys.{keysOk}
 use Rattle.rules.specs.History.{remembered}
@@ -31,14 +34,22 @@ courseOk o own c =
     ∷ leb (c .listed) (sizes.concEntries * (participants (c .heard) + 1))
     ∷ [])
 
--- what a held part puts into messages: a later field that goes out in one is asked for here
+-- a desk, and at most as many keys written as it allows
+unfoldable pub deskOk : ℕ → Keys → Bool
+deskOk d b = every (isDesk d ∷ leb (b .wrote) (writeLimit d) ∷ [])
+
+-- what a held part puts into messages, beside its desk
 unfoldable pub heldOk : House → Sub → Bool
 heldOk o b = every (isTx o (b .tx) ∷ [])
 
 -- a free place is not asked what it would say
 unfoldable pub subOk : House → ℕ → Sub → Bool
 subOk o own b =
-    every (courseOk o own (b .course) ∷ keysOk o own (b .keys) ∷ pick (eqb (b .course .stage) stage.free) true (heldOk o b) ∷ [])
+    every (courseOk o own (b .course)
+    ∷ keysOk o own (b .keys)
+    ∷ deskOk (b .desk) (b .keys)
+    ∷ pick (eqb (b .course .stage) stage.free) true (heldOk o b)
+    ∷ [])
 
 -- an install in a slot of the history; one that is remembered goes out in messages too
 unfoldable pub slotOk : House → ℕ → Bool → Entry → Bool

@@ -1,4 +1,4 @@
--- S19: what a state that is not refused 2 satisfies, by name.
+-- S19 and Q10.6: what a state that is not refused 2 satisfies, by name.
 use Prim.Native.Nat.{ℕ, zero, suc, _+_, _-_, _*_, _^_, _≤_, _<_}
 use mathlib.Core.Path.{_≡_}
 use mathlib.Core.List.{List, [], _∷_}
@@ -22,12 +22,13 @@ use Rattle.kinds.specs.declared.Counters.{Counters}
 use Rattle.kinds.specs.declared.Site.{Site}
 use Rattle.kinds.specs.State.{pastSub, pastEntry, subAt, entryAt}
 use Rattle.rules.specs.House.{houseOk, isSite, isTx, homeOf, isMask, inMask, participants, participants-sites}
+use Rattle.rules.specs.Desk.{isDesk, writeLimit}
 use Rattle.rules.specs.Keys.{keysAt, keysOk}
 use Rattle.rules.specs.History.{forgotten, remembered, slotOf, recall}
 use Rattle.rules.specs.HistoryLaws.{slot-low, slot-used}
 use Rattle.rules.specs.Message.{entryPossible}
-use Rattle.rules.specs.Valid.{courseOk, heldOk, subOk, slotOk, countersOk, liveOk, historyOk, siteOk, listAt, gatheredOk, listsOk}
-use Rattle.rules.specs.Valid.{handedOk}
+use Rattle.rules.specs.Valid.{courseOk, deskOk, heldOk, subOk, slotOk, countersOk, liveOk, historyOk, siteOk, listAt, gatheredOk}
+use Rattle.rules.specs.Valid.{listsOk, handedOk}
 
 -- The house and the site in it.
 pub record ValidHouse (o : House) (own : ℕ) : Type 0 where
@@ -59,6 +60,8 @@ pub record ValidCourse (o : House) (own : ℕ) (c : Course) : Type 0 where
 pub record ValidSub (o : House) (own : ℕ) (b : Sub) : Type 0 where
   pub course : ValidCourse o own (b .course)
   pub keys : ValidKeys o own (b .keys)
+  pub desk : isDesk (b .desk) ≡ true
+  pub few : b .keys .wrote ≤ writeLimit (b .desk)
   pub tx : (b .course .stage ≡ stage.free → ⊥) → isTx o (b .tx) ≡ true
 
 pub record ValidEntry (o : House) (own : ℕ) (used : Bool) (e : Entry) : Type 0 where
@@ -178,14 +181,17 @@ valid-course o own c h t =
     }
 
 pub valid-sub : (o : House) (own : ℕ) (b : Sub) → ValidHouse o own → subOk o own b ≡ true → ValidSub o own b
-unfolding subOk heldOk
+unfolding subOk deskOk heldOk
 valid-sub o own b h t =
+    let desk = isDesk (b .desk) ∷ leb (b .keys .wrote) (writeLimit (b .desk)) ∷ [] in
     let held = every (isTx o (b .tx) ∷ []) in
-    let l = courseOk o own (b .course) ∷ keysOk o own (b .keys) ∷ pick (eqb (b .course .stage) stage.free) true held ∷ [] in
+    let l = courseOk o own (b .course) ∷ keysOk o own (b .keys) ∷ every desk ∷ pick (eqb (b .course .stage) stage.free) true held ∷ [] in
     record {
       course = valid-course o own (b .course) h (every-at l 0 t);
       keys = valid-keys o own (b .keys) (omega arith) (every-at l 1 t);
-      tx = λ n. every-at (isTx o (b .tx) ∷ []) 0 (rw (ne-eqb (b .course .stage) stage.free n) at (every-at l 2 t));
+      desk = every-at desk 0 (every-at l 2 t);
+      few = leb-true (b .keys .wrote) (writeLimit (b .desk)) (every-at desk 1 (every-at l 2 t));
+      tx = λ n. every-at (isTx o (b .tx) ∷ []) 0 (rw (ne-eqb (b .course .stage) stage.free n) at (every-at l 3 t));
     }
 
 pub valid-entry : (o : House) (own : ℕ) (used : Bool) (e : Entry) → ValidHouse o own → slotOk o own used e ≡ true → ValidEntry o own used e
@@ -239,6 +245,10 @@ valid-own s t = let h = valid-site s t .house in (h .own-low, omega (arith, h .o
 -- What the scans of the tables ask for.
 pub live-wrote : (s : Site) → siteOk s ≡ true → (i : ℕ) → i < 16 → subAt s i .keys .wrote ≤ 16
 live-wrote s t i h = valid-site s t .part i h .keys .few-wrote
+
+-- a part wrote no more than its desk allows
+pub live-few : (s : Site) → siteOk s ≡ true → (i : ℕ) → i < 16 → subAt s i .keys .wrote ≤ writeLimit (subAt s i .desk)
+live-few s t i h = valid-site s t .part i h .few
 
 -- each remembered install lies in a slot of the history
 pub valid-recall : (s : Site) → siteOk s ≡ true → (i : ℕ) → (let n = forgotten (s .counters .installs) + i in

@@ -31,7 +31,7 @@ upd f i a j = pick (eqb j i) a (f j)
 
 -- A call with all that it is handed. `out` is the outgoing buffer, m the words of a message or a record, of any length and content.
 pub data Call : Type 0 where
-  begin : (s : ℕ) → Call
+  begin : (s desk : ℕ) → Call
   enlist : (s : ℕ) (out : List ℕ) (tx site : ℕ) → Call
   read : (s tx key : ℕ) → Call
   write : (s tx key : ℕ) (value : Value) → Call
@@ -208,7 +208,7 @@ replayStep w c m e = copyStep w c e (stepTaken (e .answer) (w .stream) (w .repla
 
 -- a call, by its own definition, on the state that the list left
 unfoldable pub step : World → Call → Result
-step w (begin s) = siteStep w s (beginOf (w .site s)) (w .base s) (w .lists s)
+step w (begin s d) = siteStep w s (beginOf (w .site s) d) (w .base s) (w .lists s)
 step w (enlist s out tx site) = siteStep w s (enlistOf (w .site s) (length out) tx site) (w .base s) (w .lists s)
 step w (read s tx key) = siteStep w s (readOf (w .site s) (w .base s) tx key) (w .base s) (w .lists s)
 step w (write s tx key v) = siteStep w s (writeOf (w .site s) tx key v) (w .base s) (w .lists s)
@@ -240,7 +240,7 @@ abbrev pub Handed : World → Call → Type 0
 Handed w (message s out m) = Member m (w .sent) ⊎ (Logged w m ⊎ Member m (w .stream))
 Handed w (merge m) = Member m (w .sent) ⊎ (((s : ℕ) × Reached (w .log s) (w .merged s) m) ⊎ Member m (w .stream))
 Handed w (replay c m) = Member m (w .sent) ⊎ (Logged w m ⊎ Reached (w .stream) (w .replayed c) m)
-Handed w (begin s) = Unit {0}
+Handed w (begin s d) = Unit {0}
 Handed w (enlist s out tx site) = Unit {0}
 Handed w (read s tx key) = Unit {0}
 Handed w (write s tx key v) = Unit {0}

@@ -58,11 +58,11 @@ module _ {sites : ℕ} {p : Protocol} {b : List Fact} (i : Invariant sites p) (x
   undecided s t c a = i .rounds .undecided t (rw c (λ f. omega arith)) (rw c (λ f. omega arith))
 
   step : (q : Protocol) (m : Move sites p q) → Booked sites (b ++ told m) q
-  step q (begin s t l m n e) =
+  step q (begin s t d l m n e) =
       booked-began
       (record { none = new-tx sites p s t (i .parts) n e s; has = refl; snap = refl; keys = refl; num = refl; parts = λ j. refl }) x
   step q (enlist s t r c a l m n o) = booked-quiet same x
-  step q (access s t k fs a v w f) =
+  step q (access s t k fs a v w f m) =
       let h : Held p s t = λ z. omega arith in
       let e = i .parts .keys s t h in
       booked-accessed (record { begun = i .parts .has s t h; has = refl; snap = refl; keys = refl; num = refl; parts = λ j. refl }) x
@@ -86,10 +86,10 @@ module _ {sites : ℕ} {p : Protocol} {b : List Fact} (i : Invariant sites p) (x
       (booked-installed
       (record { low = i .parts .low; new = new s t a; has = refl; snap = refl; keys = refl; num = refl; log = refl }) x) a
   step q (report s n a) = booked-quiet (refl, refl, refl, refl, inst-report p s n) x
-  step q (joins a s t n f) =
+  step q (joins a s t d n f) =
       booked-began
-      (record { none = new-join sites p a s t (i .posts) n; has = refl; snap = refl; keys = refl; num = refl; parts = λ j. refl }) x
-  step q (full a s t r n z) = booked-quiet same x
+      (record { none = new-join sites p a s t d (i .posts) n; has = refl; snap = refl; keys = refl; num = refl; parts = λ j. refl }) x
+  step q (full a s t d r n z) = booked-quiet same x
   step q (joined a s t r n y o) = booked-quiet same x
   step q (prepared a s t n m es y z v) = booked-quiet same x
   step q (lost a s t n m r y z o) = booked-quiet same x

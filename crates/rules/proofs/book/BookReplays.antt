@@ -165,7 +165,7 @@ module _ (w : World) (b : List Fact) (h : LastReplays b w) where
 
   pub call-replays : (c : Call) → After c
   unfolding step siteStep logStep mergerStep mergeStep
-  call-replays (world.begin s) = quiet _ (begins-none s (step w (world.begin s) .answer))
+  call-replays (world.begin s d) = quiet _ (begins-none s (step w (world.begin s d) .answer))
   call-replays (world.enlist s out t n) = quiet [] a-nil
   call-replays (world.read s t k) = quiet _ (uses-none t k (step w (world.read s t k) .answer))
   call-replays (world.write s t k v) = quiet _ (writes-none t k v (step w (world.write s t k v) .answer))

@@ -13,17 +13,17 @@ use Rattle.rules.proofs.stream.Stream as stream
 use Rattle.rules.proofs.stream.Stream.{Stream, Step, Steps}
 
 abbrev pub told : {sites : ℕ} {p q : Protocol} → Move sites p q → List Fact
-told (begin s t a b c d) = book.began s t ∷ []
+told (begin s t d a b c e) = book.began s t ∷ []
 told (enlist s t r a b c d e f) = []
-told (access s t b fs a w c d) = fs
+told (access s t b fs a w c d m) = fs
 told (request s t es a b c d e) = []
 told (abort s t a b c) = []
 told (cast s t es a b c d e) = []
 told {p = p} (decide s t a b c) = book.committed t (p .clock s + 1) (coordinatorOf t) ∷ []
 told {p = p} (install s t a b) = book.installed s (courseAt p s t .number) (coordinatorOf t) ∷ []
 told (report s n a) = []
-told (joins a s t n f) = book.began s t ∷ []
-told (full a s t r n f) = []
+told (joins a s t d n f) = book.began s t ∷ []
+told (full a s t d r n f) = []
 told (joined a s t r n f g) = []
 told (prepared a s t n m es f g h) = []
 told (lost a s t n m r f g h) = []

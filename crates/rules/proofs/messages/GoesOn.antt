@@ -134,12 +134,12 @@ module _ {sites : ℕ} {p : Protocol} (i : Invariant sites p) (f : Phases p) (s 
   pass-goes : GoesOn (keeping lists (passed x a))
   pass-goes = keeping-goes lists _ (passed-goes x a)
 
-  join-goes : (t : ℕ) → Next p a s (mJoin t) → GoesOn (keeping lists (takeJoin x (headIn a s n (mJoin t)) (placeOf (x .live) t)))
+  join-goes : (t d : ℕ) → Next p a s (mJoin t d) → GoesOn (keeping lists (takeJoin x (headIn a s n (mJoin t d)) (placeOf (x .live) t)))
   unfolding takeJoin joinAt joinTurn headOf
-  join-goes t next =
+  join-goes t d next =
       keeping-goes lists _
       (reply-goes (leb sizes.live (placeOf (x .live) t)) (spentTo x a) x [] _
-      (by-held x p s (y .live) t (λ A e. absurd (A .held (join-turn i f a s t next)))
+      (by-held x p s (y .live) t (λ A e. absurd (A .held (join-turn i f a s t d next)))
       (λ g e. le-leb sizes.live (placeOf (x .live) t) (ltb-false _ _ e)))
       (by-test (ltb (freePlace (x .live)) sizes.live)
       (λ e. rw e (changed-goes x (freePlace (x .live)) _ [] (to-speaks _ kind.joined a 0 0 [] no-entries (λ k. omega arith))))
@@ -156,7 +156,7 @@ module _ {sites : ℕ} {p : Protocol} (i : Invariant sites p) (f : Phases p) (s 
   pub takes-on : (m : Msg) → Next p a s m → (s ≡ a → ⊥)
       → GoesOn (takeKind (kindOf m) x (headIn a s n m) (entriesIn m) lists (placeOf (x .live) (txIn m)))
   unfolding takeKind takeHeld takeOther headOf takeJoined joinedInTurn arrived takePrepare takeCommit takeAbort takeVote takeCert raise
-  takes-on (mJoin t) next o = join-goes t next
+  takes-on (mJoin t d) next o = join-goes t d next
   takes-on (mJoined t v) next o =
       by-held x p s (y .live) t
       (λ A e. rw e

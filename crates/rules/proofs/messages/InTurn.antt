@@ -63,9 +63,9 @@ module _ {sites : ℕ} {p : Protocol} (i : Invariant sites p) (f : Phases p) (a 
   alive : (t : ℕ) → coordinatorOf t ≡ s → Held p s t → p .dead t ≡ true → ⊥
   alive t c h d = h (rw c at (i .account .dead t d .1))
 
-  pub join-turn : (t : ℕ) → Next p a s (mJoin t) → AtStage p s t stage.free
-  join-turn t n =
-      by-same (courseAt p s t .stage) stage.free (λ e. e) (λ h. absurd (new-join sites p a s t (i .posts) n (i .parts .has s t h)))
+  pub join-turn : (t d : ℕ) → Next p a s (mJoin t d) → AtStage p s t stage.free
+  join-turn t d n =
+      by-same (courseAt p s t .stage) stage.free (λ e. e) (λ h. absurd (new-join sites p a s t d (i .posts) n (i .parts .has s t h)))
 
   pub joined-turn : (t v : ℕ) → Next p a s (mJoined t v) → Held p s t
       → AtStage p s t stage.active × (isOutstanding (courseAt p s t) a ≡ true)

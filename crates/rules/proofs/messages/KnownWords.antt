@@ -13,6 +13,7 @@ use Rattle.kinds.specs.declared.Site.{Site}
 use Rattle.kinds.specs.declared.Answer.the-variants.{Refused}
 use Rattle.rules.specs.JoinLaws.{join-whole}
 use Rattle.rules.specs.House.{coordinatorOf, isSite, inMask}
+use Rattle.rules.specs.Desk.{isDesk}
 use Rattle.rules.specs.Message.{entryCount}
 use Rattle.rules.specs.Send.{countsLow}
 use Rattle.rules.specs.Keys.{wroteKey, readKey}
@@ -62,9 +63,9 @@ or-refused code s lent e x =
 change-writes : (s : Site) (place : ℕ) (c : Change) (given lent : List ℕ) → Speaks c → Writes s lent (changed s place c given)
 change-writes s place c given lent x = record { known = x .known; leaves = accepted-leaves s lent (changed s place c given) (x .accepts) }
 
-pub begin-writes : (s : Site) → Writes s [] (beginOf s)
+pub begin-writes : (s : Site) (d : ℕ) → Writes s [] (beginOf s d)
 unfolding beginOf begun
-begin-writes s = or-refused (beginCode (siteOk s) (s .counters) (freePlace (s .live))) s [] _ (nothing s [] _ refl refl)
+begin-writes s d = or-refused (beginCode (siteOk s) (isDesk d) (s .counters) (freePlace (s .live))) s [] _ (nothing s [] _ refl refl)
 
 read-at : (s : Site) (base : List Value) (place key : ℕ) → Writes s [] (readAt s base place key)
 unfolding readAt readVersion

@@ -18,7 +18,7 @@ abbrev pub InRound : ℕ → Type 0
 InRound k = (1 ≤ k) × (k ≤ stage.queued)
 
 asks-round : (k : ℕ) (m : Msg) → AskedAt k m → InRound k
-asks-round k (mJoin t) a = omega arith
+asks-round k (mJoin t d) a = omega arith
 asks-round k (mPrepare t n w) a = omega arith
 asks-round k (mCert t es) a = omega arith
 
@@ -34,7 +34,7 @@ no-round k h g n = ((λ e. absurd (n (omega arith))), (λ e. absurd (n (omega ar
 
 -- a decided part has taken every question, and gave every reply but a no
 ready-left : (g k : ℕ) (m : Msg) → g ≡ stage.decided → Ready g m → Ready k m
-ready-left g k (mJoin t) e y = tt
+ready-left g k (mJoin t d) e y = tt
 ready-left g k (mPrepare t n w) e y = absurd (omega arith)
 ready-left g k (mCert t es) e y = absurd (omega arith)
 
@@ -46,11 +46,11 @@ replies-left j h g k (mVote t n v) e (inr a) = inr a
 
 module _ {t r : ℕ} {c : Course} {n : ℕ} {d h : Bool} {g : ℕ} where
   -- The participant takes the question, and replies.
-  pub joins-on : {f b : List Msg} → Phase t r c n d h g (mJoin t ∷ f) b → Phase t r c n d true stage.active f (b ++ (mJoined t 0 ∷ []))
+  pub joins-on : {f b : List Msg} {k : ℕ} → Phase t r c n d h g (mJoin t k ∷ f) b → Phase t r c n d true stage.active f (b ++ (mJoined t 0 ∷ []))
   joins-on (asked m w a y) = replied (mJoined t 0) w (a, λ e. refl)
   joins-on (overtaken m b e y) = aborting _ e
 
-  pub full-on : {f b : List Msg} (v : ℕ) → (h ≡ true → ⊥) → Phase t r c n d h g (mJoin t ∷ f) b
+  pub full-on : {f b : List Msg} {k : ℕ} (v : ℕ) → (h ≡ true → ⊥) → Phase t r c n d h g (mJoin t k ∷ f) b
       → Phase t r c n d h g f (b ++ (mJoined t v ∷ []))
   full-on v z (asked m w a y) = replied (mJoined t v) w (a, λ e. absurd (z e))
   full-on v z (overtaken m b e y) = aborting _ e
@@ -159,15 +159,15 @@ module _ {t r : ℕ} {c : Course} {n : ℕ} {d h : Bool} {g : ℕ} where
     skips-on c′ n′ o z (aborted b y) = absurd (alive y)
 
     -- JOIN to a new participant
-    pub enlists-on : {f b : List Msg} (c′ : Course) → (In (c .mask) r → ⊥) → Waits r c′ → c′ .stage ≡ stage.active → Phase t r c n d h g f b
-        → Phase t r c′ n d h g (f ++ (mJoin t ∷ [])) b
-    enlists-on c′ o w e (idle x) = asked (mJoin t) w e tt
-    enlists-on c′ o w e (asked m v a y) = absurd (o (v .0))
-    enlists-on c′ o w e (replied m v a) = absurd (o (v .0))
-    enlists-on c′ o w e (deciding j x y) = absurd (omega arith)
-    enlists-on c′ o w e (aborting b y) = absurd (alive y)
-    enlists-on c′ o w e (overtaken m b y z) = absurd (alive y)
-    enlists-on c′ o w e (aborted b y) = absurd (alive y)
+    pub enlists-on : {f b : List Msg} (k : ℕ) (c′ : Course) → (In (c .mask) r → ⊥) → Waits r c′ → c′ .stage ≡ stage.active → Phase t r c n d h g f b
+        → Phase t r c′ n d h g (f ++ (mJoin t k ∷ [])) b
+    enlists-on k c′ o w e (idle x) = asked (mJoin t k) w e tt
+    enlists-on k c′ o w e (asked m v a y) = absurd (o (v .0))
+    enlists-on k c′ o w e (replied m v a) = absurd (o (v .0))
+    enlists-on k c′ o w e (deciding j x y) = absurd (omega arith)
+    enlists-on k c′ o w e (aborting b y) = absurd (alive y)
+    enlists-on k c′ o w e (overtaken m b y z) = absurd (alive y)
+    enlists-on k c′ o w e (aborted b y) = absurd (alive y)
 
     -- the next question to a participant that was heard
     pub asks-on : {f b : List Msg} (m : Msg) (c′ : Course) → In (c .heard) r → Waits r c′ → AskedAt (c′ .stage) m

@@ -18,7 +18,7 @@ Waits r c = In (c .mask) r × (In (c .heard) r → ⊥)
 
 -- A question of the coordinator's, while it is not yet taken: the coordinator's stage, and r's.
 abbrev pub AskedAt : ℕ → Msg → Type 0
-AskedAt g (mJoin t) = g ≡ stage.active
+AskedAt g (mJoin t d) = g ≡ stage.active
 AskedAt g (mJoined t v) = ⊥
 AskedAt g (mPrepare t n m) = g ≡ stage.prepared
 AskedAt g (mConc t es) = ⊥
@@ -28,7 +28,7 @@ AskedAt g (mCommit t n) = ⊥
 AskedAt g (mAbort t) = ⊥
 
 abbrev pub Ready : ℕ → Msg → Type 0
-Ready g (mJoin t) = Unit {0}
+Ready g (mJoin t d) = Unit {0}
 Ready g (mJoined t v) = ⊥
 Ready g (mPrepare t n m) = g ≡ stage.active
 Ready g (mConc t es) = ⊥
@@ -39,7 +39,7 @@ Ready g (mAbort t) = ⊥
 
 -- A reply under way: the coordinator's stage k, and r's, g; h where r's part began.
 abbrev pub RepliedAt : ℕ → Bool → ℕ → Msg → Type 0
-RepliedAt k h g (mJoin t) = ⊥
+RepliedAt k h g (mJoin t d) = ⊥
 RepliedAt k h g (mJoined t v) = (k ≡ stage.active) × (h ≡ true → g ≡ stage.active)
 RepliedAt k h g (mPrepare t n m) = ⊥
 RepliedAt k h g (mConc t es) = (k ≡ stage.prepared) × (g ≡ stage.prepared)

@@ -88,7 +88,7 @@ known-sent w s e base lent k n = all-append k (made-in n)
 call-known : {sites : ℕ} {w : World} {p : Protocol} → Refines sites w p → Invariant sites p → Phases p → (c : Call) → Handed w c
     → All Known (w .sent) → All Known (step w c .world .sent)
 unfolding step logStep mergeStep mergerStep replayStep copyStep
-call-known {w = w} r i f (world.begin s) h k = known-sent w s _ _ _ k (begin-writes (w .site s) .known)
+call-known {w = w} r i f (world.begin s d) h k = known-sent w s _ _ _ k (begin-writes (w .site s) d .known)
 call-known {w = w} r i f (world.enlist s out t n) h k = known-sent w s _ _ _ k (enlist-writes (w .site s) (length out) t n .known)
 call-known {w = w} r i f (world.read s t key) h k = known-sent w s _ _ _ k (read-writes (w .site s) (w .base s) t key .known)
 call-known {w = w} r i f (world.write s t key v) h k = known-sent w s _ _ _ k (write-writes (w .site s) t key v .known)

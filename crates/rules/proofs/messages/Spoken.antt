@@ -85,7 +85,7 @@ no-entries = refl
 -- The steps.
 pub enlist-speaks : (t : Turn) (site : ℕ) → Speaks (enlistStep t site)
 unfolding enlistStep
-enlist-speaks t site = to-speaks _ kind.join site 0 0 [] no-entries (λ e. omega arith)
+enlist-speaks t site = to-speaks _ kind.join site 0 (t .sub .desk) [] no-entries (λ e. omega arith)
 
 pub abort-speaks : (t : Turn) (r : ℕ) → Speaks (abortStep t r)
 unfolding abortStep

@@ -66,7 +66,7 @@ part-same p q s t live has num dead = record { live = λ j u n. rw live; has = �
 -- each message is its transaction's coordinator's, or goes to it
 origin : (sites : ℕ) (p : Protocol) (a b : ℕ) (m : Msg) → MsgOk sites p a b m
     → (coordinatorOf (txIn m) ≡ a) ⊎ ((coordinatorOf (txIn m) ≡ b) × (b ≡ a → ⊥))
-origin sites p a b (mJoin t) o = inl (o .0)
+origin sites p a b (mJoin t d) o = inl (o .0)
 origin sites p a b (mJoined t v) o = inr (o .0, λ z. o .1 (sym z))
 origin sites p a b (mPrepare t n m) o = inl (o .0)
 origin sites p a b (mConc t es) o = inr (o .0, λ z. o .1 (sym z))
@@ -133,20 +133,20 @@ module _ {sites : ℕ} {p : Protocol} (i : Invariant sites p) (f : Phases p) whe
 
   step : (q : Protocol) → Move sites p q → Phases q
   unfolding newSub withParticipant withReply withDecision withQueueMark withRequest withStage noSub
-  step q (begin s t l m n e) =
+  step q (begin s t d l m n e) =
       let c : coordinatorOf t ≡ s = rw e (tx-coordinator s (p .serial s + 1) (omega arith)) in
       writes-none i f q s t c (part-begun p q s t _ refl refl refl refl) refl refl
-      (λ r l fw bk x. own-now s t (newSub t (maskOf s) (length (inst p s)))
+      (λ r l fw bk x. own-now s t (newSub t d (maskOf s) (length (inst p s)))
       (rests-on _ (λ k. new-tx sites p s t (i .parts) n e s (i .parts .has s t (λ z. omega arith))) (λ y. absurd (none-in r (y .1))) x))
   step q (enlist s t r c a l m n o) =
       let held : Held p s t = λ z. omega arith in
-      writes-one i f q s t c (part-now p q s t _ refl refl (λ u n. refl) (λ u n. refl)) refl r (mJoin t) refl n refl
+      writes-one i f q s t c (part-now p q s t _ refl refl (λ u n. refl) (λ u n. refl)) refl r (mJoin t (p .live s t .desk)) refl n refl
       (λ fw bk x. own-now s t (withCourse (p .live s t) (withParticipant (courseAt p s t) r))
-      (enlists-on (number s t c held (λ z. omega arith)) (alive s t c held) _ (λ z. set-not _ (z .1) o)
+      (enlists-on (number s t c held (λ z. omega arith)) (alive s t c held) (p .live s t .desk) _ (λ z. set-not _ (z .1) o)
       ((l, in-or-right (courseAt p s t .mask) (maskOf r) r (own-mask r)), λ z. set-not _ (heard-in s t c held r z .1) o) a x))
       (λ j k u fw bk x. own-now s t (withCourse (p .live s t) (withParticipant (courseAt p s t) r))
       (wider-on _ refl (λ z. (z .0, in-or-left (courseAt p s t .mask) (maskOf r) j (z .1))) (λ z. z) x))
-  step q (access s t b fs a told w g) =
+  step q (access s t b fs a told w g m) =
       still i f q (upd₂-cases (λ j u b. b .course ≡ courseAt p j u) (p .live) s t _ refl (λ j u n. refl)) refl refl refl refl refl
   step q (request s t es c a l r v) =
       let held : Held p s t = λ z. omega arith in
@@ -186,14 +186,14 @@ module _ {sites : ℕ} {p : Protocol} (i : Invariant sites p) (f : Phases p) whe
       (λ o. leaves i f q s t o (part-now p q s t noSub refl refl (λ u n. refl) (λ u n. refl)) refl refl refl refl
       (λ fw bk x. there-now s t noSub (installs-on _ a x)))
   step q (report s n a) = still i f q (λ j u. refl) refl refl refl refl refl
-  step q (joins a s t n x) =
+  step q (joins a s t d n x) =
       let o = said i n in
-      answers i f q a s t (mJoin t) n refl (part-begun p q s t _ refl refl refl refl) refl refl refl (mJoined t 0) refl refl (o .0) (o .2)
-      (λ fw bk y. has-now s t (there-now s t (newSub t 0 (length (inst p s))) (joins-on y)))
-  step q (full a s t r n z) =
+      answers i f q a s t (mJoin t d) n refl (part-begun p q s t _ refl refl refl refl) refl refl refl (mJoined t 0) refl refl (o .0) (o .2)
+      (λ fw bk y. has-now s t (there-now s t (newSub t d 0 (length (inst p s))) (joins-on y)))
+  step q (full a s t d r n z) =
       let o = said i n in
-      answers i f q a s t (mJoin t) n refl (part-same p q s t refl refl refl refl) refl refl refl (mJoined t r) refl refl (o .0) (o .2)
-      (λ fw bk y. full-on r (new-join sites p a s t (i .posts) n) y)
+      answers i f q a s t (mJoin t d) n refl (part-same p q s t refl refl refl refl) refl refl refl (mJoined t r) refl refl (o .0) (o .2)
+      (λ fw bk y. full-on r (new-join sites p a s t d (i .posts) n) y)
   step q (joined a s t r n x o) =
       let k = said i n in
       let b = withCourse (p .live s t) (withReply (courseAt p s t) a r 0) in

@@ -15,7 +15,9 @@ use Rattle.kinds.specs.declared.Keys.{Keys}
 use Rattle.kinds.specs.declared.Counters.{Counters}
 use Rattle.kinds.specs.declared.Site.{Site}
 use Rattle.rules.specs.House.{isSite, isTx, isMask, maskOf, homeOf}
+use Rattle.rules.specs.Desk.{isDesk, writeLimit, limit-most}
 use Rattle.rules.specs.Keys.{keysOk, wroteKey, readKey, withRead, withWrite}
+use Rattle.rules.specs.KeysLaws.{wrote-read, wrote-again, wrote-first}
 use Rattle.rules.specs.Live.{placeOf, freePlace, stageAt}
 use Rattle.rules.specs.History.{isForgotten}
 use Rattle.rules.specs.Valid.{siteOk, listAt, countersOk}
@@ -30,7 +32,7 @@ use Rattle.rules.proofs.protocol.Frames.{tx-coordinator, tx-serial}
 use Rattle.rules.proofs.refine.Refines.{Sized}
 use Rattle.rules.proofs.refine.RefineLive.{place-held}
 use Rattle.rules.proofs.refine.RefineMail.{none}
-use Rattle.rules.proofs.possible.ValidMade.{site-mask, keys-made, keys-back, no-keys, site-tests}
+use Rattle.rules.proofs.possible.ValidMade.{site-mask, keys-made, keys-back, no-keys, desk-made, new-desk, site-tests}
 use Rattle.rules.proofs.possible.CourseFits.{new-fits}
 use Rattle.rules.proofs.possible.StepsFit.{Fits, TurnFits, quietly-fits}
 use Rattle.rules.proofs.possible.SitesFit.{Sound, EffectFits, site-ok, site-valid, part-at, old-fits, held-there, changed-fits}
@@ -50,17 +52,19 @@ next-possible o c e h =
     rw (tx-coordinator (c .own) n (omega arith), tx-serial (c .own) n (omega arith), e, le-leb 1 n (omega arith))
 
 -- a part that begins: no reply yet, and no keys
-pub new-part : (s : Site) (es : List ℕ) (c : Counters) (t mask : ℕ) → ValidSite s → c .own ≡ s .counters .own
-    → c .installs ≡ s .counters .installs → countersOk (s .house) c ≡ true → isMask (s .house) mask ≡ true → isTx (s .house) t ≡ true
-    → Fits s es c (newSub t mask (s .counters .installs))
+pub new-part : (s : Site) (es : List ℕ) (c : Counters) (t d mask : ℕ) → ValidSite s → c .own ≡ s .counters .own
+    → c .installs ≡ s .counters .installs → countersOk (s .house) c ≡ true → isDesk d ≡ true → isMask (s .house) mask ≡ true
+    → isTx (s .house) t ≡ true
+    → Fits s es c (newSub t d mask (s .counters .installs))
 unfolding newSub
-new-part s es c t mask v own installs counters m tx =
+new-part s es c t d mask v own installs counters k m tx =
     record {
       own = own;
       installs = installs;
       counters = counters;
-      course = new-fits (s .house) (s .counters .own) (v .house) t mask (s .counters .installs) m;
+      course = new-fits (s .house) (s .counters .own) (v .house) t d mask (s .counters .installs) m;
       keys = no-keys (s .house) (s .counters .own);
+      desk = new-desk d k;
       tx = λ n. tx;
       entries = λ i h. absurd (omega arith);
     }
@@ -99,20 +103,20 @@ module _ {s : Site} {lists : List ℕ} (y : Sound s lists) where
   abbrev own : ℕ
   own = s .counters .own
 
-  pub begin-fits : EffectFits s (beginOf s) lists
+  pub begin-fits : (d : ℕ) → EffectFits s (beginOf s d) lists
   unfolding beginOf begun
-  begin-fits =
+  begin-fits d =
       let place = freePlace (s .live) in
       let n = s .counters .serial + 1 in
       let counters = site-tests s (site-ok y) .counters in
       let here = counters-own o (s .counters) counters in
-      unless-fits y (beginCode (siteOk s) (s .counters) place) [] _
+      unless-fits y (beginCode (siteOk s) (isDesk d) (s .counters) place) [] _
       (λ z.
-      let c = begin-clear (siteOk s) (s .counters) place z in
+      let c = begin-clear (siteOk s) (isDesk d) (s .counters) place z in
       changed-fits y place (c .free) _ []
       (record {
-        turn = new-part s (listAt lists place) (withSerial (s .counters) n) (nextTx (s .counters)) (maskOf own) (site-valid y) refl refl
-            (serial-fits o (s .counters) n counters (omega (arith, c .unspent)))
+        turn = new-part s (listAt lists place) (withSerial (s .counters) n) (nextTx (s .counters)) d (maskOf own) (site-valid y) refl refl
+            (serial-fits o (s .counters) n counters (omega (arith, c .unspent))) (c .desk)
             (site-mask o own here) (next-possible o (s .counters) here (c .unspent));
         words = none;
       }))
@@ -125,10 +129,10 @@ module _ {s : Site} {lists : List ℕ} (y : Sound s lists) where
     keys-sized : Sized (subAt s place .keys)
     keys-sized = let (q, f, e) = place-held (y .live) t low in rw q (y .live .sized t f)
 
-    keys-turn : (b : Keys) → keysOk o own b ≡ true
+    keys-turn : (b : Keys) → keysOk o own b ≡ true → b .wrote ≤ writeLimit (subAt s place .desk)
         → TurnFits s (listAt lists place) (withSubOf (turnAt s place) (withKeys (subAt s place) b))
     unfolding turnAt
-    keys-turn b e =
+    keys-turn b e limit =
         let x = old-fits y place low (held-there y t low) in
         record {
           own = x .own;
@@ -136,6 +140,7 @@ module _ {s : Site} {lists : List ℕ} (y : Sound s lists) where
           counters = x .counters;
           course = x .course;
           keys = e;
+          desk = desk-made (subAt s place .desk) b (part-at y place low .desk) limit;
           tx = x .tx;
           entries = x .entries;
         }
@@ -147,16 +152,22 @@ module _ {s : Site} {lists : List ℕ} (y : Sound s lists) where
     version-fits base k here room =
         let b = subAt s place .keys in
         let more = read-keys o own k b (part-at y place low .keys) keys-sized here room in
-        changed-fits y place low _ [] (record { turn = keys-turn (withRead b k) more; words = none })
+        changed-fits y place low _ [] 
+        (record { turn = keys-turn (withRead b k) more (rw (wrote-read b k) (part-at y place low .few)); words = none })
 
     written-fits : (k : ℕ) (v : Value) → homeOf o k ≡ own
-        → (wroteKey (subAt s place .keys) k ≡ false → subAt s place .keys .wrote < sizes.writes)
+        → (wroteKey (subAt s place .keys) k ≡ false → subAt s place .keys .wrote < writeLimit (subAt s place .desk))
         → EffectFits s (written s place k v) lists
     unfolding written
     written-fits k v here room =
         let b = subAt s place .keys in
-        let more = write-keys o own k b (part-at y place low .keys) keys-sized here v room in
-        changed-fits y place low _ [] (quietly-fits s (listAt lists place) _ (keys-turn (withWrite b k v) more))
+        let d = subAt s place .desk in
+        let more = write-keys o own k b (part-at y place low .keys) keys-sized here v (λ f. omega (arith, room f, limit-most d)) in
+        let limit : withWrite b k v .wrote ≤ writeLimit d =
+        by-test (wroteKey b k)
+        (λ e. rw (wrote-again b k v e) (part-at y place low .few))
+        (λ e. rw (wrote-first b k v e) (omega (arith, room e))) in
+        changed-fits y place low _ [] (quietly-fits s (listAt lists place) _ (keys-turn (withWrite b k v) more limit))
 
   pub read-fits : (base : List Value) (t k : ℕ) → EffectFits s (readOf s base t k) lists
   unfolding readOf readAt
@@ -183,4 +194,4 @@ module _ {s : Site} {lists : List ℕ} (y : Sound s lists) where
       (λ e. rw e (written-fits t (c .held) k v (c .key .here) (λ f. absurd (set-not _ e f))))
       (λ e. rw e
       (unless-fits y (writeCodeAt s place k) [] _
-      (λ r. written-fits t (c .held) k v (c .key .here) (λ f. write-clear _ _ _ _ r .room)))))
+      (λ r. written-fits t (c .held) k v (c .key .here) (λ f. write-clear _ _ _ _ _ r .room)))))

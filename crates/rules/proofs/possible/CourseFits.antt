@@ -36,9 +36,9 @@ module _ (o : House) (own : ℕ) (house : ValidHouse o own) where
   pub none-fits : courseOk o own noCourse ≡ true
   none-fits = round-fits noCourse (omega arith) (none-mask o) refl (omega arith)
 
-  pub new-fits : (t mask n : ℕ) → isMask o mask ≡ true → courseOk o own (newSub t mask n .course) ≡ true
+  pub new-fits : (t d mask n : ℕ) → isMask o mask ≡ true → courseOk o own (newSub t d mask n .course) ≡ true
   unfolding newSub
-  new-fits t mask n m = round-fits _ (omega arith) m refl (omega arith)
+  new-fits t d mask n m = round-fits _ (omega arith) m refl (omega arith)
 
   module _ (c : Course) (e : courseOk o own c ≡ true) where
     pub participant-fits : (a : ℕ) → isSite o a ≡ true → courseOk o own (withParticipant c a) ≡ true

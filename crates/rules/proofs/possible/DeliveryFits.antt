@@ -13,6 +13,7 @@ use Rattle.laws.specs.Scan.{all-below-at}
 use Rattle.kinds.specs.Sizes as sizes
 use Rattle.kinds.specs.Stage as stage
 use Rattle.kinds.specs.Kind as kind
+use Rattle.kinds.specs.Desk as desk
 use Rattle.kinds.specs.Reason as reason
 use Rattle.kinds.specs.State.{subAt, noSub}
 use Rattle.kinds.specs.declared.House.{House}
@@ -23,6 +24,7 @@ use Rattle.kinds.specs.declared.Site.{Site}
 use Rattle.kinds.specs.declared.Turn.{Turn}
 use Rattle.kinds.specs.declared.MessageHead.{MessageHead}
 use Rattle.rules.specs.House.{isTx, isMask, inMask, coordinatorOf}
+use Rattle.rules.specs.Desk.{isDesk}
 use Rattle.rules.specs.Message.{toCoordinator, coordinatorEnd, argumentOk, mostEntries, entryOk, messageHead, messageEntries}
 use Rattle.rules.specs.Message.{messageOk, GoodMessage}
 use Rattle.rules.specs.MessageLaws.{HeadClear, head-clear, passed-good, site-clear}
@@ -44,7 +46,7 @@ use Rattle.rules.proofs.lists.Masks.{outstanding-unheard}
 use Rattle.rules.proofs.refine.Refines.{IsFree}
 use Rattle.rules.proofs.refine.RefineStep.{by-code}
 use Rattle.rules.proofs.refine.RefineMail.{none}
-use Rattle.rules.proofs.possible.ValidMade.{none-mask, site-tests, site-made, handed-made, handed-lists}
+use Rattle.rules.proofs.possible.ValidMade.{none-mask, house-desk, site-tests, site-made, handed-made, handed-lists}
 use Rattle.rules.proofs.possible.EntriesMade.{AllPossible, carried-possible, list-carried, join-carried, others-possible}
 use Rattle.rules.proofs.possible.EntriesMade.{more-possible}
 use Rattle.rules.proofs.possible.CourseFits.{decision-fits, reply-fits}
@@ -113,23 +115,25 @@ module _ {s : Site} {lists : List ℕ} (y : Sound s lists) where
     to-coordinator k e = rw (k, e) at (clear .ends .coordinator) ∙ to
 
     -- JOIN
-    join-turn : (es : List ℕ) → TurnFits s es (joinTurn s h)
+    join-turn : (d : ℕ) → isDesk d ≡ true → (es : List ℕ) → TurnFits s es (joinTurn s h d)
     unfolding joinTurn
-    join-turn es = new-part s es (s .counters) (h .tx) 0 valid refl refl counters-ok (none-mask o) (clear .ends .tx)
+    join-turn d k es = new-part s es (s .counters) (h .tx) d 0 valid refl refl counters-ok k (none-mask o) (clear .ends .tx)
 
-    join-replies : coordinatorOf (h .tx) ≡ h .from → Replies s (joinTurn s h) (h .from)
+    join-replies : (d : ℕ) → coordinatorOf (h .tx) ≡ h .from → Replies s (joinTurn s h d) (h .from)
     unfolding joinTurn newSub
-    join-replies e = record { tx = clear .ends .tx; theirs = e; site = clear .ends .from; apart = λ z. apart (sym z) }
+    join-replies d e = record { tx = clear .ends .tx; theirs = e; site = clear .ends .from; apart = λ z. apart (sym z) }
 
     take-join : (place : ℕ) → h .kind ≡ kind.join → EffectFits s (takeJoin s h place) lists
-    unfolding takeJoin joinAt toCoordinator
+    unfolding takeJoin joinAt toCoordinator argumentOk
     take-join place k =
         let free = freePlace (s .live) in
-        let r = join-replies (from-coordinator k refl) in
+        let d = h .argument in
+        let known : isDesk d ≡ true = rw k at (clear .argument) in
+        let r = join-replies d (from-coordinator k refl) in
         unless-fits y (replyCode (leb sizes.live place) (spentTo s (h .from))) [] _
         (λ z. by-test (ltb free sizes.live)
-        (λ e. rw e (changed-fits y free (ltb-true _ _ e) _ [] (joined-fits valid (join-turn (listAt lists free)) r 0 (inl refl))))
-        (λ e. rw e (spoken-fits [] _ (joined-fits valid (join-turn []) r reason.full (inr refl)))))
+        (λ e. rw e (changed-fits y free (ltb-true _ _ e) _ [] (joined-fits valid (join-turn d known (listAt lists free)) r 0 (inl refl))))
+        (λ e. rw e (spoken-fits [] _ (joined-fits valid (join-turn d known []) r reason.full (inr refl)))))
 
     -- A transaction that is not held.
     take-other : Left (takeOther (h .kind) s h lists)
@@ -137,13 +141,13 @@ module _ {s : Site} {lists : List ℕ} (y : Sound s lists) where
     take-other =
         by-test (eqb (h .kind) kind.prepare)
         (λ e. rw e
-        (let t = raise (joinTurn s h) (h .clock) in
-        let r = join-replies (from-coordinator (eqb-true _ _ e) refl) in
+        (let t = raise (joinTurn s h desk.house) (h .clock) in
+        let r = join-replies desk.house (from-coordinator (eqb-true _ _ e) refl) in
         let on : Replies s t (h .from) = record { tx = r .tx; theirs = r .theirs; site = r .site; apart = r .apart } in
         keeping-fits s lists _
         (unless-fits y (replyCode true (spentTo s (h .from))) [] _
         (λ z. spoken-fits [] _
-        (vote-fits valid (raise-fits s [] (joinTurn s h) (h .clock) (join-turn [])) on (t .counters .clock) reason.unknown
+        (vote-fits valid (raise-fits s [] (joinTurn s h desk.house) (h .clock) (join-turn desk.house house-desk [])) on (t .counters .clock) reason.unknown
         (may-unknown o))))))
         (λ e. rw e (keeping-fits s lists _ (passed-fits (h .from))))
 

@@ -9,10 +9,12 @@ use lib.Dec.{leb}
 use lib.ListN.{length, replicate, length-replicate, getD-replicate}
 use Rattle.laws.specs.Choice.{by-test, set-not}
 use Rattle.kinds.specs.Sizes as sizes
+use Rattle.kinds.specs.Desk as desk
 use Rattle.kinds.specs.State.{Value, subAt, noSub, pastSub, noEntry, pastEntry}
 use Rattle.kinds.specs.declared.House.{House}
 use Rattle.kinds.specs.declared.Site.{Site}
 use Rattle.rules.specs.House.{houseOk, isSite, inMask, coordinatorOf}
+use Rattle.rules.specs.Desk.{isDesk}
 use Rattle.rules.specs.Message.{messageOk}
 use Rattle.rules.specs.Live.{placeOf, freePlace, stageAt}
 use Rattle.rules.specs.History.{remembered}
@@ -36,8 +38,8 @@ use Rattle.rules.proofs.refine.RefineStep.{by-code}
 use Rattle.rules.proofs.refine.RefineTurn.{at-place, course-is}
 use Rattle.rules.proofs.refine.RefineMail.{Made, none, made-in}
 use Rattle.rules.proofs.refine.RefineFresh.{started, fresh-table}
-use Rattle.rules.proofs.possible.ValidMade.{none-mask, no-keys, sub-made, entry-made, live-made, history-made, site-made, lists-made}
-use Rattle.rules.proofs.possible.ValidMade.{gathered-made, handed-made}
+use Rattle.rules.proofs.possible.ValidMade.{none-mask, no-keys, house-desk, new-desk, sub-made, entry-made, live-made}
+use Rattle.rules.proofs.possible.ValidMade.{history-made, site-made, lists-made, gathered-made, handed-made}
 use Rattle.rules.proofs.possible.Passing.{Passes}
 use Rattle.rules.proofs.possible.CourseFits.{none-fits}
 use Rattle.rules.proofs.possible.SitesFit.{Sound, EffectFits}
@@ -53,11 +55,11 @@ module _ (s : Site) (no : siteOk s ≡ false) where
   not-handed : (lists : List ℕ) → handedOk s lists ≡ true → ⊥
   not-handed lists e = set-not _ (handed-site s lists e) no
 
-  begin-silent : Silent (beginOf s)
+  begin-silent : (d : ℕ) → Silent (beginOf s d)
   unfolding beginOf
-  begin-silent =
-      by-code Silent (beginCode (siteOk s) (s .counters) (freePlace (s .live))) s [] _
-      (λ z. absurd (set-not _ (begin-clear _ _ _ z .valid) no)) refl
+  begin-silent d =
+      by-code Silent (beginCode (siteOk s) (isDesk d) (s .counters) (freePlace (s .live))) s [] _
+      (λ z. absurd (set-not _ (begin-clear _ _ _ _ z .valid) no)) refl
 
   enlist-silent : (room t a : ℕ) → Silent (enlistOf s room t a)
   unfolding enlistOf
@@ -156,7 +158,7 @@ module _ {sites : ℕ} {w : World} {p : Protocol} (r : Refines sites w p) (i : I
 
   pub call-keeps : (c : Call) → Kept sites (step w c .world)
   unfolding step mergeStep mergerStep replayStep copyStep
-  call-keeps (world.begin s) = site-kept s _ _ _ (λ a b. begin-fits (sound s a b)) (begin-silent (w .site s))
+  call-keeps (world.begin s d) = site-kept s _ _ _ (λ a b. begin-fits (sound s a b) d) (λ f. begin-silent (w .site s) f d)
   call-keeps (world.enlist s out t n) =
       site-kept s _ _ _ (λ a b. enlist-call (sound s a b) (length out) t n) (λ f. enlist-silent (w .site s) f (length out) t n)
   call-keeps (world.read s t key) =
@@ -196,7 +198,7 @@ module _ (sites s : ℕ) (some : 1 ≤ sites) (few : sites ≤ sizes.sites) (low
   fresh-ok =
       let o = houseOf sites in
       let v = valid-house o s house-ok here-ok in
-      let b = sub-made o s noSub (none-fits o s v) (no-keys o s) (λ n. absurd (n refl)) in
+      let b = sub-made o s noSub (none-fits o s v) (no-keys o s) (new-desk desk.house house-desk) (λ n. absurd (n refl)) in
       site-made fresh (record {
         house = house-ok;
         counters = rw here-ok;

@@ -71,7 +71,7 @@ module _ {sites : ℕ} {w : World} {b : List Fact} (x : Stands (More sites) site
 
   calls-possible : (c : Call) → step w c .answer ≡ Refused reason.malformed → Impossible o c
   unfolding step siteStep logStep mergeStep mergerStep replayStep copyStep
-  calls-possible (world.begin s) q = none-else s (λ t. begin-why (w .site s) (valid s t) 2 q refl)
+  calls-possible (world.begin s d) q = none-or s (λ t. begin-why (w .site s) (valid s t) d 2 q refl)
   calls-possible (world.enlist s out tx a) q =
       none-or s (λ t. rw (site-house s t) at (enlist-why (w .site s) (valid s t) (length out) tx a 2 q refl))
   calls-possible (world.read s tx k) q =

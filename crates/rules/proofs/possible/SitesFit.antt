@@ -22,8 +22,8 @@ use Rattle.rules.proofs.refine.Refines.{IsFree, LiveIs}
 use Rattle.rules.proofs.refine.RefineLive.{part-is, found-place}
 use Rattle.rules.proofs.refine.RefineStep.{by-code}
 use Rattle.rules.proofs.refine.RefineMail.{Made, none}
-use Rattle.rules.proofs.possible.ValidMade.{course-back, keys-back, sub-made, sub-back, live-made, site-tests, site-made, lists-made}
-use Rattle.rules.proofs.possible.ValidMade.{gathered-made, handed-made}
+use Rattle.rules.proofs.possible.ValidMade.{course-back, keys-back, desk-made, sub-made, sub-back, live-made, site-tests, site-made}
+use Rattle.rules.proofs.possible.ValidMade.{lists-made, gathered-made, handed-made}
 use Rattle.rules.proofs.possible.EntriesMade.{AllPossible}
 use Rattle.rules.proofs.possible.Passing.{Passes}
 use Rattle.rules.proofs.possible.StepsFit.{Fits, TurnFits, ChangeFits}
@@ -76,6 +76,7 @@ module _ {s : Site} {lists : List ℕ} (y : Sound s lists) where
         counters = site-tests s site-ok .counters;
         course = course-back o here _ (v .course);
         keys = keys-back o here _ (v .keys);
+        desk = desk-made _ _ (v .desk) (v .few);
         tx = v .tx;
         entries = old-possible place low held;
       }
@@ -102,7 +103,7 @@ module _ {s : Site} {lists : List ℕ} (y : Sound s lists) where
 
     pub settled-live : liveOk o here (set (s .live) place (t .sub)) ≡ true
     settled-live =
-        let new = sub-made o here (t .sub) (x .course) (x .keys) (x .tx) in
+        let new = sub-made o here (t .sub) (x .course) (x .keys) (x .desk) (x .tx) in
         live-made o here (set (s .live) place (t .sub))
         (settled (λ i b. subOk o here b ≡ true) new (λ i h n. sub-back o here _ (part-at i h)))
 

@@ -11,6 +11,7 @@ use Rattle.laws.specs.Scan.{anyBelow}
 use Rattle.kinds.specs.Sizes as sizes
 use Rattle.kinds.specs.Stage as stage
 use Rattle.kinds.specs.Kind as kind
+use Rattle.kinds.specs.Desk as desk
 use Rattle.kinds.specs.Reason as reason
 use Rattle.kinds.specs.State.{noSub, withClock, withCourse}
 use Rattle.kinds.specs.declared.House.{House}
@@ -33,10 +34,10 @@ use Rattle.rules.specs.Course.{withSubOf, withCourseOf, raise, headOf, s
 use Rattle.rules.specs.Course.{withReply, abortStep, withDecision, commitStep, decideStep, withQueueMark, castStep, prepareStep}
 use Rattle.rules.specs.Course.{voteStep}
 use Rattle.rules.specs.Course.{withStage, preparedStep, certifiedStep}
-use Rattle.rules.specs.Valid.{courseOk, countersOk}
+use Rattle.rules.specs.Valid.{courseOk, deskOk, countersOk}
 use Rattle.rules.specs.ValidLaws.{ValidHouse, ValidSite, valid-course, counters-own}
 use Rattle.rules.proofs.refine.RefineMail.{Made, none}
-use Rattle.rules.proofs.possible.ValidMade.{no-keys}
+use Rattle.rules.proofs.possible.ValidMade.{no-keys, house-desk, new-desk, desk-clear}
 use Rattle.rules.proofs.possible.EntriesMade.{AllPossible, Carried, carried-none}
 use Rattle.rules.proofs.possible.Passing.{Passes, Between, Says, to-passes, all-pass}
 use Rattle.rules.proofs.possible.CourseFits.{none-fits, participant-fits, decision-fits, stage-fits, mark-fits, reply-fits}
@@ -48,6 +49,7 @@ pub record Fits (s : Site) (es : List ℕ) (c : Counters) (b : Sub) : Type 0 whe
   pub counters : countersOk (s .house) c ≡ true
   pub course : courseOk (s .house) (s .counters .own) (b .course) ≡ true
   pub keys : keysOk (s .house) (s .counters .own) (b .keys) ≡ true
+  pub desk : deskOk (b .desk) (b .keys) ≡ true
   pub tx : (b .course .stage ≡ stage.free → ⊥) → isTx (s .house) (b .tx) ≡ true
   pub entries : AllPossible (s .house) es (b .course .listed)
 
@@ -109,6 +111,7 @@ clock-fits s es c b n x =
       counters = x .counters;
       course = x .course;
       keys = x .keys;
+      desk = x .desk;
       tx = x .tx;
       entries = x .entries;
     }
@@ -142,7 +145,16 @@ module _ {s : Site} (v : ValidSite s) where
     pub list-turn : (fs : List ℕ) (c : Course) → isTx o (t .sub .tx) ≡ true → courseOk o here c ≡ true → AllPossible o fs (c .listed)
         → TurnFits s fs (withCourseOf t c)
     list-turn fs c tx e all =
-        record { own = x .own; installs = x .installs; counters = x .counters; course = e; keys = x .keys; tx = λ n. tx; entries = all }
+        record {
+          own = x .own;
+          installs = x .installs;
+          counters = x .counters;
+          course = e;
+          keys = x .keys;
+          desk = x .desk;
+          tx = λ n. tx;
+          entries = all;
+        }
 
     pub course-turn : (c : Course) → isTx o (t .sub .tx) ≡ true → courseOk o here c ≡ true → AllPossible o es (c .listed)
         → TurnFits s es (withCourseOf t c)
@@ -158,6 +170,7 @@ module _ {s : Site} (v : ValidSite s) where
           counters = x .counters;
           course = none-fits o here house;
           keys = no-keys o here;
+          desk = new-desk desk.house house-desk;
           tx = λ n. absurd (n refl);
           entries = λ i h. absurd (omega arith);
         }
@@ -220,14 +233,15 @@ module _ {s : Site} (v : ValidSite s) where
               (λ i h. record { low = omega arith; high = omega arith; coordinator = leads-own; clock = refl; argument = refl });
         }
 
-    join-fits : (a : ℕ) → isSite o a ≡ true → (here ≡ a → ⊥) → ChangeFits s es (sendTo t kind.join a 0 0 [])
+    join-fits : (a : ℕ) → isSite o a ≡ true → (here ≡ a → ⊥) → ChangeFits s es (sendTo t kind.join a 0 (t .sub .desk) [])
     unfolding sendTo headOf coordinatorEnd toCoordinator carriesClock argumentOk
     join-fits a h n =
         record {
           turn = x;
-          words = to-passes o t kind.join a 0 0 []
+          words = to-passes o t kind.join a 0 (t .sub .desk) []
               (record { sender = own-site t x; receiver = h; apart = λ z. n (sym (x .own) ∙ z); tx = l .tx })
-              (record { low = omega arith; high = omega arith; coordinator = leads-own; clock = refl; argument = refl }) (carried-none o _);
+              (record { low = omega arith; high = omega arith; coordinator = leads-own; clock = refl; argument = desk-clear (t .sub .desk) (t .sub .keys) (x .desk) })
+              (carried-none o _);
         }
 
   -- A participant's messages.

@@ -1,12 +1,12 @@
 -- The way back of ValidLaws: what a part, an install and a site must be for the state not to be refused 2.
 use Prim.Native.Nat.{ℕ, zero, suc, _+_, _-_, _*_, _^_, _≤_, _<_}
-use mathlib.Core.Path.{_≡_, sym}
+use mathlib.Core.Path.{_≡_, refl, sym}
 use mathlib.Core.List.{List, [], _∷_}
 use mathlib.Core.Bool.{Bool, true, false}
 use native.Mathlib.Omega.{arith}
 use borrow.Author.Tests.{ltb-true, lt-ltb, le-leb, eq-eqb, eqb-false}
 use lib.Bits.{bitOr, or-lt}
-use lib.Dec.{ltb, eqb}
+use lib.Dec.{ltb, leb, eqb}
 use lib.ListN.{length, getD}
 use lib.Pow.{pow-pos, pow-lt}
 use Rattle.laws.specs.Choice.{by-test, every-at}
@@ -14,6 +14,7 @@ use Rattle.laws.specs.Scan.{all-below, split-last}
 use Rattle.laws.specs.Digits.{digit, onesBelow, digit-or}
 use Rattle.kinds.specs.Sizes as sizes
 use Rattle.kinds.specs.Stage as stage
+use Rattle.kinds.specs.Desk as desk
 use Rattle.kinds.specs.State.{pastSub, pastEntry, noKeys}
 use Rattle.kinds.specs.declared.House.{House}
 use Rattle.kinds.specs.declared.Keys.{Keys}
@@ -22,11 +23,12 @@ use Rattle.kinds.specs.declared.Sub.{Sub}
 use Rattle.kinds.specs.declared.Entry.{Entry}
 use Rattle.kinds.specs.declared.Site.{Site}
 use Rattle.rules.specs.House.{houseOk, isSite, isTx, homeOf, maskOf, isMask, inMask, participants, participants-sites}
+use Rattle.rules.specs.Desk.{isDesk, writeLimit}
 use Rattle.rules.specs.Message.{entryPossible}
 use Rattle.rules.specs.Keys.{keysAt, keysOk}
 use Rattle.rules.specs.History.{remembered}
-use Rattle.rules.specs.Valid.{courseOk, heldOk, subOk, slotOk, countersOk, liveOk, historyOk, siteOk, listAt, gatheredOk, listsOk}
-use Rattle.rules.specs.Valid.{handedOk}
+use Rattle.rules.specs.Valid.{courseOk, deskOk, heldOk, subOk, slotOk, countersOk, liveOk, historyOk, siteOk, listAt, gatheredOk}
+use Rattle.rules.specs.Valid.{listsOk, handedOk}
 use Rattle.rules.specs.ValidLaws.{ValidKeys, ValidCourse, ValidSub, digit-none}
 use Rattle.rules.specs.MaskLaws.{digit-one}
 use Rattle.rules.specs.MessageLaws.{site-clear}
@@ -116,14 +118,35 @@ course-made o own c st m h n l =
 pub course-back : (o : House) (own : ℕ) (c : Course) → ValidCourse o own c → courseOk o own c ≡ true
 course-back o own c v = course-made o own c (v .stage) (v .mask-house) (v .heard-house) (v .others) (v .listed)
 
+-- A desk, and the writes that it allows.
+pub desk-made : (d : ℕ) (b : Keys) → isDesk d ≡ true → b .wrote ≤ writeLimit d → deskOk d b ≡ true
+unfolding deskOk
+desk-made d b e l = rw (e, le-leb (b .wrote) (writeLimit d) l)
+
+pub desk-clear : (d : ℕ) (b : Keys) → deskOk d b ≡ true → isDesk d ≡ true
+unfolding deskOk
+desk-clear d b e = every-at (isDesk d ∷ leb (b .wrote) (writeLimit d) ∷ []) 0 e
+
+pub house-desk : isDesk desk.house ≡ true
+unfolding isDesk
+house-desk = refl
+
+-- nothing written
+pub new-desk : (d : ℕ) → isDesk d ≡ true → deskOk d noKeys ≡ true
+unfolding noKeys
+new-desk d e = desk-made d noKeys e (omega arith)
+
 pub sub-made : (o : House) (own : ℕ) (b : Sub) → courseOk o own (b .course) ≡ true → keysOk o own (b .keys) ≡ true
+    → deskOk (b .desk) (b .keys) ≡ true
     → ((b .course .stage ≡ stage.free → ⊥) → isTx o (b .tx) ≡ true) → subOk o own b ≡ true
 unfolding subOk heldOk
-sub-made o own b c k t =
-    by-test (eqb (b .course .stage) stage.free) (λ e. rw (c, k, e)) (λ e. rw (c, k, e, t (eqb-false _ stage.free e)))
+sub-made o own b c k d t =
+    by-test (eqb (b .course .stage) stage.free) (λ e. rw (c, k, d, e)) (λ e. rw (c, k, d, e, t (eqb-false _ stage.free e)))
 
 pub sub-back : (o : House) (own : ℕ) (b : Sub) → ValidSub o own b → subOk o own b ≡ true
-sub-back o own b v = sub-made o own b (course-back o own (b .course) (v .course)) (keys-back o own (b .keys) (v .keys)) (v .tx)
+sub-back o own b v =
+    sub-made o own b (course-back o own (b .course) (v .course)) (keys-back o own (b .keys) (v .keys)) 
+    (desk-made (b .desk) (b .keys) (v .desk) (v .few)) (v .tx)
 
 -- An install.
 pub entry-made : (o : House) (own : ℕ) (used : Bool) (e : Entry) → isMask o (e .mask) ≡ true → keysOk o own (e .keys) ≡ true

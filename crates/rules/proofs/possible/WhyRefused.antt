@@ -19,6 +19,7 @@ use Rattle.kinds.specs.declared.Merger.{Merger}
 use Rattle.kinds.specs.declared.Answer.{Answer}
 use Rattle.kinds.specs.declared.Answer.the-variants.{Refused}
 use Rattle.rules.specs.House.{isSite, isKey, inMask}
+use Rattle.rules.specs.Desk.{isDesk, writeLimit}
 use Rattle.rules.specs.Record.{recordHead, partOk, stateOk, mergedOk}
 use Rattle.rules.specs.Send.{countsLow}
 use Rattle.rules.specs.Keys.{wroteKey, readKey}
@@ -76,12 +77,13 @@ pub caused : (l : List Cause) → codeOf l ≡ reason.malformed → holdsAt reas
 caused l e = code-holds reason.malformed l (λ z. omega arith) e
 
 module _ (s : Site) (ok : siteOk s ≡ true) where
-  pub begin-why : Refuses (Only ⊥) (beginOf s .answer)
+  pub begin-why : (d : ℕ) → Refuses (Only (isDesk d ≡ false)) (beginOf s d .answer)
   unfolding beginOf beginCode begun
-  begin-why =
+  begin-why d =
       let place = freePlace (s .live) in
-      unless-refuses (Only ⊥) (beginCode (siteOk s) (s .counters) place) s [] _
-      (λ z e. never (rw ok at (caused (beginCauses (siteOk s) (s .counters) place) e))) (λ z. accepted-refuses (Only ⊥) _ refl)
+      let X = isDesk d ≡ false in
+      unless-refuses (Only X) (beginCode (siteOk s) (isDesk d) (s .counters) place) s [] _
+      (λ z e. fails _ (rw ok at (caused (beginCauses (siteOk s) (isDesk d) (s .counters) place) e))) (λ z. accepted-refuses (Only X) _ refl)
 
   pub enlist-why : (room t a : ℕ) → Refuses (Only (isSite (s .house) a ≡ false)) (enlistOf s room t a .answer)
   unfolding enlistOf enlistAt enlistCode joinerCode
@@ -145,7 +147,8 @@ module _ (s : Site) (ok : siteOk s ≡ true) where
       (λ e. rw e (accepted-refuses (Only X) _ refl))
       (λ e. rw e
       (unless-refuses (Only X) (writeCodeAt s place k) s [] _
-      (λ y. other-cause (writeCauses lost (keyHeld (s .live) place k) (isNewer (s .history) n (b .snapshot) k) (b .keys .wrote)) refl)
+      (λ y. other-cause (writeCauses lost (keyHeld (s .live) place k) (isNewer (s .history) n (b .snapshot) k) (writeLimit (b .desk))
+      (b .keys .wrote)) refl)
       (λ y. accepted-refuses (Only X) _ refl))))
 
   request-why : (given : Bool) (room place : ℕ) (mine : Bool) → given ≡ true → Only ⊥ (requestCode given room place mine)

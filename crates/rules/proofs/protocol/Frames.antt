@@ -14,7 +14,7 @@ use Rattle.kinds.specs.Sizes as sizes
 use Rattle.rules.specs.House.{coordinatorOf, serialOf, txOf, inMask}
 use Rattle.rules.specs.World.{upd}
 use Rattle.rules.proofs.lists.Tables.{upd₂, upd-cases, upd₂-cases, all-at}
-use Rattle.rules.proofs.protocol.ProtocolTables.{Protocol, Msg, mJoin, mAbort}
+use Rattle.rules.proofs.protocol.ProtocolTables.{Protocol, Msg, IsJoin, mJoin, mAbort}
 use Rattle.rules.proofs.protocol.Protocol.{Next, others}
 use Rattle.rules.proofs.protocol.Invariants.{Parts, MsgOk, Posts, Account, Invariant}
 
@@ -79,17 +79,17 @@ new-tx sites p s t i l e j h =
     let n : serialOf t ≡ p .serial s + 1 = rw e (tx-serial s (p .serial s + 1) (omega arith)) in
     omega (arith, q, n, ap (p .serial) c)
 
-pub new-join : (sites : ℕ) (p : Protocol) (a s t : ℕ) → Posts sites p → Next p a s (mJoin t) → p .has s t ≡ true → ⊥
-new-join sites p a s t i n h =
-    let o = next-ok sites p a s (mJoin t) n i in
+pub new-join : (sites : ℕ) (p : Protocol) (a s t d : ℕ) → Posts sites p → Next p a s (mJoin t d) → p .has s t ≡ true → ⊥
+new-join sites p a s t d i n h =
+    let o = next-ok sites p a s (mJoin t d) n i in
     go (i .join-taken s t h (λ q. o .2 (q ∙ o .0))) (o .0)
   where
-    go : (k : ℕ) × (k < p .taken (coordinatorOf t) s) × (getD (p .post (coordinatorOf t) s) k (mAbort 0) ≡ mJoin t)
+    go : (k : ℕ) × (k < p .taken (coordinatorOf t) s) × IsJoin t (getD (p .post (coordinatorOf t) s) k (mAbort 0))
         → coordinatorOf t ≡ a → ⊥
     go (k, l, e) c =
         let x : k < p .taken a s = rw c at l in
-        let z : getD (p .post a s) (p .taken a s) (mAbort 0) ≡ mJoin t =
-        in-range (p .post a s) (p .taken a s) (mAbort 0) (mJoin t) (n .some) ∙ n .is in
+        let z : IsJoin t (getD (p .post a s) (p .taken a s) (mAbort 0)) =
+        (d, in-range (p .post a s) (p .taken a s) (mAbort 0) (mJoin t d) (n .some) ∙ n .is) in
         omega (arith, i .join-once a s t k (p .taken a s) (omega (arith, n .some)) (n .some) (rw c at e) z)
 
 -- where no part has begun, the account has nothing

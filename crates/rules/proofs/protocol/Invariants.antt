@@ -16,7 +16,7 @@ use Rattle.rules.specs.Keys.{wroteKey, dependent}
 use Rattle.rules.proofs.lists.Tables.{All}
 use Rattle.rules.proofs.protocol.ProtocolTables.{Protocol, Msg, mJoin, mJoined, mPrepare, mConc, mCert, mVote, mCommit, mAbort, Rec}
 use Rattle.rules.proofs.protocol.ProtocolTables.{rPart, rState}
-use Rattle.rules.proofs.protocol.ProtocolTables.{inst}
+use Rattle.rules.proofs.protocol.ProtocolTables.{IsJoin, inst}
 use Rattle.rules.proofs.protocol.Protocol.{AtStage, courseAt, Whole, Within, Listed}
 
 -- t's part is held at s: neither installed nor aborted there
@@ -58,7 +58,7 @@ pub record Parts (sites : ℕ) (p : Protocol) : Type 0 where
 
 -- Posts: where messages come from.
 abbrev pub MsgOk : ℕ → Protocol → ℕ → ℕ → Msg → Type 0
-MsgOk sites p a b (mJoin t) = (coordinatorOf t ≡ a) × (p .has a t ≡ true) × (b ≡ a → ⊥) × ((1 ≤ b) × (b ≤ sites))
+MsgOk sites p a b (mJoin t d) = (coordinatorOf t ≡ a) × (p .has a t ≡ true) × (b ≡ a → ⊥) × ((1 ≤ b) × (b ≤ sites))
     × (Held p a t → inMask (courseAt p a t .mask) b ≡ true) × (p .asked t ≡ true → inMask (p .mask t) b ≡ true)
 MsgOk sites p a b (mJoined t r) = (coordinatorOf t ≡ b) × (a ≡ b → ⊥) × (r ≡ 0 → p .has a t ≡ true)
 MsgOk sites p a b (mPrepare t n m) = (coordinatorOf t ≡ a) × (p .asked t ≡ true) × (m ≡ p .mask t) × (inMask (p .mask t) b ≡ true)
@@ -76,9 +76,9 @@ pub record Posts (sites : ℕ) (p : Protocol) : Type 0 where
   pub sender : (a b : ℕ) → 0 < length (p .post a b) → ((1 ≤ a) × (a ≤ sites)) × ((1 ≤ b) × (b ≤ sites))
   pub members : (t r : ℕ) → Held p (coordinatorOf t) t → In (courseAt p (coordinatorOf t) t .mask) r → r ≤ sites
   pub join-once : (a b t i j : ℕ) → i < length (p .post a b) → j < length (p .post a b)
-      → getD (p .post a b) i (mAbort 0) ≡ mJoin t → getD (p .post a b) j (mAbort 0) ≡ mJoin t → i ≡ j
+      → IsJoin t (getD (p .post a b) i (mAbort 0)) → IsJoin t (getD (p .post a b) j (mAbort 0)) → i ≡ j
   pub join-taken : (s t : ℕ) → p .has s t ≡ true → (s ≡ coordinatorOf t → ⊥)
-      → (i : ℕ) × (i < p .taken (coordinatorOf t) s) × (getD (p .post (coordinatorOf t) s) i (mAbort 0) ≡ mJoin t)
+      → (i : ℕ) × (i < p .taken (coordinatorOf t) s) × IsJoin t (getD (p .post (coordinatorOf t) s) i (mAbort 0))
 
 -- Rounds: what the coordinator has heard.
 pub record Rounds (p : Protocol) : Type 0 where

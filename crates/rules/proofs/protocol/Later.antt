@@ -24,7 +24,7 @@ use Rattle.rules.proofs.protocol.Frames.{kept₁, kept₂, was₂, said
 -- t's part at s began in the move: at its coordinator, or by its JOIN, taken now
 abbrev pub Begins : Protocol → Protocol → ℕ → ℕ → Type 0
 Begins p q s t = (coordinatorOf t ≡ s)
-    ⊎ (Next p (coordinatorOf t) s (mJoin t) × (p .taken (coordinatorOf t) s < q .taken (coordinatorOf t) s))
+    ⊎ ((d : ℕ) × Next p (coordinatorOf t) s (mJoin t d) × (p .taken (coordinatorOf t) s < q .taken (coordinatorOf t) s))
 
 -- t's commit was asked for in the move
 abbrev pub Asks : Protocol → Protocol → ℕ → Type 0
@@ -106,7 +106,8 @@ module _ {p : Protocol} {clock serial : ℕ → ℕ} {live : ℕ → ℕ → Sub
 
   -- or has one part more
   begun : (s t : ℕ)
-      → (coordinatorOf t ≡ s) ⊎ (Next p (coordinatorOf t) s (mJoin t) × (p .taken (coordinatorOf t) s < taken (coordinatorOf t) s))
+      → (coordinatorOf t ≡ s)
+      ⊎ ((d : ℕ) × Next p (coordinatorOf t) s (mJoin t d) × (p .taken (coordinatorOf t) s < taken (coordinatorOf t) s))
       → Later p (rest p clock serial live gathered post taken log (upd₂ (p .has) s t true) snap keys)
   begun s t o =
       record {
@@ -125,15 +126,15 @@ module _ {p : Protocol} {clock serial : ℕ → ℕ} {live : ℕ → ℕ → Sub
       go : (j u : ℕ) → ((j ≡ s) × (u ≡ t)) ⊎ (p .has j u ≡ true)
           → (p .has j u ≡ true)
           ⊎ ((coordinatorOf u ≡ j)
-          ⊎ (Next p (coordinatorOf u) j (mJoin u) × (p .taken (coordinatorOf u) j < taken (coordinatorOf u) j)))
+          ⊎ ((d : ℕ) × Next p (coordinatorOf u) j (mJoin u d) × (p .taken (coordinatorOf u) j < taken (coordinatorOf u) j)))
       go j u (inl (x, y)) = rw (x, y) (inr o)
       go j u (inr h) = inl h
 
 module _ (sites : ℕ) (p : Protocol) (i : Invariant sites p) where
   pub later : (q : Protocol) → Move sites p q → Later p q
-  later q (begin s t l m n e) = begun (λ j. omega arith) s t (inl (rw e (tx-coordinator s (p .serial s + 1) (omega arith))))
+  later q (begin s t d l m n e) = begun (λ j. omega arith) s t (inl (rw e (tx-coordinator s (p .serial s + 1) (omega arith))))
   later q (enlist s t r c a l m n o) = quiet (λ j. omega arith)
-  later q (access s t b fs a told w f) = quiet (λ j. omega arith)
+  later q (access s t b fs a told w f m) = quiet (λ j. omega arith)
   later q (request s t es c a l r v) =
       let x : AtStage p (coordinatorOf t) t stage.active = rw c a in
       record {
@@ -196,10 +197,10 @@ module _ (sites : ℕ) (p : Protocol) (i : Invariant sites p) where
       }
   later q (install s t a l) = quiet (λ j. omega arith)
   later q (report s n a) = quiet (λ j. omega arith)
-  later q (joins a s t n f) =
+  later q (joins a s t d n f) =
       let o = said i n in
-      begun (λ j. omega arith) s t (inr (rw (o .0) n, rw (o .0) (rw (upd₂-same (p .taken) a s (p .taken a s + 1)) (omega arith))))
-  later q (full a s t r n z) = quiet (λ j. omega arith)
+      begun (λ j. omega arith) s t (inr (d, rw (o .0) n, rw (o .0) (rw (upd₂-same (p .taken) a s (p .taken a s + 1)) (omega arith))))
+  later q (full a s t d r n z) = quiet (λ j. omega arith)
   later q (joined a s t r n x o) = quiet (λ j. omega arith)
   later q (prepared a s t n m es x y v) =
       record {

@@ -27,7 +27,7 @@ Site sites a = (1 ≤ a) × (a ≤ sites)
 
 -- a JOIN goes to a site that was no participant before
 abbrev pub FirstJoin : Protocol → ℕ → ℕ → Msg → Type 0
-FirstJoin p a b (mJoin t) = Held p a t × (inMask (courseAt p a t .mask) b ≡ false)
+FirstJoin p a b (mJoin t d) = Held p a t × (inMask (courseAt p a t .mask) b ≡ false)
 FirstJoin p a b (mJoined t r) = Unit {0}
 FirstJoin p a b (mPrepare t n m) = Unit {0}
 FirstJoin p a b (mConc t es) = Unit {0}
@@ -75,12 +75,12 @@ module _ (sites : ℕ) (p : Protocol) (i : Invariant sites p) where
 
   pub mail : (q : Protocol) → Move sites p q → Mail sites p q
   unfolding withParticipant
-  mail q (begin s t l m n e) = none q
+  mail q (begin s t d l m n e) = none q
   mail q (enlist s t r c a l m n o) =
       let h : Held p s t = λ f. omega arith in
       let x : AtStage p (coordinatorOf t) t stage.active = rw c a in
       let has = i .parts .has s t h in
-      one q s r (mJoin t) (
+      one q s r (mJoin t (p .live s t .desk)) (
         (
           c,
           has,
@@ -93,7 +93,7 @@ module _ (sites : ℕ) (p : Protocol) (i : Invariant sites p) where
         (i .parts .site s t has, (l, m)),
         (h, o),
       )
-  mail q (access s t b fs a told w f) = none q
+  mail q (access s t b fs a told w f m) = none q
   mail q (request s t es c a l r v) =
       every-other q s t _ c (λ f. omega arith)
       (λ j e n. (
@@ -115,10 +115,10 @@ module _ (sites : ℕ) (p : Protocol) (i : Invariant sites p) where
   mail q (decide s t c a l) = every-other q s t _ c (λ f. omega arith) (λ j e n. ((c, upd-same (p .num) t _, omega arith), tt))
   mail q (install s t a l) = none q
   mail q (report s n a) = none q
-  mail q (joins a s t n f) =
+  mail q (joins a s t d n f) =
       let o = said i n in
       back q a s _ n ((o .0, o .2, λ z. upd₂-same (p .has) s t true), tt)
-  mail q (full a s t r n z) =
+  mail q (full a s t d r n z) =
       let o = said i n in
       back q a s _ n ((o .0, o .2, λ e. absurd (z e)), tt)
   mail q (joined a s t r n x o) = none q
@@ -155,17 +155,17 @@ module _ (sites : ℕ) (p : Protocol) (i : Invariant sites p) where
       upd₂-cases (λ x y k. (p .taken x y ≤ k) × (k ≤ length (p .post x y))) (p .taken) a s _ (omega (arith, n .some)) (λ x y z. idle x y)
 
   pub takes : (q : Protocol) → Move sites p q → Took (q .taken)
-  takes q (begin s t l m n e) = idle
+  takes q (begin s t d l m n e) = idle
   takes q (enlist s t r c a l m n o) = idle
-  takes q (access s t b fs a told w f) = idle
+  takes q (access s t b fs a told w f m) = idle
   takes q (request s t es c a l r v) = idle
   takes q (abort s t c a d) = idle
   takes q (cast s t es c a l w v) = idle
   takes q (decide s t c a l) = idle
   takes q (install s t a l) = idle
   takes q (report s n a) = idle
-  takes q (joins a s t n f) = next a s _ n
-  takes q (full a s t r n z) = next a s _ n
+  takes q (joins a s t d n f) = next a s _ n
+  takes q (full a s t d r n z) = next a s _ n
   takes q (joined a s t r n x o) = next a s _ n
   takes q (prepared a s t n m es x y v) = next a s _ x
   takes q (lost a s t n m r x y z) = next a s _ x

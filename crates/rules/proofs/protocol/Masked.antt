@@ -61,7 +61,7 @@ module _ (sites : ℕ) (p : Protocol) (i : Invariant sites p) where
 
   pub masked : (q : Protocol) → Move sites p q → MaskedAll sites p q
   unfolding newSub withParticipant withReply withDecision withQueueMark withRequest withStage
-  masked q (begin s t l m n e) =
+  masked q (begin s t d l m n e) =
       one s t _ (λ o. record {
         grows = λ h x. absurd (new-tx sites p s t (i .parts) n e s h);
         within = λ x r z. inr (let q = only-own s r l (z .0) (z .1) in omega arith);
@@ -76,15 +76,15 @@ module _ (sites : ℕ) (p : Protocol) (i : Invariant sites p) where
           → (Held p s t × In (courseAt p s t .mask) k) ⊎ (k ≤ sites)
       more k z (inl e) = inl ((λ f. omega arith), (z .0, e))
       more k z (inr e) = inr (omega arith)
-  masked q (access s t b fs a told w f) = one s t _ (λ o. same s t _ _ (λ x. x) refl)
+  masked q (access s t b fs a told w f m) = one s t _ (λ o. same s t _ _ (λ x. x) refl)
   masked q (request s t es c a l r v) = course s t _ (λ f. omega arith) refl
   masked q (abort s t c a d) = one s t _ (λ o. gone s t _)
   masked q (cast s t es c a l w v) = course s t _ (λ f. omega arith) refl
   masked q (decide s t c a l) = course s t _ (λ f. omega arith) refl
   masked q (install s t a l) = one s t _ (λ o. gone s t _)
   masked q (report s n a) = still
-  masked q (joins a s t n f) = one s t _ (λ e. let o = said i n in absurd (o .2 (sym e ∙ o .0)))
-  masked q (full a s t r n z) = still
+  masked q (joins a s t d n f) = one s t _ (λ e. let o = said i n in absurd (o .2 (sym e ∙ o .0)))
+  masked q (full a s t d r n z) = still
   masked q (joined a s t r n x o) = course s t _ (λ f. omega arith) refl
   masked q (prepared a s t n m es x y v) = one s t _ (elsewhere a s t n m _ x)
   masked q (lost a s t n m r x y z) = one s t _ (elsewhere a s t n m _ x)

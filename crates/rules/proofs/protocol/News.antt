@@ -83,9 +83,9 @@ module _ {sites : ℕ} {p : Protocol} (i : Invariant sites p) where
 
   pub news : (q : Protocol) → Move sites p q → News p q
   unfolding withDecision noSub
-  news q (begin s t l m n e) = quiet q same
+  news q (begin s t d l m n e) = quiet q same
   news q (enlist s t r c a l m n o) = quiet q same
-  news q (access s t b fs a told w f) = quiet q same
+  news q (access s t b fs a told w f m) = quiet q same
   news q (request s t es c a l r v) =
       let m = courseAt p s t .mask in
       record {
@@ -149,8 +149,8 @@ module _ {sites : ℕ} {p : Protocol} (i : Invariant sites p) where
       }
   news q (install s t a l) = quiet q same
   news q (report s n a) = quiet q same
-  news q (joins a s t n f) = quiet q same
-  news q (full a s t r n z) = quiet q same
+  news q (joins a s t d n f) = quiet q same
+  news q (full a s t d r n z) = quiet q same
   news q (joined a s t r n x o) = quiet q same
   news q (prepared a s t n m es x y v) =
       let o = said i x in

@@ -16,6 +16,7 @@ use Rattle.kinds.specs.declared.Course.{Course}
 use Rattle.kinds.specs.declared.Sub.{Sub}
 use Rattle.kinds.specs.State.{noSub, noKeys, pastEntry, withCourse, withKeys, Value}
 use Rattle.rules.specs.House.{coordinatorOf, homeOf, txOf, inMask, maskOf}
+use Rattle.rules.specs.Desk.{writeLimit}
 use Rattle.rules.specs.Message.{entryTx, entryMask, entryMark, entryCount}
 use Rattle.rules.specs.Keys.{wroteKey, wroteValue, readKey, dependent}
 use Rattle.rules.specs.Live.{isPrepared, isQueued, allHeard}
@@ -116,14 +117,14 @@ pub record StateAt (p : Protocol) (s n : ℕ) : Type 0 where
   pub numbers : (u : ℕ) → AtStage p s u stage.decided → n ≤ courseAt p s u .number - 1
   pub is : Bound p s n
 
--- t's part begins at s
-abbrev pub beganAt : Protocol → ℕ → ℕ → ℕ → Protocol
-beganAt p s t mask =
+-- t's part begins at s, for a desk
+abbrev pub beganAt : Protocol → ℕ → ℕ → ℕ → ℕ → Protocol
+beganAt p s t d mask =
     withLive
     (set-has (upd₂ (p .has) s t true)
     (set-snap (upd₂ (p .snap) s t (length (inst p s)))
     (set-keys (upd₂ (p .keys) s t noKeys) p)))
-    s t (newSub t mask (length (inst p s)))
+    s t (newSub t d mask (length (inst p s)))
 
 -- What a read or a write tells the book. A read uses its key and leaves the writes; a write sets its value and leaves the others.
 pub data Accessed (sites s t : ℕ) (old new : Keys) : List Fact → Type 0 where
@@ -139,18 +140,20 @@ pub data Accessed (sites s t : ℕ) (old new : Keys) : List Fact → Type 0 wher
 -- The moves. A call is some of them, one after the other.
 pub data Move (sites : ℕ) (p : Protocol) : Protocol → Type 0 where
   -- begin, at site s
-  begin : (s t : ℕ) → 1 ≤ s → s ≤ sites → p .serial s < sizes.lastSerial → t ≡ txOf s (p .serial s + 1)
-      → Move sites p (beganAt (set-serial (upd (p .serial) s (p .serial s + 1)) p) s t (maskOf s))
+  begin : (s t d : ℕ) → 1 ≤ s → s ≤ sites → p .serial s < sizes.lastSerial → t ≡ txOf s (p .serial s + 1)
+      → Move sites p (beganAt (set-serial (upd (p .serial) s (p .serial s + 1)) p) s t d (maskOf s))
   -- enlist of site r
   enlist : (s t r : ℕ) → coordinatorOf t ≡ s → AtStage p s t stage.active → 1 ≤ r → r ≤ sites → (r ≡ s → ⊥)
       → inMask (courseAt p s t .mask) r ≡ false
-      → Move sites p (posted (withCourseAt p s t (withParticipant (courseAt p s t) r)) s r (mJoin t))
-  -- a read or a write of an active part: what it wrote more was written by no other live part, nor installed after the snapshot
+      → Move sites p (posted (withCourseAt p s t (withParticipant (courseAt p s t) r)) s r (mJoin t (p .live s t .desk)))
+  -- a read or a write of an active part: what it wrote more was written by no other live part, nor installed after the snapshot, and it
+  -- wrote no more than its desk allows
   access : (s t : ℕ) (b : Keys) (fs : List Fact) → AtStage p s t stage.active → Accessed sites s t (p .live s t .keys) b fs
       → ((k : ℕ) → wroteKey (p .live s t .keys) k ≡ true → wroteKey b k ≡ true)
       → ((k : ℕ) → wroteKey b k ≡ true → wroteKey (p .live s t .keys) k ≡ false
       → ((u : ℕ) → (u ≡ t → ⊥) → (AtStage p s u stage.free → ⊥) → wroteKey (p .live s u .keys) k ≡ false)
       × ((i : ℕ) → p .live s t .snapshot .installs ≤ i → i < length (inst p s) → wroteKey (getD (inst p s) i pastEntry .keys) k ≡ false))
+      → b .wrote ≤ writeLimit (p .live s t .desk)
       → Move sites p (set-keys (upd₂ (p .keys) s t b) (withLive p s t (withKeys (p .live s t) b)))
   -- the commit request: every other participant has answered its JOIN by 0
   request : (s t : ℕ) (es : List ℕ) → coordinatorOf t ≡ s → AtStage p s t stage.active
@@ -193,9 +196,9 @@ pub data Move (sites : ℕ) (p : Protocol) : Protocol → Type 0 where
   -- report
   report : (s n : ℕ) → StateAt p s n → Move sites p (set-log (upd (p .log) s (p .log s ++ (rState n ∷ []))) p)
   -- A message from a taken at s.
-  joins : (a s t : ℕ) → Next p a s (mJoin t) → AtStage p s t stage.free
-      → Move sites p (posted (beganAt (took p a s) s t 0) s a (mJoined t 0))
-  full : (a s t r : ℕ) → Next p a s (mJoin t) → (r ≡ 0 → ⊥) → Move sites p (posted (took p a s) s a (mJoined t r))
+  joins : (a s t d : ℕ) → Next p a s (mJoin t d) → AtStage p s t stage.free
+      → Move sites p (posted (beganAt (took p a s) s t d 0) s a (mJoined t 0))
+  full : (a s t d r : ℕ) → Next p a s (mJoin t d) → (r ≡ 0 → ⊥) → Move sites p (posted (took p a s) s a (mJoined t r))
   joined : (a s t r : ℕ) → Next p a s (mJoined t r) → AtStage p s t stage.active → isOutstanding (courseAt p s t) a ≡ true
       → Move sites p (withCourseAt (took p a s) s t (withReply (courseAt p s t) a r 0))
   prepared : (a s t n mask : ℕ) (es : List ℕ) → Next p a s (mPrepare t n mask) → AtStage p s t stage.active → Covers p s t es

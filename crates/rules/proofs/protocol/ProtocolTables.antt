@@ -1,5 +1,6 @@
 -- The protocol's tables: messages and records without their words, what each site holds, and the account that the proofs keep.
 use Prim.Native.Nat.{ℕ}
+use mathlib.Core.Path.{_≡_}
 use mathlib.Core.Bool.{Bool}
 use mathlib.Core.List.{List, [], _∷_}
 use Rattle.kinds.specs.declared.Keys.{Keys}
@@ -8,7 +9,7 @@ use Rattle.kinds.specs.declared.Entry.{Entry}
 
 -- A message from one site to another, without its channel number.
 pub data Msg : Type 0 where
-  mJoin : (tx : ℕ) → Msg
+  mJoin : (tx desk : ℕ) → Msg
   mJoined : (tx reason : ℕ) → Msg
   mPrepare : (tx clock mask : ℕ) → Msg
   mConc : (tx : ℕ) (es : List ℕ) → Msg
@@ -16,6 +17,10 @@ pub data Msg : Type 0 where
   mVote : (tx clock reason : ℕ) → Msg
   mCommit : (tx number : ℕ) → Msg
   mAbort : (tx : ℕ) → Msg
+
+-- m is a JOIN of t, for a desk
+abbrev pub IsJoin : ℕ → Msg → Type 0
+IsJoin t m = (d : ℕ) × (m ≡ mJoin t d)
 
 -- A record of a site's log.
 pub data Rec : Type 0 where

@@ -107,9 +107,9 @@ module _ {sites : ℕ} {p : Protocol} (i : Invariant sites p) where
 
   pub turns : (q : Protocol) → Move sites p q → (s t : ℕ) → Turn p q s t (q .live s t)
   unfolding newSub withParticipant withReply withDecision withQueueMark withRequest withStage noSub
-  turns q (begin s t l m n e) = began q s t _ refl refl refl (new-tx sites p s t (i .parts) n e s) refl
+  turns q (begin s t d l m n e) = began q s t _ refl refl refl (new-tx sites p s t (i .parts) n e s) refl
   turns q (enlist s t r c a l m n o) = stayed q s t _ none refl refl
-  turns q (access s t b fs a told w f) =
+  turns q (access s t b fs a told w f m) =
       one q s t _ (λ j u x. (refl, refl, upd₂-other (p .keys) s t b j u x))
       (t-reads refl refl a a (λ u n. upd₂-other (p .keys) s t b s u (λ z. n (z .1)))
       (here₂ (λ (c : Keys). (k : ℕ) → wroteKey c k ≡ true → wroteKey (p .live s t .keys) k ≡ false → Unwritten p s t k) (p .keys) s t b f))
@@ -124,8 +124,8 @@ module _ {sites : ℕ} {p : Protocol} (i : Invariant sites p) where
       one q s t _ (λ j u x. none j u)
       (t-installs (none s t) a refl (installed-last p s t _ (i .parts .tx s t (λ f. omega arith)) (upd-same (p .log) s _)))
   turns q (report s n a) = still q none
-  turns q (joins a s t n f) = began q s t _ refl refl refl (new-join sites p a s t (i .posts) n) refl
-  turns q (full a s t r n z) = still q none
+  turns q (joins a s t d n f) = began q s t _ refl refl refl (new-join sites p a s t d (i .posts) n) refl
+  turns q (full a s t d r n z) = still q none
   turns q (joined a s t r n x o) = stayed q s t _ none refl refl
   turns q (prepared a s t n m es x y v) = moved q s t _ none (omega arith) (omega arith) (omega arith)
   turns q (lost a s t n m r x y z) = moved q s t _ none (omega arith) (omega arith) (omega arith)
@@ -144,17 +144,17 @@ module _ {sites : ℕ} {p : Protocol} (i : Invariant sites p) where
   quiet s = l-same refl
 
   pub logs : (q : Protocol) → Move sites p q → (s : ℕ) → Logged p s (q .log s)
-  logs q (begin s t l m n e) = quiet
+  logs q (begin s t d l m n e) = quiet
   logs q (enlist s t r c a l m n o) = quiet
-  logs q (access s t b fs a told w f) = quiet
+  logs q (access s t b fs a told w f m) = quiet
   logs q (request s t es c a l r v) = quiet
   logs q (abort s t c a d) = quiet
   logs q (cast s t es c a l w v) = quiet
   logs q (decide s t c a l) = quiet
   logs q (install s t a l) = upd-cases (Logged p) (p .log) s _ (l-part t a l refl) (λ j n. quiet j)
   logs q (report s n a) = upd-cases (Logged p) (p .log) s _ (l-state n a refl) (λ j n. quiet j)
-  logs q (joins a s t n f) = quiet
-  logs q (full a s t r n z) = quiet
+  logs q (joins a s t d n f) = quiet
+  logs q (full a s t d r n z) = quiet
   logs q (joined a s t r n x o) = quiet
   logs q (prepared a s t n m es x y v) = quiet
   logs q (lost a s t n m r x y z) = quiet

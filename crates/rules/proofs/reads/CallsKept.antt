@@ -127,7 +127,7 @@ module _ (sites : ℕ) (w : World) where
 pub call-kept : {sites : ℕ} {w : World} {p : Protocol} → Refines sites w p → Invariant sites p → WritesOnce p → (c : Call)
     → CallKeeps sites w (step w c .world) (toldBy c (step w c .answer) (step w c .words))
 unfolding step logStep mergeStep mergerStep replayStep copyStep
-call-kept {sites} {w} r i o (world.begin s) = at-site sites w s _ _ (begins-quiet s (step w (world.begin s) .answer))
+call-kept {sites} {w} r i o (world.begin s d) = at-site sites w s _ _ (begins-quiet s (step w (world.begin s d) .answer))
 call-kept {sites} {w} r i o (world.enlist s out t n) = at-site sites w s _ _ a-nil
 call-kept {sites} {w} r i o (world.read s t k) =
     accessed sites w s _ _ (uses-told t k (step w (world.read s t k) .answer)) (read-once r i o s t k)

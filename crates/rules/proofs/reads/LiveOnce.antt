@@ -15,6 +15,7 @@ use Rattle.kinds.specs.State.{Value, subAt, pastSub, withKeys}
 use Rattle.rules.specs.Keys.{wroteKey, readKey, withRead, withWrite}
 use Rattle.rules.specs.Live.{partAt, stageAt, placeOf, keyHeld}
 use Rattle.rules.specs.History.{isForgotten, isNewer}
+use Rattle.rules.specs.Desk.{writeLimit, limit-most}
 use Rattle.rules.specs.Valid.{siteOk}
 use Rattle.rules.specs.Effect.{Effect, turnAt, settle}
 use Rattle.rules.specs.Course.{quietly}
@@ -110,10 +111,11 @@ module _ {sites : ℕ} {w : World} {p : Protocol} (r : Refines sites w p) (i : I
   unfolding writeCodeAt
   first v a f c =
       let d = subAt site spot in
-      let room : p .live s t .keys .wrote < sizes.writes =
+      let below : p .live s t .keys .wrote < writeLimit (p .live s t .desk) =
       rw (a .part) at
       (write-clear (isForgotten (site .counters .installs) (d .snapshot)) (keyHeld (site .live) spot k)
-      (isNewer (site .history) (site .counters .installs) (d .snapshot) k) (d .keys .wrote) c .room) in
+      (isNewer (site .history) (site .counters .installs) (d .snapshot) k) (writeLimit (d .desk)) (d .keys .wrote) c .room) in
+      let room : p .live s t .keys .wrote < sizes.writes = omega (arith, limit-most (p .live s t .desk)) in
       writes v a (once-first (p .live s t .keys) k (a .sized) room (rw (a .part) at f) v (own a))
 
   pub write-once : (v : Value) (j : ℕ) → 1 ≤ j → j ≤ sites → LiveOnce (step w (world.write s t k v) .world .site j .live)

@@ -130,7 +130,7 @@ module _ {sites : ℕ} {w : World} {p : Protocol} (r : Refines sites w p) (inv :
 
   pub call-written : (c : Call) (s : ℕ) → All (RecordOk sites) (step w c .world .log s)
   unfolding step siteStep mergeStep mergerStep replayStep copyStep
-  call-written (world.begin s) = f
+  call-written (world.begin s d) = f
   call-written (world.enlist s out t n) = f
   call-written (world.read s t key) = f
   call-written (world.write s t key v) = f

@@ -22,11 +22,13 @@ use Rattle.kinds.specs.declared.Answer.{Answer}
 use Rattle.kinds.specs.declared.Answer.the-variants.{Found}
 use Rattle.kinds.specs.State.{Value, subAt, pastSub, pastEntry, withKeys, withSub}
 use Rattle.rules.specs.House.{homeOf}
+use Rattle.rules.specs.Desk.{writeLimit, limit-most}
 use Rattle.rules.specs.Keys.{wroteKey, wroteValue, readKey, withRead, withWrite}
+use Rattle.rules.specs.KeysLaws.{wrote-read, wrote-again, wrote-first}
 use Rattle.rules.specs.Live.{partAt, stageAt, placeOf, otherHolds, keyHeld}
 use Rattle.rules.specs.History.{recall, remembered, forgotten, isForgotten, within, isNewer}
 use Rattle.rules.specs.Valid.{siteOk}
-use Rattle.rules.specs.ValidLaws.{live-wrote}
+use Rattle.rules.specs.ValidLaws.{live-wrote, live-few}
 use Rattle.rules.specs.Effect.{Effect, refused, turnAt, settle}
 use Rattle.rules.specs.Course.{quietly}
 use Rattle.rules.specs.Access.{accessCode, readCode, readVersion, readAt, readOf, writeCodeAt, written, writeAt, writeOf}
@@ -84,17 +86,18 @@ module _ {sites : ℕ} {w : World} {p : Protocol} (r : Refines sites w p) (s t :
       → ((k : ℕ) → wroteKey b k ≡ true → wroteKey (p .live s t .keys) k ≡ false
       → ((u : ℕ) → (u ≡ t → ⊥) → (IsFree (p .live s u) → ⊥) → wroteKey (p .live s u .keys) k ≡ false)
       × ((i : ℕ) → p .live s t .snapshot .installs ≤ i → i < length (inst p s) → wroteKey (at p s i .keys) k ≡ false))
+      → b .wrote ≤ writeLimit (p .live s t .desk)
       → (e : Effect) → e .site ≡ withSub (w .site s) (placeOf (w .site s .live) t) (withKeys (p .live s t) b) → e .words ≡ []
       → Follows sites p (siteStep w s e (w .base s) (w .lists s) .world) fs
   unfolding messagesIn splitWords
-  accesses held active b fs z told kept new e es ws =
+  accesses held active b fs z told kept new limit e es ws =
       let x = w .site s in
       let place = placeOf (x .live) t in
       let y = r .site s l h in
       let (q, f, o) = place-held (y .live) t held in
       let c = withKeys (p .live s t) b in (
         _,
-        more stop (access s t b fs active told kept new),
+        more stop (access s t b fs active told kept new limit),
         refl,
         site-step r s l h
             (record {
@@ -128,6 +131,7 @@ module _ {sites : ℕ} {w : World} {p : Protocol} (r : Refines sites w p) (s t k
     pub active : p .live s t .course .stage ≡ stage.active
     pub sized : Sized (p .live s t .keys)
     pub few : p .live s t .keys .wrote ≤ sizes.writes
+    pub limit : p .live s t .keys .wrote ≤ writeLimit (p .live s t .desk)
     pub home : homeOf (record { sites = sites }) k ≡ s
     pub installs : here .counters .installs ≡ length (inst p s)
     pub history : HistoryIs (here .history) (inst p s)
@@ -148,6 +152,7 @@ module _ {sites : ℕ} {w : World} {p : Protocol} (r : Refines sites w p) (s t k
         active = sym (ap (λ (b : Sub). b .course .stage) q) ∙ c .active;
         sized = y .live .sized t f;
         few = rw q at (live-wrote here (c .key .valid) spot (c .held));
+        limit = rw q at (live-few here (c .key .valid) spot (c .held));
         home = ap (λ (n : ℕ). homeOf (record { sites = n }) k) (sym (y .house)) ∙ c .key .here ∙ y .counters .own-is;
         installs = y .counters .installs-are;
         history = y .history;
@@ -168,7 +173,7 @@ module _ {sites : ℕ} {w : World} {p : Protocol} (r : Refines sites w p) (s t k
       let same : withSub here spot (subAt here spot) ≡ here = rw (set-getD (here .live) spot pastSub) in
       accesses r s t (a .low) (a .high) (a .held) (a .active) b (book.used t k ∷ []) (a .sized)
       (protocol.reads k (a .home) (inr f′) (λ j e. e) (λ j. (refl, λ e. refl)))
-      (λ j e. e) (λ j e g. absurd (set-not _ e g))
+      (λ j e. e) (λ j e g. absurd (set-not _ e g)) (a .limit)
       owned (sym (ap (withSub here spot) (sym (a .part)) ∙ same)) refl
 
   reads : Reaches
@@ -187,7 +192,7 @@ module _ {sites : ℕ} {w : World} {p : Protocol} (r : Refines sites w p) (s t k
       (read-clear (isForgotten (here .counters .installs) (d .snapshot)) (readKey (d .keys) k) (d .keys .read) c .room) in
       accesses r s t (a .low) (a .high) (a .held) (a .active) b (book.used t k ∷ []) (read-sized own k (a .sized))
       (protocol.reads k (a .home) (inl (read-new own k (a .sized) room)) (read-kept own k) (λ j. (same j, λ e. read-value own k j)))
-      (λ j e. same j ∙ e) (λ j e f. absurd (set-not _ e (same j ∙ f)))
+      (λ j e. same j ∙ e) (λ j e f. absurd (set-not _ e (same j ∙ f))) (rw (wrote-read own k) (a .limit))
       (readVersion here (w .base s) spot k) (rw (a .part)) refl
 
   pub read-moves : let x = step w (world.read s t k) in Follows sites p (x .world) (toldBy (world.read s t k) (x .answer) (x .words))
@@ -210,13 +215,14 @@ module _ {sites : ℕ} {w : World} {p : Protocol} (r : Refines sites w p) (s t k
       → ((j : ℕ) → wroteKey (withWrite (p .live s t .keys) k v) j ≡ true → wroteKey (p .live s t .keys) j ≡ false
       → ((u : ℕ) → (u ≡ t → ⊥) → (IsFree (p .live s u) → ⊥) → wroteKey (p .live s u .keys) j ≡ false)
       × ((i : ℕ) → p .live s t .snapshot .installs ≤ i → i < length (inst p s) → wroteKey (at p s i .keys) j ≡ false))
+      → withWrite (p .live s t .keys) k v .wrote ≤ writeLimit (p .live s t .desk)
       → Goal (book.writes t k v) (written here spot k v)
   unfolding written settle turnAt quietly
-  writes v a sets kept new =
+  writes v a sets kept new limit =
       let own = p .live s t .keys in
       accesses r s t (a .low) (a .high) (a .held) (a .active) (withWrite own k v) (book.used t k ∷ book.wrote t k v ∷ [])
       (write-sized own k v (a .sized))
-      (protocol.writes k v (a .home) (sets .wrote) (sets .value) (λ j e. write-reads own k v j ∙ e) (sets .others)) kept new
+      (protocol.writes k v (a .home) (sets .wrote) (sets .value) (λ j e. write-reads own k v j ∙ e) (sets .others)) kept new limit
       (written here spot k v) (rw (a .part)) refl
 
   rewrites : (v : Value) → Reaches → wroteKey (subAt here spot .keys) k ≡ true → Goal (book.writes t k v) (written here spot k v)
@@ -224,7 +230,7 @@ module _ {sites : ℕ} {w : World} {p : Protocol} (r : Refines sites w p) (s t k
       let f′ : wroteKey (p .live s t .keys) k ≡ true = sym (ap (λ (b : Sub). wroteKey (b .keys) k) (a .part)) ∙ f in
       let same = again-wrote (p .live s t .keys) k v f′ in
       writes v a (again-sets (p .live s t .keys) k v f′ (a .sized) (a .few)) (λ j e. same j ∙ e)
-      (λ j e g. absurd (set-not _ e (same j ∙ g)))
+      (λ j e g. absurd (set-not _ e (same j ∙ g))) (rw (wrote-again (p .live s t .keys) k v f′) (a .limit))
 
   first : (v : Value) → Reaches → wroteKey (subAt here spot .keys) k ≡ false → writeCodeAt here spot k ≡ 0
       → Goal (book.writes t k v) (written here spot k v)
@@ -233,9 +239,10 @@ module _ {sites : ℕ} {w : World} {p : Protocol} (r : Refines sites w p) (s t k
       let b = subAt here spot in
       let own = p .live s t .keys in
       let d = write-clear (isForgotten (here .counters .installs) (b .snapshot)) (keyHeld (here .live) spot k)
-      (isNewer (here .history) (here .counters .installs) (b .snapshot) k) (b .keys .wrote) c in
+      (isNewer (here .history) (here .counters .installs) (b .snapshot) k) (writeLimit (b .desk)) (b .keys .wrote) c in
       let f′ : wroteKey own k ≡ false = sym (ap (λ (b : Sub). wroteKey (b .keys) k) (a .part)) ∙ f in
-      let room : own .wrote < sizes.writes = omega (arith, ap (λ (b : Sub). b .keys .wrote) (a .part), d .room) in
+      let below : own .wrote < writeLimit (p .live s t .desk) = rw (a .part) at (d .room) in
+      let room : own .wrote < sizes.writes = omega (arith, limit-most (p .live s t .desk)) in
       let kept : isForgotten (length (inst p s)) (p .live s t .snapshot) ≡ false = rw (← a .part, ← a .installs) (d .kept) in
       let latest : isNewer (here .history) (length (inst p s)) (p .live s t .snapshot) k ≡ false =
       rw (← a .part, ← a .installs) (d .latest) in
@@ -243,7 +250,7 @@ module _ {sites : ℕ} {w : World} {p : Protocol} (r : Refines sites w p) (s t k
       let old = key-latest (here .history) (inst p s) (p .live s t .snapshot) k (a .history) kept latest in
       writes v a (first-sets own k v (a .sized) room f′) (first-kept own k v (a .sized) room f′)
       (λ j e g. ⊎-elim (λ (z : wroteKey own j ≡ true). absurd (set-not _ z g)) (λ (z : j ≡ k). rw z (free, old))
-      (first-new own k v (a .sized) room f′ j e))
+      (first-new own k v (a .sized) room f′ j e)) (rw (wrote-first own k v f′) (omega arith))
 
   pub write-moves : (v : Value)
       → (let x = step w (world.write s t k v) in Follows sites p (x .world) (toldBy (world.write s t k v) (x .answer) (x .words)))

@@ -36,7 +36,7 @@ module _ {sites : ℕ} {w : World} {v : Stream} (x : StreamIs sites w v) (z : St
 
   pub call-onward : (c : Call) → Handed w c → Onward sites v (step w c .world) (toldBy c (step w c .answer) (step w c .words))
   unfolding step
-  call-onward (world.begin s) h = site-call s _ _ _ (begin-moves (x .refines) (z .invariant) s)
+  call-onward (world.begin s d) h = site-call s _ _ _ (begin-moves (x .refines) (z .invariant) s d)
   call-onward (world.enlist s out t n) h = site-call s _ _ _ (enlist-moves (x .refines) s out t n)
   call-onward (world.read s t k) h = site-call s _ _ _ (read-moves (x .refines) s t k)
   call-onward (world.write s t k a) h = site-call s _ _ _ (write-moves (x .refines) s t k a)

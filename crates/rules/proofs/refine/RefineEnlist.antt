@@ -9,6 +9,7 @@ use lib.ListN.{length, getD}
 use Rattle.kinds.specs.Stage as stage
 use Rattle.kinds.specs.declared.Site.{Site}
 use Rattle.kinds.specs.declared.Course.{Course}
+use Rattle.kinds.specs.declared.Sub.{Sub}
 use Rattle.kinds.specs.State.{subAt, withCourse}
 use Rattle.rules.specs.House.{coordinatorOf, inMask, isSite}
 use Rattle.rules.specs.MessageLaws.{site-clear}
@@ -70,7 +71,9 @@ module _ {sites : ℕ} {w : World} {p : Protocol} (r : Refines sites w p) (s : �
       let number = y .channels .sent-is n (o .low) m in
       let apart : (n ≡ s → ⊥) = λ z. eqb-false n (here .counters .own) (d .other) (z ∙ sym own) in
       let u = withCourseOf (turnAt here spot) (withParticipant course n) in
-      let words = send-words u (mJoin t) s n own (tx-of a) in (
+      let join = mJoin t (p .live s t .desk) in
+      let desk = ap (λ (b : Sub). b .desk) (a .part) in
+      let words = send-words u join s n own (tx-of a) in (
         _,
         more stop (enlist s t n (eqb-true _ _ (c .coordinator) ∙ own) active (o .low) m apart
             (sym (ap (λ (z : Course). inMask (z .mask) n) k) ∙ d .new)),
@@ -89,9 +92,9 @@ module _ {sites : ℕ} {w : World} {p : Protocol} (r : Refines sites w p) (s : �
             (site-channels
             (site-course y refl a q (withParticipant course n) (rw k)
             (λ z g. absurd (omega (arith, participant-stage (courseAt p s t) n, active, z))))
-            (sentTo (here .channels) n) _ _ (channels-one (p .post) s n (mJoin t) (r .few) (o .low) m (y .channels)))
-            (grows-one (p .post) s n (mJoin t)) (λ j. refl)
-            (made-in (rw words (made-one (p .post) s n (getD (here .channels .sent) (n - 1) 0) (mJoin t) (no-entries .0) number))),
+            (sentTo (here .channels) n) _ _ (channels-one (p .post) s n join (r .few) (o .low) m (y .channels)))
+            (grows-one (p .post) s n join) (λ j. refl)
+            (made-in (rw (desk, words) (made-one (p .post) s n (getD (here .channels .sent) (n - 1) 0) join (no-entries .0) number))),
       )
 
   pub enlist-moves : Follows sites p (step w (world.enlist s out t n) .world) []

@@ -154,7 +154,7 @@ site-onward {v = v} i (q, m, t, r) a b c d e f = (
 -- A message is no record.
 message-shape : (a b n : ℕ) (m : Msg) → recordShape (encode a b n m) ≡ true → getD (encode a b n m) word.kind 0 < kind.conc → ⊥
 unfolding encode messageWords headOf
-message-shape a b n (mJoin t) e k = let s = shape-clear _ e in omega (arith, s .fits)
+message-shape a b n (mJoin t d) e k = let s = shape-clear _ e in omega (arith, s .fits)
 message-shape a b n (mJoined t r) e k = let s = shape-clear _ e in omega (arith, s .fits)
 message-shape a b n (mPrepare t c m) e k = let s = shape-clear _ e in omega (arith, s .fits)
 message-shape a b n (mConc t es) e k = omega arith

@@ -13,6 +13,7 @@ use Rattle.kinds.specs.Sizes as sizes
 use Rattle.kinds.specs.Stage as stage
 use Rattle.kinds.specs.Reason as reason
 use Rattle.kinds.specs.Kind as kind
+use Rattle.kinds.specs.Desk as desk
 use Rattle.kinds.specs.Word as word
 use Rattle.kinds.specs.declared.House.{House}
 use Rattle.kinds.specs.declared.Course.{Course}
@@ -138,23 +139,23 @@ module _ {sites : ℕ} {w : World} {p : Protocol} (r : Refines sites w p) (i : I
   passes-by m next = acts-follow r s l h (keeping lists (passed x a)) (pass-acts p s a (r .few) low high y m next)
 
   -- JOIN
-  takes-join : (t : ℕ) → Next p a s (mJoin t)
-      → Taken kind.join t (keeping lists (takeJoin x (headIn a s n (mJoin t)) (placeOf (x .live) t)))
+  takes-join : (t d : ℕ) → Next p a s (mJoin t d)
+      → Taken kind.join t (keeping lists (takeJoin x (headIn a s n (mJoin t d)) (placeOf (x .live) t)))
   unfolding takeJoin joinAt joinTurn headOf spoken sendTo messageWords
-  takes-join t next =
+  takes-join t d next =
       let place = placeOf (x .live) t in
       let free = freePlace (x .live) in
-      let u = namedTurn x a t in
+      let u = namedTurn x a t d in
       by-code (λ e. Taken kind.join t (keeping lists e)) (replyCode (leb sizes.live place) (spentTo x a)) x []
-      (joinAt x (headIn a s n (mJoin t)) free)
+      (joinAt x (headIn a s n (mJoin t d)) free)
       (λ c. let f = place-none (y .live) t (leb-true _ _ (reply-clear (leb sizes.live place) (spentTo x a) c .turn)) in
       by-test (ltb free sizes.live)
       (λ e. rw e
       (acts-follow r s l h (keeping lists (changed x free (sendTo u kind.joined a 0 0 []) []))
-      (joins-acts p s a t (r .few) low high y free (free-spot (y .live) t (ltb-true _ _ e) f) next f .1)))
+      (joins-acts p s a t (r .few) low high y d free (free-spot (y .live) t (ltb-true _ _ e) f) next f .1)))
       (λ e. rw e
       (acts-follow r s l h (keeping lists (spoken x (sendTo u kind.joined a 0 reason.full [])))
-      (full-acts p s a t (r .few) low high y reason.full (λ z. omega arith) next .1))))
+      (full-acts p s a t (r .few) low high y d reason.full (λ z. omega arith) next .1))))
       (stays r s _ refl refl)
 
   -- PREPARE
@@ -177,11 +178,11 @@ module _ {sites : ℕ} {w : World} {p : Protocol} (r : Refines sites w p) (i : I
       → Goal t (keeping lists (passPrepare x (headIn a s n (mPrepare t k mask))))
   unfolding passPrepare headOf joinTurn spoken sendTo
   passes-prepare t k mask next gone =
-      let u = raise (namedTurn x a t) k in
+      let u = raise (namedTurn x a t desk.house) k in
       let c = sendTo u kind.vote a (u .counters .clock) reason.unknown [] in
       by-code (λ e. Goal t (keeping lists e)) (replyCode true (spentTo x a)) x [] (spoken x c)
       (λ z. acts-follow r s l h (keeping lists (spoken x c))
-      (unknown-acts p s a t (r .few) low high y k mask reason.unknown (λ z. omega arith) next gone .1))
+      (unknown-acts p s a t (r .few) low high y desk.house k mask reason.unknown (λ z. omega arith) next gone .1))
       (stays r s _ refl refl)
 
   -- CONC
@@ -209,7 +210,7 @@ module _ {sites : ℕ} {w : World} {p : Protocol} (r : Refines sites w p) (i : I
   handles : (m : Msg) → eqb (kindOf m) kind.join ≡ false → Next p a s m → GoodMessage (x .house) (headIn a s n m) (entriesIn m)
       → Goal (txIn m) (takeKind (kindOf m) x (headIn a s n m) (entriesIn m) lists (placeOf (x .live) (txIn m)))
   unfolding takeKind takeHeld takeOther headOf takeJoined joinedInTurn arrived takeCommit takeAbort takeVote takeCert raise quietly
-  handles (mJoin t) e next good = absurd (let z : _≡_ {A = ℕ} 0 1 = cc in omega arith)
+  handles (mJoin t d) e next good = absurd (let z : _≡_ {A = ℕ} 0 1 = cc in omega arith)
   handles (mJoined t v) o next good =
       let place = placeOf (x .live) t in
       by-held x p s (y .live) t
@@ -280,7 +281,7 @@ module _ {sites : ℕ} {w : World} {p : Protocol} (r : Refines sites w p) (i : I
   pub takes : (m : Msg) → Next p a s m → GoodMessage (x .house) (headIn a s n m) (entriesIn m)
       → Taken (kindOf m) (txIn m) (takeKind (kindOf m) x (headIn a s n m) (entriesIn m) lists (placeOf (x .live) (txIn m)))
   unfolding takeKind
-  takes (mJoin t) next good = takes-join t next
+  takes (mJoin t d) next good = takes-join t d next
   takes (mJoined t v) next good = other kind.joined t _ refl (handles (mJoined t v) refl next good)
   takes (mPrepare t k mask) next good = other kind.prepare t _ refl (handles (mPrepare t k mask) refl next good)
   takes (mConc t es) next good = other kind.conc t _ refl (handles (mConc t es) refl next good)

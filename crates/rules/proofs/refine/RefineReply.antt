@@ -41,8 +41,8 @@ unfolding withStage
 stage-is c mask g = refl
 
 -- a turn without a part of its own: the count stepped, and the transaction named
-abbrev pub namedTurn : Site → ℕ → ℕ → Turn
-namedTurn x a t = record { counters = x .counters; channels = takenFrom (x .channels) a; sub = newSub t 0 (x .counters .installs) }
+abbrev pub namedTurn : Site → ℕ → ℕ → ℕ → Turn
+namedTurn x a t d = record { counters = x .counters; channels = takenFrom (x .channels) a; sub = newSub t d 0 (x .counters .installs) }
 
 -- a site with a turn's counters and channels
 abbrev pub spokenSite : Site → Change → Site
@@ -53,45 +53,45 @@ module _ {sites : ℕ} (p : Protocol) (s a t : ℕ) {x : Site} {base lists : Lis
     (high : a ≤ sites)
     (y : SiteIs sites s x base lists (sliceOf p s)) where
   -- JOIN: the part begins, or is answered 12.
-  abbrev begins : Change
-  begins = sendTo (namedTurn x a t) kind.joined a 0 0 []
+  abbrev begins : ℕ → Change
+  begins d = sendTo (namedTurn x a t d) kind.joined a 0 0 []
 
-  pub joins-acts : (free : ℕ) → Spot (x .live) free t → Next p a s (mJoin t) → IsFree (p .live s t)
-      → (q : Protocol) × Acts sites s p q (settle x free (begins .turn)) base lists (begins .words) (book.began s t ∷ [])
+  pub joins-acts : (d free : ℕ) → Spot (x .live) free t → Next p a s (mJoin t d) → IsFree (p .live s t)
+      → (q : Protocol) × Acts sites s p q (settle x free (begins d .turn)) base lists (begins d .words) (book.began s t ∷ [])
   unfolding settle sendTo
-  joins-acts free spot next gone =
+  joins-acts d free spot next gone =
       let m = mJoined t 0 in
-      let b = newSub t 0 (length (inst p s)) in
-      let n : newSub t 0 (x .counters .installs) ≡ b = ap (newSub t 0) (y .counters .installs-are) in (
+      let b = newSub t d 0 (length (inst p s)) in
+      let n : newSub t d 0 (x .counters .installs) ≡ b = ap (newSub t d 0) (y .counters .installs-are) in (
         _,
-        reply-acts s a (joins a s t next gone) (λ j z. refl) refl (λ j z. row-other (p .live) s t b j z) refl refl m refl refl
+        reply-acts s a (joins a s t d next gone) (λ j z. refl) refl (λ j z. row-other (p .live) s t b j z) refl refl m refl refl
             (reply-site p s a few low high y m (x .counters .clock) (sym (y .counters .clock-is)) refl
-            (site-sub y free t (newSub t 0 (x .counters .installs)) spot (λ z. new-sub t 0 (x .counters .installs))
-            (λ z c. omega (arith, new-stage t 0 (x .counters .installs)))
+            (site-sub y free t (newSub t d 0 (x .counters .installs)) spot (λ z. new-sub t d 0 (x .counters .installs))
+            (λ z c. omega (arith, new-stage t d 0 (x .counters .installs)))
             (row-same (p .live) s t b ∙ ap (upd (p .live s) t) (sym n))))
-            (reply-made p s a few low high y (namedTurn x a t) m refl refl (new-sub t 0 (x .counters .installs) .0) (no-entries .0)),
+            (reply-made p s a few low high y (namedTurn x a t d) m refl refl (new-sub t d 0 (x .counters .installs) .0) (no-entries .0)),
       )
 
-  pub full-acts : (r : ℕ) → (r ≡ 0 → ⊥) → Next p a s (mJoin t)
-      → (let c = sendTo (namedTurn x a t) kind.joined a 0 r [] in
+  pub full-acts : (d r : ℕ) → (r ≡ 0 → ⊥) → Next p a s (mJoin t d)
+      → (let c = sendTo (namedTurn x a t d) kind.joined a 0 r [] in
       (q : Protocol) × Acts sites s p q (spokenSite x c) base lists (c .words) [])
   unfolding sendTo
-  full-acts r some next =
+  full-acts d r some next =
       let m = mJoined t r in (
         _,
-        reply-acts s a (full a s t r next some) (λ j z. refl) refl (λ j z. refl) refl refl m refl refl
+        reply-acts s a (full a s t d r next some) (λ j z. refl) refl (λ j z. refl) refl refl m refl refl
             (reply-site p s a few low high y m (x .counters .clock) (sym (y .counters .clock-is)) refl y)
-            (reply-made p s a few low high y (namedTurn x a t) m refl refl (new-sub t 0 (x .counters .installs) .0) (no-entries .0)),
+            (reply-made p s a few low high y (namedTurn x a t d) m refl refl (new-sub t d 0 (x .counters .installs) .0) (no-entries .0)),
       )
 
   -- PREPARE for a transaction not held: voted no.
-  pub unknown-acts : (n mask r : ℕ) → (r ≡ 0 → ⊥) → Next p a s (mPrepare t n mask) → IsFree (p .live s t)
-      → (let u = raise (namedTurn x a t) n in let c = sendTo u kind.vote a (u .counters .clock) r [] in
+  pub unknown-acts : (d n mask r : ℕ) → (r ≡ 0 → ⊥) → Next p a s (mPrepare t n mask) → IsFree (p .live s t)
+      → (let u = raise (namedTurn x a t d) n in let c = sendTo u kind.vote a (u .counters .clock) r [] in
       (q : Protocol) × Acts sites s p q (spokenSite x c) base lists (c .words) [])
   unfolding sendTo raise
-  unknown-acts n mask r some next gone =
+  unknown-acts d n mask r some next gone =
       let m = mVote t (max (p .clock s) n) r in
-      let u = raise (namedTurn x a t) n in
+      let u = raise (namedTurn x a t d) n in
       let same : sendTo u kind.vote a (u .counters .clock) r [] ≡ sendTo u kind.vote a (max (p .clock s) n) r [] =
       ap (λ (z : ℕ). sendTo u kind.vote a (max z n) r []) (y .counters .clock-is) in (
         _,
@@ -99,7 +99,7 @@ module _ {sites : ℕ} (p : Protocol) (s a t : ℕ) {x : Site} {base lists : Lis
             refl refl m refl refl
             (reply-site p s a few low high y m (max (x .counters .clock) n) (raised-clock p s a few low high y n) refl y)
             (rw (ap (λ (c : Change). c .words) same)
-            (reply-made p s a few low high y u m refl refl (new-sub t 0 (x .counters .installs) .0) (no-entries .0))),
+            (reply-made p s a few low high y u m refl refl (new-sub t d 0 (x .counters .installs) .0) (no-entries .0))),
       )
 
   module _ (place : ℕ) (A : AtPlace x p s t place) where

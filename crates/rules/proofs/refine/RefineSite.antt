@@ -30,13 +30,13 @@ unfolding noKeys
 no-keys-sized = record { reads-size = refl; writes-size = refl; values-size = refl }
 
 -- a part that begins
-pub new-sub : (t mask installs : ℕ) → (newSub t mask installs .tx ≡ t) × Sized (newSub t mask installs .keys)
+pub new-sub : (t d mask installs : ℕ) → (newSub t d mask installs .tx ≡ t) × Sized (newSub t d mask installs .keys)
 unfolding newSub
-new-sub t mask installs = (refl, no-keys-sized)
+new-sub t d mask installs = (refl, no-keys-sized)
 
-pub new-stage : (t mask installs : ℕ) → newSub t mask installs .course .stage ≡ stage.active
+pub new-stage : (t d mask installs : ℕ) → newSub t d mask installs .course .stage ≡ stage.active
 unfolding newSub
-new-stage t mask installs = refl
+new-stage t d mask installs = refl
 
 -- A slice with one table changed.
 abbrev pub live-in : Slice → (ℕ → Sub) → Slice

@@ -28,7 +28,7 @@ Follows sites p w fs = (q : Protocol) × (m : Moves sites p q) × (toldAll m ≡
 
 -- what a call tells of the protocol: all that the book notes, but for replays, which the protocol does not know
 abbrev pub toldBy : Call → Answer → List ℕ → List Fact
-toldBy (world.begin s) a words = factsOf (world.begin s) a words
+toldBy (world.begin s d) a words = factsOf (world.begin s d) a words
 toldBy (world.enlist s out tx site) a words = factsOf (world.enlist s out tx site) a words
 toldBy (world.read s tx key) a words = factsOf (world.read s tx key) a words
 toldBy (world.write s tx key v) a words = factsOf (world.write s tx key v) a words

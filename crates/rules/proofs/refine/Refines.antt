@@ -35,7 +35,7 @@ use Rattle.rules.proofs.protocol.ProtocolTables.{partsOf}
 
 -- The words of a message of the protocol, from a to b with channel number n.
 abbrev pub kindOf : Msg → ℕ
-kindOf (mJoin t) = kind.join
+kindOf (mJoin t d) = kind.join
 kindOf (mJoined t r) = kind.joined
 kindOf (mPrepare t n m) = kind.prepare
 kindOf (mConc t es) = kind.conc
@@ -45,7 +45,7 @@ kindOf (mCommit t n) = kind.commit
 kindOf (mAbort t) = kind.abort
 
 abbrev pub txIn : Msg → ℕ
-txIn (mJoin t) = t
+txIn (mJoin t d) = t
 txIn (mJoined t r) = t
 txIn (mPrepare t n m) = t
 txIn (mConc t es) = t
@@ -55,7 +55,7 @@ txIn (mCommit t n) = t
 txIn (mAbort t) = t
 
 abbrev pub clockIn : Msg → ℕ
-clockIn (mJoin t) = 0
+clockIn (mJoin t d) = 0
 clockIn (mJoined t r) = 0
 clockIn (mPrepare t n m) = n
 clockIn (mConc t es) = 0
@@ -65,7 +65,7 @@ clockIn (mCommit t n) = n
 clockIn (mAbort t) = 0
 
 abbrev pub argumentIn : Msg → ℕ
-argumentIn (mJoin t) = 0
+argumentIn (mJoin t d) = d
 argumentIn (mJoined t r) = r
 argumentIn (mPrepare t n m) = m
 argumentIn (mConc t es) = 0
@@ -75,7 +75,7 @@ argumentIn (mCommit t n) = 0
 argumentIn (mAbort t) = 0
 
 abbrev pub entriesIn : Msg → List ℕ
-entriesIn (mJoin t) = []
+entriesIn (mJoin t d) = []
 entriesIn (mJoined t r) = []
 entriesIn (mPrepare t n m) = []
 entriesIn (mConc t es) = es

@@ -20,6 +20,7 @@ use Rattle.kinds.specs.declared.Site.{Site}
 use Rattle.kinds.specs.declared.Snapshot.{Snapshot}
 use Rattle.kinds.specs.State.{Value, subAt}
 use Rattle.rules.specs.House.{isSite, inMask}
+use Rattle.rules.specs.Desk.{writeLimit}
 use Rattle.rules.specs.Record.{recordHead}
 use Rattle.rules.specs.Message.{messageOk, messageHead, messageEntries}
 use Rattle.rules.specs.Send.{countsLow}
@@ -106,9 +107,9 @@ only-by : (l : List Cause) (s : Site) (lent : List ℕ) (e : Effect) → isRefus
 only-by l s lent e f = alone-by l (e .answer) _ f (λ z. rw z) (λ n. rw (ne-eqb _ 0 n))
 
 -- Begin, read, write, search, enlist.
-pub begin-by : (s : Site) → ByFirst (beginOf s .answer) (beginHas s)
+pub begin-by : (s : Site) (d : ℕ) → ByFirst (beginOf s d .answer) (beginHas s d)
 unfolding beginOf beginCode begun beginHas order
-begin-by s = by-first _ (beginHas s) refl (only-by (beginHas s) s [] _ refl)
+begin-by s d = by-first _ (beginHas s d) refl (only-by (beginHas s d) s [] _ refl)
 
 pub read-by : (s : Site) (base : List Value) (tx k : ℕ) → ByFirst (readOf s base tx k .answer) (readHas s base tx k)
 unfolding readOf accessCode readAt readVersion readCode readHas accessHas order
@@ -129,7 +130,7 @@ write-by s tx k v =
     let b = subAt s place in
     let n = s .counters .installs in
     let more = writeCauses (isForgotten n (b .snapshot)) (keyHeld (s .live) place k) (isNewer (s .history) n (b .snapshot) k)
-    (b .keys .wrote) in
+    (writeLimit (b .desk)) (b .keys .wrote) in
     by-test (wroteKey (b .keys) k)
     (λ t. rw t (by-first _ (accessHas s sizes.keys tx k ++ []) refl
     (unless-by (accessHas s sizes.keys tx k) [] s [] _ refl (accepted _ [] refl refl))))
@@ -300,7 +301,7 @@ value-by copy k =
 
 call-by : (w : World) (c : Call) → ByFirst (step w c .answer) (causesOf w c)
 unfolding step siteStep logStep mergerStep mergeStep copyStep replayStep
-call-by w (world.begin s) = begin-by (w .site s)
+call-by w (world.begin s d) = begin-by (w .site s) d
 call-by w (world.enlist s out tx site) = enlist-by (w .site s) (length out) tx site
 call-by w (world.read s tx key) = read-by (w .site s) (w .base s) tx key
 call-by w (world.write s tx key v) = write-by (w .site s) tx key v

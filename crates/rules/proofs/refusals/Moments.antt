@@ -122,7 +122,7 @@ message-moment w s out m x =
 
 -- 6 is in no call's list.
 no-six : (c : Call) → lacks 6 (numbersOf c) ≡ true
-no-six (world.begin s) = refl
+no-six (world.begin s d) = refl
 no-six (world.enlist s out tx site) = refl
 no-six (world.read s tx key) = refl
 no-six (world.write s tx key v) = refl

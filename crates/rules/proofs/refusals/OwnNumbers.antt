@@ -41,7 +41,7 @@ by-own a l numbers n x t k q = set-not (holdsAt n l) (by-cause a l n x q) (lacke
 
 own-order : (w : World) (c : Call) → inOrder (numbersOf c) (causesOf w c) ≡ true
 unfolding beginHas accessHas readHas writeHas searchHas enlistHas commitHas abandonHas messageHas installHas mergeHas emitHas
-own-order w (world.begin s) = refl
+own-order w (world.begin s d) = refl
 own-order w (world.enlist s out tx site) = refl
 own-order w (world.read s tx key) =
     let b = subAt (w .site s) (placeOf (w .site s .live) tx) in by-test (wroteKey (b .keys) key) (λ t. rw t refl) (λ t. rw t refl)

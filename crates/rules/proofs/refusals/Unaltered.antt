@@ -259,7 +259,7 @@ replay-stays w c m n =
 
 pub refused-leaves : RefusedLeaves
 unfolding RefusedLeaves step siteStep logStep mergerStep mergeStep replayStep copyStep
-refused-leaves w (world.begin s) n q = at-site w s _ n (begin-writes (w .site s) .leaves) q
+refused-leaves w (world.begin s d) n q = at-site w s _ n (begin-writes (w .site s) d .leaves) q
 refused-leaves w (world.enlist s out t r) n q = at-site w s _ n (enlist-writes (w .site s) (length out) t r .leaves) q
 refused-leaves w (world.read s t k) n q = at-site w s _ n (read-writes (w .site s) (w .base s) t k .leaves) q
 refused-leaves w (world.write s t k v) n q = at-site w s _ n (write-writes (w .site s) t k v .leaves) q

@@ -58,12 +58,12 @@ module _ {sites : ℕ} {p : Protocol} (i : Invariant sites p) {q : Protocol} (c 
       now : Held p (coordinatorOf t) t → (p .has r t ≡ true) ⊎ Begins p q r t → inMask (courseAt p (coordinatorOf t) t .mask) r ≡ true
       now x (inl e) = i .rounds .parts t r x e
       now x (inr (inl e)) = rw (sym e) (i .rounds .own t x)
-      now x (inr (inr (n, e))) = said i n .4 x
+      now x (inr (inr (d, n, e))) = said i n .4 x
 
       old : p .asked t ≡ true → (p .has r t ≡ true) ⊎ Begins p q r t → inMask (p .mask t) r ≡ true
       old a (inl e) = i .account .has-asked t r a e
       old a (inr (inl e)) = rw (sym e) (i .account .own t a)
-      old a (inr (inr (n, e))) = said i n .5 a
+      old a (inr (inr (d, n, e))) = said i n .5 a
 
       go : (p .asked t ≡ true) ⊎ AskedNow p t (q .mask t) → inMask (q .mask t) r ≡ true
       go (inl e) = rw (c .later .asked t e .1) (old e (c .later .begins r t h))

@@ -241,20 +241,20 @@ module _ (sites : ℕ) (p : Protocol) (i : Invariant sites p) where
 
   step : (q : Protocol) → Move sites p q → CoursesAt q
   unfolding newSub withParticipant withDecision withQueueMark withRequest withStage
-  step q (begin s t l m n e) = let h = blank p s t (i .account) l (new-tx sites p s t (i .parts) n e s) in
+  step q (begin s t d l m n e) = let h = blank p s t (i .account) l (new-tx sites p s t (i .parts) n e s) in
       one s t _ (at-active _ _ _ _ _ _ _ refl (h .made) (h .yes))
   step q (enlist s t r c a l m n o) = let h = all s t .active a in one s t _ (at-active _ _ _ _ _ _ _ a (h .0) (h .1))
-  step q (access s t b fs a told w f) = one s t _ (all s t)
+  step q (access s t b fs a told w f m) = one s t _ (all s t)
   step q (request s t es c a l r v) = requested s t (entryCount es) (courseAt p s t .mask) c a refl
   step q (abort s t c a d) = gone s t
   step q (cast s t es c a l w v) = voted s t a
   step q (decide s t c a l) = numbered s t (p .clock s + 1) c a (omega arith)
   step q (install s t a l) = gone s t
   step q (report s n a) = all
-  step q (joins a s t n f) =
-      let h = blank p s t (i .account) (ends i n .1 .0) (new-join sites p a s t (i .posts) n) in
+  step q (joins a s t d n f) =
+      let h = blank p s t (i .account) (ends i n .1 .0) (new-join sites p a s t d (i .posts) n) in
       one s t _ (at-active _ _ _ _ _ _ _ refl (h .made) (h .yes))
-  step q (full a s t r n z) = all
+  step q (full a s t d r n z) = all
   step q (joined a s t r n x o) = reply s t a r 0
   step q (prepared a s t n m es x y v) = let o = said i x in listed s t m y (o .1, o .2)
   step q (lost a s t n m r x y z) =

@@ -78,11 +78,11 @@ parts-kept sites p q (h, n, b, l, e) k i =
     held s t x f = x (k s t .free f)
 
 -- a part begins, where none has: its transaction's coordinator has one, and gave its serial
-parts-began : (sites : ℕ) (p : Protocol) (s t mask : ℕ) → (p .has s t ≡ true → ⊥) → (1 ≤ s) × (s ≤ sites)
+parts-began : (sites : ℕ) (p : Protocol) (s t d mask : ℕ) → (p .has s t ≡ true → ⊥) → (1 ≤ s) × (s ≤ sites)
     → (coordinatorOf t ≡ s) ⊎ (p .has (coordinatorOf t) t ≡ true) → (1 ≤ serialOf t) × (serialOf t ≤ p .serial (coordinatorOf t))
-    → Parts sites p → Parts sites (beganAt p s t mask)
+    → Parts sites p → Parts sites (beganAt p s t d mask)
 unfolding newSub
-parts-began sites p s t mask none here coord ser i =
+parts-began sites p s t d mask none here coord ser i =
     record {
       tx = upd₂-cases (λ j u b. (b .course .stage ≡ stage.free → ⊥) → b .tx ≡ u) (p .live) s t _ (λ x. refl) (λ j u n. i .tx j u);
       has = upd₂-both (λ j u b h. (b .course .stage ≡ stage.free → ⊥) → h ≡ true) (p .live) (p .has) s t _ true (λ x. refl)
@@ -98,7 +98,7 @@ parts-began sites p s t mask none here coord ser i =
       entry-has = λ j k x. kept₂ (p .has) s t j (at p j k .tx) (i .entry-has j k x);
       entry-keys = λ j k x. old (λ u b. at p j k .keys ≡ b) (p .keys) j k x noKeys (i .entry-keys j k x);
       entry-gone =
-          λ j k x. old (λ u b. b .course .stage ≡ stage.free) (p .live) j k x (newSub t mask (length (inst p s))) (i .entry-gone j k x);
+          λ j k x. old (λ u b. b .course .stage ≡ stage.free) (p .live) j k x (newSub t d mask (length (inst p s))) (i .entry-gone j k x);
       entry-once = i .entry-once;
       site = upd₂-cases (λ j u h. h ≡ true → (1 ≤ j) × (j ≤ sites)) (p .has) s t true (λ x. here) (λ j u n. i .site j u);
       coordinator =
@@ -255,33 +255,33 @@ module _ (sites : ℕ) (p : Protocol) (i : Invariant sites p) where
   still : (q : Protocol) → Same p q → q .live ≡ p .live → Parts sites q
   still q e l = parts-kept sites p q e (rw l (λ s t. kept-same (p .live s t))) (i .parts)
 
-  began : (s t : ℕ) → 1 ≤ s → s ≤ sites → p .serial s < sizes.lastSerial → t ≡ txOf s (p .serial s + 1)
-      → Parts sites (beganAt (set-serial (upd (p .serial) s (p .serial s + 1)) p) s t (maskOf s))
-  began s t l m n e =
+  began : (s t d : ℕ) → 1 ≤ s → s ≤ sites → p .serial s < sizes.lastSerial → t ≡ txOf s (p .serial s + 1)
+      → Parts sites (beganAt (set-serial (upd (p .serial) s (p .serial s + 1)) p) s t d (maskOf s))
+  began s t d l m n e =
       let c : coordinatorOf t ≡ s = rw e (tx-coordinator s (p .serial s + 1) (omega arith)) in
       let k : serialOf t ≡ p .serial s + 1 = rw e (tx-serial s (p .serial s + 1) (omega arith)) in
-      parts-began sites _ s t _ (new-tx sites p s t (i .parts) n e s) (l, m) (inl c)
+      parts-began sites _ s t d _ (new-tx sites p s t (i .parts) n e s) (l, m) (inl c)
       (rw (k, c, upd-same (p .serial) s (p .serial s + 1)) (omega arith))
       (parts-serial sites p _ (upd-cases (λ j y. p .serial j ≤ y) (p .serial) s _ (omega arith) (λ j z. omega arith)) (i .parts))
 
-  joining : (a s t : ℕ) → Next p a s (mJoin t) → Parts sites (beganAt (took p a s) s t 0)
-  joining a s t n =
+  joining : (a s t d : ℕ) → Next p a s (mJoin t d) → Parts sites (beganAt (took p a s) s t d 0)
+  joining a s t d n =
       let o = said i n in
-      parts-began sites (took p a s) s t 0 (new-join sites p a s t (i .posts) n) (ends i n .1) (inr (rw (o .0) (o .1)))
+      parts-began sites (took p a s) s t d 0 (new-join sites p a s t d (i .posts) n) (ends i n .1) (inr (rw (o .0) (o .1)))
       (i .parts .serial a t (o .1)) (still (took p a s) same refl)
 
   step : (q : Protocol) → Move sites p q → Parts sites q
-  step q (begin s t l m n e) = began s t l m n e
+  step q (begin s t d l m n e) = began s t d l m n e
   step q (enlist s t r c a l m n o) = course q s t _ (λ f. omega arith) same refl
-  step q (access s t b fs a told w f) = parts-access sites p s t b (λ z. omega arith) (i .parts)
+  step q (access s t b fs a told w f m) = parts-access sites p s t b (λ z. omega arith) (i .parts)
   step q (request s t es c a l r v) = course q s t _ (λ f. omega arith) same refl
   step q (abort s t c a d) = gone q s t same refl
   step q (cast s t es c a l w v) = course q s t _ (λ f. omega arith) same refl
   step q (decide s t c a l) = course q s t _ (λ f. omega arith) same refl
   step q (install s t a l) = parts-install sites p s t (λ f. omega arith) (i .parts)
   step q (report s n a) = still q (refl, refl, refl, refl, inst-report p s n) refl
-  step q (joins a s t n f) = parts-kept sites _ q same (λ j u. kept-same _) (joining a s t n)
-  step q (full a s t r n z) = still q same refl
+  step q (joins a s t d n f) = parts-kept sites _ q same (λ j u. kept-same _) (joining a s t d n)
+  step q (full a s t d r n z) = still q same refl
   step q (joined a s t r n x o) = course q s t _ (λ f. omega arith) same refl
   step q (prepared a s t n m es x y v) = course q s t _ (λ f. omega arith) same refl
   step q (lost a s t n m r x y z) = course q s t _ (λ f. omega arith) same refl

@@ -10,7 +10,7 @@ use Rattle.laws.specs.Choice.{set-not}
 use Rattle.kinds.specs.State.{noSub}
 use Rattle.rules.specs.House.{coordinatorOf, inMask}
 use Rattle.rules.proofs.lists.Tables.{All, a-nil, all-map, all-append, all-one, all-at, last-cases}
-use Rattle.rules.proofs.protocol.ProtocolTables.{Protocol, Msg, mJoin, mJoined, mPrepare, mConc, mCert, mVote, mCommit, mAbort}
+use Rattle.rules.proofs.protocol.ProtocolTables.{Protocol, Msg, IsJoin, mJoin, mJoined, mPrepare, mConc, mCert, mVote, mCommit, mAbort}
 use Rattle.rules.proofs.protocol.Protocol.{courseAt, Move}
 use Rattle.rules.proofs.protocol.Protocol.{freshProtocol}
 use Rattle.rules.proofs.protocol.Invariants.{Held, In, MsgOk, Posts, Invariant}
@@ -30,20 +30,20 @@ grown-at l k d (inr (m, e, f)) j h = rw e (List·getD-append l (m ∷ []) d j h)
 
 -- each JOIN stands once
 abbrev JoinOnce : List Msg → Type 0
-JoinOnce l = (t i j : ℕ) → i < length l → j < length l → getD l i (mAbort 0) ≡ mJoin t → getD l j (mAbort 0) ≡ mJoin t → i ≡ j
+JoinOnce l = (t i j : ℕ) → i < length l → j < length l → IsJoin t (getD l i (mAbort 0)) → IsJoin t (getD l j (mAbort 0)) → i ≡ j
 
-once-more : (l : List Msg) (m : Msg) → JoinOnce l → ((t k : ℕ) → m ≡ mJoin t → k < length l → getD l k (mAbort 0) ≡ mJoin t → ⊥)
+once-more : (l : List Msg) (m : Msg) → JoinOnce l → ((t k : ℕ) → IsJoin t m → k < length l → IsJoin t (getD l k (mAbort 0)) → ⊥)
     → JoinOnce (l ++ (m ∷ []))
 once-more l m o n t i j x y =
-    last-cases (λ i a. a ≡ mJoin t → getD (l ++ (m ∷ [])) j (mAbort 0) ≡ mJoin t → i ≡ j) l m (mAbort 0)
-    (λ i h e. last-cases (λ j b. b ≡ mJoin t → i ≡ j) l m (mAbort 0) (λ j k f. o t i j h k e f) (λ f. absurd (n t i f h e)) j y)
-    (λ e. last-cases (λ j b. b ≡ mJoin t → length l ≡ j) l m (mAbort 0) (λ j k f. absurd (n t j e k f)) (λ f. refl) j y)
+    last-cases (λ i a. IsJoin t a → IsJoin t (getD (l ++ (m ∷ [])) j (mAbort 0)) → i ≡ j) l m (mAbort 0)
+    (λ i h e. last-cases (λ j b. IsJoin t b → i ≡ j) l m (mAbort 0) (λ j k f. o t i j h k e f) (λ f. absurd (n t i f h e)) j y)
+    (λ e. last-cases (λ j b. IsJoin t b → length l ≡ j) l m (mAbort 0) (λ j k f. absurd (n t j e k f)) (λ f. refl) j y)
     i x
 
 module _ (sites : ℕ) (p q : Protocol) (inv : Invariant sites p) (l : Later p q) (k : MaskedAll sites p q) where
   -- JOIN: the mask of its coordinator
-  join-later : (a b t : ℕ) → MsgOk sites p a b (mJoin t) → MsgOk sites q a b (mJoin t)
-  join-later a b t (c, h, n, s, x, y) =
+  join-later : (a b t d : ℕ) → MsgOk sites p a b (mJoin t d) → MsgOk sites q a b (mJoin t d)
+  join-later a b t d (c, h, n, s, x, y) =
       (c, l .has a t h, n, s, (λ z. let g = k a t c .grows h z in g .1 b (x (g .0))), λ e. now e (l .asks t e))
     where
       now : q .asked t ≡ true → (p .asked t ≡ true) ⊎ Asks p q t → inMask (q .mask t) b ≡ true
@@ -51,7 +51,7 @@ module _ (sites : ℕ) (p q : Protocol) (inv : Invariant sites p) (l : Later p q
       now e (inr (f, m)) = rw (m, c) (x (λ z. let w = rw c at f in omega arith))
 
   msg-later : (a b : ℕ) (m : Msg) → MsgOk sites p a b m → MsgOk sites q a b m
-  msg-later a b (mJoin t) h = join-later a b t h
+  msg-later a b (mJoin t d) h = join-later a b t d h
   msg-later a b (mJoined t r) (c, n, h) = (c, n, λ e. l .has a t (h e))
   msg-later a b (mPrepare t n m) (c, h, e, x, y) = let g = l .asked t h in (c, g .0, e ∙ sym (g .1), rw (g .1) x, y)
   msg-later a b (mConc t es) (c, n, h, e) = let g = l .made a t h in (c, n, g .0, g .1 ∙ e)
@@ -73,11 +73,11 @@ module _ (sites : ℕ) (p q : Protocol) (inv : Invariant sites p) (l : Later p q
   grown-sender a b k (inr (m, e, f)) h = f .1
 
   -- a JOIN that is written now was not written before
-  first : (a b : ℕ) (m : Msg) → FirstJoin p a b m → (t j : ℕ) → m ≡ mJoin t → j < length (p .post a b)
-      → getD (p .post a b) j (mAbort 0) ≡ mJoin t → ⊥
-  first a b m f t j e h x =
-      let g : FirstJoin p a b (mJoin t) = rw e at f in
-      let o : MsgOk sites p a b (mJoin t) = rw x at (all-at (inv .posts .ok a b) (mAbort 0) j h) in
+  first : (a b : ℕ) (m : Msg) → FirstJoin p a b m → (t j : ℕ) → IsJoin t m → j < length (p .post a b)
+      → IsJoin t (getD (p .post a b) j (mAbort 0)) → ⊥
+  first a b m f t j (d, e) h (c, x) =
+      let g : FirstJoin p a b (mJoin t d) = rw e at f in
+      let o : MsgOk sites p a b (mJoin t c) = rw x at (all-at (inv .posts .ok a b) (mAbort 0) j h) in
       set-not _ (o .4 (g .0)) (g .1)
 
   grown-once : (a b : ℕ) (k : List Msg) → Grown (Fit sites p q a b) (p .post a b) k → JoinOnce k
@@ -100,18 +100,18 @@ module _ (sites : ℕ) (p q : Protocol) (inv : Invariant sites p) (l : Later p q
       member t r (inr h) = h
 
       kept : (s t j : ℕ) → j < length (p .post (coordinatorOf t) s) → j < q .taken (coordinatorOf t) s
-          → getD (p .post (coordinatorOf t) s) j (mAbort 0) ≡ mJoin t
-          → (j : ℕ) × (j < q .taken (coordinatorOf t) s) × (getD (q .post (coordinatorOf t) s) j (mAbort 0) ≡ mJoin t)
-      kept s t j x y e = (j, y, grown-at _ _ (mAbort 0) (g (coordinatorOf t) s) j x ∙ e)
+          → IsJoin t (getD (p .post (coordinatorOf t) s) j (mAbort 0))
+          → (j : ℕ) × (j < q .taken (coordinatorOf t) s) × IsJoin t (getD (q .post (coordinatorOf t) s) j (mAbort 0))
+      kept s t j x y (d, e) = (j, y, (d, grown-at _ _ (mAbort 0) (g (coordinatorOf t) s) j x ∙ e))
 
       taken : (s t : ℕ) → (s ≡ coordinatorOf t → ⊥) → (p .has s t ≡ true) ⊎ Begins p q s t
-          → (j : ℕ) × (j < q .taken (coordinatorOf t) s) × (getD (q .post (coordinatorOf t) s) j (mAbort 0) ≡ mJoin t)
+          → (j : ℕ) × (j < q .taken (coordinatorOf t) s) × IsJoin t (getD (q .post (coordinatorOf t) s) j (mAbort 0))
       taken s t n (inl h) =
           let (j, x, e) = inv .posts .join-taken s t h n in
           kept s t j (omega (arith, x, inv .posts .count (coordinatorOf t) s)) (omega (arith, x, w (coordinatorOf t) s)) e
       taken s t n (inr (inl e)) = absurd (n (sym e))
-      taken s t n (inr (inr (x, y))) = kept s t (p .taken (coordinatorOf t) s) (x .some) y
-          (in-range (p .post (coordinatorOf t) s) (p .taken (coordinatorOf t) s) (mAbort 0) (mJoin t) (x .some) ∙ x .is)
+      taken s t n (inr (inr (d, x, y))) = kept s t (p .taken (coordinatorOf t) s) (x .some) y
+          (d, in-range (p .post (coordinatorOf t) s) (p .taken (coordinatorOf t) s) (mAbort 0) (mJoin t d) (x .some) ∙ x .is)
 
 pub posts-step : (sites : ℕ) (p q : Protocol) → sites ≤ 8 → Move sites p q → Invariant sites p → Posts sites q
 posts-step sites p q h m i = posts-of sites p q i (later sites p i q m) (masked sites p i q m) (mail sites p i q m) (takes sites p i q m)

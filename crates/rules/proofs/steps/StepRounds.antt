@@ -49,7 +49,7 @@ module _ {sites : ℕ} {p : Protocol} (i : Invariant sites p) {q : Protocol} (l 
       part : (r : ℕ) → (p .has r t ≡ true) ⊎ Begins p q r t → inMask (courseAt p (coordinatorOf t) t .mask) r ≡ true
       part r (inl x) = old t .parts r h x
       part r (inr (inl e)) = rw (sym e) (old t .own h)
-      part r (inr (inr (n, x))) = said i n .4 h
+      part r (inr (inr (d, n, x))) = said i n .4 h
 
   asked-now : (t : ℕ) → Held p (coordinatorOf t) t → (AtStage p (coordinatorOf t) t stage.active → ⊥)
       → AskedOf q t (courseAt p (coordinatorOf t) t)
@@ -211,12 +211,12 @@ module _ {sites : ℕ} {p : Protocol} (i : Invariant sites p) {q : Protocol} (l 
               over (inr y) = rw y v
 
 -- A transaction that begins: nothing was asked, nothing heard.
-begun : (sites : ℕ) (p : Protocol) (i : Invariant sites p) (q : Protocol) → sites ≤ sizes.sites → (s t : ℕ) → 1 ≤ s → s ≤ sites
+begun : (sites : ℕ) (p : Protocol) (i : Invariant sites p) (q : Protocol) → sites ≤ sizes.sites → (s t d : ℕ) → 1 ≤ s → s ≤ sites
     → coordinatorOf t ≡ s
     → ((j : ℕ) → p .has j t ≡ true → ⊥) → q .has ≡ upd₂ (p .has) s t true → q .asked ≡ p .asked → q .num ≡ p .num → (n : ℕ)
-    → RoundOk q t (newSub t (maskOf s) n .course)
+    → RoundOk q t (newSub t d (maskOf s) n .course)
 unfolding newSub
-begun sites p i q h s t l m c none e f g n =
+begun sites p i q h s t d l m c none e f g n =
     at-active q t _ refl
     (record {
       small = (mask-small s (omega arith), omega arith);
@@ -241,11 +241,11 @@ begun sites p i q h s t l m c none e f g n =
 
 module _ (sites : ℕ) (p : Protocol) (h : sites ≤ sizes.sites) (i : Invariant sites p) where
   step : (q : Protocol) → Move sites p q → Later p q → RoundsAt q
-  step q (begin s t a b n e) l =
+  step q (begin s t d a b n e) l =
       one i l s t _ (λ u x. same)
-      (λ c. begun sites p i q h s t a b c (new-tx sites p s t (i .parts) n e) refl refl refl _)
+      (λ c. begun sites p i q h s t d a b c (new-tx sites p s t (i .parts) n e) refl refl refl _)
   step q (enlist s t r c a x y n o) l = one i l s t _ (λ u x. same) (λ c. enlisted i l s t c r (omega arith) a same)
-  step q (access s t b fs a told w f) l = one i l s t _ (λ u x. same) (λ c. kept-here i l s t c same)
+  step q (access s t b fs a told w f m) l = one i l s t _ (λ u x. same) (λ c. kept-here i l s t c same)
   step q (request s t es c a x r v) l =
       one i l s t _ (λ u n. let z = others i l s t c u n in (upd-other (p .asked) t _ u z, upd-other (p .gathered) t _ u z, refl, refl))
       (λ c. requested i l s t c es _ a (v .whole) (upd-same (p .asked) t true, upd-same (p .mask) t _) (upd-same (p .gathered) t es)
@@ -259,8 +259,8 @@ module _ (sites : ℕ) (p : Protocol) (h : sites ≤ sizes.sites) (i : Invariant
       (λ c. decided i l s t c _ a)
   step q (install s t a x) l = gone i l s t (λ u. same)
   step q (report s n a) l = λ u. keep i l u same
-  step q (joins a s t n f) l = let o = said i n in elsewhere i l s t a _ (λ u. same) (o .0) (o .2)
-  step q (full a s t r n z) l = λ u. keep i l u same
+  step q (joins a s t d n f) l = let o = said i n in elsewhere i l s t a _ (λ u. same) (o .0) (o .2)
+  step q (full a s t d r n z) l = λ u. keep i l u same
   step q (joined a s t r n x o) l =
       let k = said i n in
       one i l s t _ (λ u x. same)
