@@ -9,5 +9,6 @@ pub mod demand
 pub mod messages
 pub mod records
 pub mod reads
+pub mod desks
 pub mod possible
 pub mod refusals

@@ -2,3 +2,4 @@
 pub mod Tables
 pub mod Masks
 pub mod Entries
+pub mod Counts

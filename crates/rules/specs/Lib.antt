@@ -32,6 +32,7 @@ pub mod Left
 pub mod Reads
 pub mod Searches
 pub mod Snapshots
+pub mod Desks
 pub mod Progress
 pub mod Possible
 pub mod Refusals

@@ -5,6 +5,7 @@ ghost use Rattle.rules.specs.Possible.{Possible};
 ghost use Rattle.rules.specs.Reads.{ReadsRight};
 ghost use Rattle.rules.specs.Searches.{SearchesRight};
 ghost use Rattle.rules.specs.Snapshots.{SnapshotsStay};
+ghost use Rattle.rules.specs.Desks.{WritesLimited, DesksKept};
 ghost use Rattle.rules.specs.Refusals.{RefusedLeaves, FirstCause, OwnNumbers};
 ghost use Rattle.rules.specs.Moments.{WrongMoments};
 
@@ -26,6 +27,17 @@ pub fn searches_right()
 // In such a list what a snapshot sees stays, until more than 32 installs come after it: a search answers what was installed by then.
 pub fn snapshots_stay()
     ensures { λ _. ⌜ SnapshotsStay ⌝ }
+{}
+
+// In such a list each part of a transaction has the desk that the transaction was begun for, and at no site does the transaction write
+// more distinct keys than the desk allows.
+pub fn desks_kept()
+    ensures { λ _. ⌜ DesksKept ⌝ }
+{}
+
+// In any state a part writes one key more below its desk's limit, is refused 11 at it, and never passes it.
+pub fn writes_limited()
+    ensures { λ _. ⌜ WritesLimited ⌝ }
 {}
 
 // In such a list no message is refused 26 or 27, and none is voted 5.

@@ -105,6 +105,10 @@ pub all-map : {A : Type 0} {P Q : A → Type 0} {l : List A} → ((x : A) → P 
 all-map f a-nil = a-nil
 all-map f (a-cons {x = x} p ps) = a-cons (f x p) (all-map f ps)
 
+pub all-both : {A : Type 0} {P Q : A → Type 0} {l : List A} → All P l → All Q l → All (λ x. P x × Q x) l
+all-both a-nil a-nil = a-nil
+all-both (a-cons p ps) (a-cons q qs) = a-cons (p, q) (all-both ps qs)
+
 pub all-append : {A : Type 0} {P : A → Type 0} {l m : List A} → All P l → All P m → All P (l ++ m)
 all-append a-nil q = q
 all-append (a-cons p ps) q = a-cons p (all-append ps q)

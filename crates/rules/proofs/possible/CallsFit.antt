@@ -152,7 +152,7 @@ module _ {s : Site} {lists : List ℕ} (y : Sound s lists) where
     version-fits base k here room =
         let b = subAt s place .keys in
         let more = read-keys o own k b (part-at y place low .keys) keys-sized here room in
-        changed-fits y place low _ [] 
+        changed-fits y place low _ []
         (record { turn = keys-turn (withRead b k) more (rw (wrote-read b k) (part-at y place low .few)); words = none })
 
     written-fits : (k : ℕ) (v : Value) → homeOf o k ≡ own

@@ -29,7 +29,6 @@ use Rattle.rules.specs.Message.{toCoordinator, coordinatorEnd, argumentO
 use Rattle.rules.specs.Message.{messageOk, GoodMessage}
 use Rattle.rules.specs.MessageLaws.{HeadClear, head-clear, passed-good, site-clear}
 use Rattle.rules.specs.Live.{placeOf, freePlace, allHeard}
-use Rattle.rules.specs.Join.{joined}
 use Rattle.rules.specs.Certify.{concurrent}
 use Rattle.rules.specs.Valid.{listAt, countersOk, handedOk}
 use Rattle.rules.specs.ValidLaws.{ValidSite}

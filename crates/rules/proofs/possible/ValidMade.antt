@@ -145,7 +145,7 @@ sub-made o own b c k d t =
 
 pub sub-back : (o : House) (own : ℕ) (b : Sub) → ValidSub o own b → subOk o own b ≡ true
 sub-back o own b v =
-    sub-made o own b (course-back o own (b .course) (v .course)) (keys-back o own (b .keys) (v .keys)) 
+    sub-made o own b (course-back o own (b .course) (v .course)) (keys-back o own (b .keys) (v .keys))
     (desk-made (b .desk) (b .keys) (v .desk) (v .few)) (v .tx)
 
 -- An install.

@@ -25,9 +25,9 @@ use Rattle.rules.proofs.lists.Masks.{in-or-right, own-mask}
 abbrev pub Site : ℕ → ℕ → Type 0
 Site sites a = (1 ≤ a) × (a ≤ sites)
 
--- a JOIN goes to a site that was no participant before
+-- a JOIN goes to a site that was no participant before, for the desk of its sender's part
 abbrev pub FirstJoin : Protocol → ℕ → ℕ → Msg → Type 0
-FirstJoin p a b (mJoin t d) = Held p a t × (inMask (courseAt p a t .mask) b ≡ false)
+FirstJoin p a b (mJoin t d) = Held p a t × (inMask (courseAt p a t .mask) b ≡ false) × (d ≡ p .live a t .desk)
 FirstJoin p a b (mJoined t r) = Unit {0}
 FirstJoin p a b (mPrepare t n m) = Unit {0}
 FirstJoin p a b (mConc t es) = Unit {0}
@@ -91,7 +91,7 @@ module _ (sites : ℕ) (p : Protocol) (i : Invariant sites p) where
           (λ z. absurd (set-not _ z (i .rounds .unasked t x))),
         ),
         (i .parts .site s t has, (l, m)),
-        (h, o),
+        (h, o, refl),
       )
   mail q (access s t b fs a told w f m) = none q
   mail q (request s t es c a l r v) =
