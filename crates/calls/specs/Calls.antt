@@ -16,6 +16,7 @@ use Rattle.kinds.specs.declared.Core.{Core}
 use Rattle.kinds.specs.declared.Reply.{Reply}
 use Rattle.kinds.specs.declared.Site.{Site}
 use Rattle.rules.specs.Effect.{Effect, refused, unless}
+use Rattle.rules.specs.Desk.{isDesk}
 use Rattle.rules.specs.Begin.{beginCode, begun, beginOf}
 use Rattle.rules.specs.Course.{quietly}
 use Rattle.rules.specs.History.{isForgotten}
@@ -34,7 +35,7 @@ use Rattle.lines.specs.declared.Command.the-variants as command
 
 -- the effect of a line's call on its site, with the site's base values and lists and an outgoing buffer of n words
 unfoldable pub effectOf : Command → Site → List ℕ → List ℕ → ℕ → Effect
-effectOf (command.Begin site) s base lists n = beginOf s
+effectOf (command.Begin site d) s base lists n = beginOf s d
 effectOf (command.Enlist tx site) s base lists n = enlistOf s n tx site
 effectOf (command.Read site tx key) s base lists n = readOf s base tx key
 effectOf (command.Write site tx key value) s base lists n = writeOf s tx key value
@@ -54,7 +55,7 @@ effectOf command.Bad s base lists n = refused reason.malformed s []
 unfoldable pub baseLeft : Command → Effect → List ℕ → List ℕ
 baseLeft (command.Install site) e base = e .lent
 baseLeft (command.Sites n) e base = base
-baseLeft (command.Begin site) e base = base
+baseLeft (command.Begin site d) e base = base
 baseLeft (command.Enlist tx site) e base = base
 baseLeft (command.Read site tx key) e base = base
 baseLeft (command.Write site tx key value) e base = base
@@ -71,7 +72,7 @@ baseLeft command.Bad e base = base
 unfoldable pub listsLeft : Command → Effect → List ℕ → List ℕ
 listsLeft (command.Commit tx) e lists = e .lent
 listsLeft (command.Sites n) e lists = lists
-listsLeft (command.Begin site) e lists = lists
+listsLeft (command.Begin site d) e lists = lists
 listsLeft (command.Enlist tx site) e lists = lists
 listsLeft (command.Read site tx key) e lists = lists
 listsLeft (command.Write site tx key value) e lists = lists
@@ -93,7 +94,7 @@ OwnLeaves c p w h base lists out r w′ h′ base′ lists′ out′ =
 
 -- The call of a site's line in a list of calls, at site s with the outgoing buffer out.
 pub data Makes : Command → ℕ → List ℕ → Call → Type 0 where
-  begin : (site s : ℕ) (out : List ℕ) → Makes (command.Begin site) s out (world.begin s)
+  begin : (site d s : ℕ) (out : List ℕ) → Makes (command.Begin site d) s out (world.begin s d)
   enlist : (tx site s : ℕ) (out : List ℕ) → Makes (command.Enlist tx site) s out (world.enlist s out tx site)
   read : (site tx key s : ℕ) (out : List ℕ) → Makes (command.Read site tx key) s out (world.read s tx key)
   write : (site tx key value s : ℕ) (out : List ℕ) → Makes (command.Write site tx key value) s out (world.write s tx key value)
@@ -116,7 +117,7 @@ at-own f s a = rw (eq-eqb s s refl)
 
 pub steps : (w : World) (c : Command) (s : ℕ) (out : List ℕ) (k : Call) → Makes c s out k → Steps w c s out k
 unfolding step siteStep logStep effectOf baseLeft listsLeft
-steps w c s out k (begin site _ _) =
+steps w c s out k (begin site d _ _) =
     record { answer = refl; words = refl; site = at-own (w .site) s _; base = at-own (w .base) s _; lists = at-own (w .lists) s _ }
 steps w c s out k (enlist tx site _ _) =
     record { answer = refl; words = refl; site = at-own (w .site) s _; base = at-own (w .base) s _; lists = at-own (w .lists) s _ }
@@ -138,9 +139,9 @@ quiet : (b : Bool) (e f : Effect) → e .words ≡ [] → f .words ≡ [] → pi
 quiet true e f p q = p
 quiet false e f p q = q
 
-pub begin-quiet : (s : Site) → beginOf s .words ≡ []
+pub begin-quiet : (s : Site) (d : ℕ) → beginOf s d .words ≡ []
 unfolding beginOf begun
-begin-quiet s = quiet (eqb (beginCode (siteOk s) (s .counters) (freePlace (s .live))) 0) _ _ refl refl
+begin-quiet s d = quiet (eqb (beginCode (siteOk s) (isDesk d) (s .counters) (freePlace (s .live))) 0) _ _ refl refl
 
 read-at-quiet : (s : Site) (base : List ℕ) (place k : ℕ) → readAt s base place k .words ≡ []
 unfolding readAt readVersion

@@ -65,7 +65,7 @@ replaces : (w : World) (c : Command) (s : ℕ) (out : List ℕ) (k : Call) → M
     → Replaces w (step w k .world) s (effect w c s out .site)
     (baseLeft c (effect w c s out) (w .base s)) (listsLeft c (effect w c s out) (w .lists s))
 unfolding step siteStep logStep effectOf baseLeft listsLeft
-replaces w c s out k (begin site _ _) = record { site = λ j. refl; base = λ j. refl; lists = λ j. refl }
+replaces w c s out k (begin site d _ _) = record { site = λ j. refl; base = λ j. refl; lists = λ j. refl }
 replaces w c s out k (enlist tx site _ _) = record { site = λ j. refl; base = λ j. refl; lists = λ j. refl }
 replaces w c s out k (read site tx key _ _) = record { site = λ j. refl; base = λ j. refl; lists = λ j. refl }
 replaces w c s out k (write site tx key v _ _) = record { site = λ j. refl; base = λ j. refl; lists = λ j. refl }

@@ -22,7 +22,7 @@ pub fn own_call(
         ⌝ }
 {
     match c {
-        Command::Begin(_) => store::begin(p, live, history),
+        Command::Begin(_, desk) => store::begin(p, live, history, desk),
         Command::Enlist(tx, to) => store::enlist(p, live, history, tx, to, out),
         Command::Read(_, tx, key) => store::read(p, live, history, base, tx, key),
         Command::Write(_, tx, key, value) => store::write(p, live, history, tx, key, value),

@@ -64,7 +64,7 @@ fn call(
 ) -> Reply {
     let v = l.verb;
     match v {
-        verb::BEGIN => store::begin(p, live, history),
+        verb::BEGIN => store::begin(p, live, history, l.b),
         verb::ENLIST => store::enlist(p, live, history, l.b, l.c, out),
         verb::READ => store::read(p, live, history, base, l.b, l.c),
         verb::SEARCH => search(p, l, live, history, base),

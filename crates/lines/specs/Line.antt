@@ -67,7 +67,7 @@ noneOf verb =
 unfoldable pub oneOf : ℕ → ℕ → Command
 oneOf verb a =
     pick (eqb verb (verbOf (115 ∷ 105 ∷ 116 ∷ 101 ∷ 115 ∷ []))) (command.Sites a)  -- sites
-    (pick (eqb verb (verbOf (98 ∷ 101 ∷ 103 ∷ 105 ∷ 110 ∷ []))) (command.Begin a)  -- begin
+    (pick (eqb verb (verbOf (98 ∷ 101 ∷ 103 ∷ 105 ∷ 110 ∷ []))) (command.Begin a 0)  -- begin, for the house
     (pick (eqb verb (verbOf (99 ∷ 111 ∷ 109 ∷ 109 ∷ 105 ∷ 116 ∷ []))) (command.Commit a)  -- commit
     (pick (eqb verb (verbOf (97 ∷ 98 ∷ 97 ∷ 110 ∷ 100 ∷ 111 ∷ 110 ∷ []))) (command.Abandon a)  -- abandon
     (pick (eqb verb (verbOf (105 ∷ 110 ∷ 115 ∷ 116 ∷ 97 ∷ 108 ∷ 108 ∷ []))) (command.Install a)  -- install
@@ -78,10 +78,11 @@ oneOf verb a =
 
 unfoldable pub twoOf : ℕ → ℕ → ℕ → Command
 twoOf verb a b =
-    pick (eqb verb (verbOf (101 ∷ 110 ∷ 108 ∷ 105 ∷ 115 ∷ 116 ∷ []))) (command.Enlist a b)  -- enlist
+    pick (eqb verb (verbOf (98 ∷ 101 ∷ 103 ∷ 105 ∷ 110 ∷ []))) (command.Begin a b)  -- begin
+    (pick (eqb verb (verbOf (101 ∷ 110 ∷ 108 ∷ 105 ∷ 115 ∷ 116 ∷ []))) (command.Enlist a b)  -- enlist
     (pick (eqb verb (verbOf (116 ∷ 97 ∷ 107 ∷ 101 ∷ []))) (command.Take a b)  -- take
     (pick (eqb verb (verbOf (118 ∷ 97 ∷ 108 ∷ 117 ∷ 101 ∷ []))) (command.Value a b)  -- value
-    command.Bad))
+    command.Bad)))
 
 unfoldable pub threeOf : ℕ → ℕ → ℕ → ℕ → Command
 threeOf verb a b c =

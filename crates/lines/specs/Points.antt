@@ -1,4 +1,4 @@
--- Lines of the example H2, and some that are none.
+-- Lines of the example H2 and of Q10.7, and some that are none.
 use mathlib.Core.Path.{_≡_, refl}
 use mathlib.Core.List.{[], _∷_}
 use Rattle.laws.specs.Scan.{foldBelow}
@@ -22,6 +22,15 @@ zeros-line = refl
 space-line : lineOf (101 ∷ 109 ∷ 105 ∷ 116 ∷ 32 ∷ []) ≡ command.Bad
 unfolding lineOf readOn foldBelow stepped took grown letter digit start commandOf noneOf oneOf twoOf threeOf fourOf
 space-line = refl
+
+-- begin 1, and begin 1 1: the desk may stand behind the site
+begin-line : lineOf (98 ∷ 101 ∷ 103 ∷ 105 ∷ 110 ∷ 32 ∷ 49 ∷ []) ≡ command.Begin 1 0
+unfolding lineOf readOn foldBelow stepped took grown letter digit start commandOf noneOf oneOf twoOf threeOf fourOf
+begin-line = refl
+
+desk-line : lineOf (98 ∷ 101 ∷ 103 ∷ 105 ∷ 110 ∷ 32 ∷ 49 ∷ 32 ∷ 49 ∷ []) ≡ command.Begin 1 1
+unfolding lineOf readOn foldBelow stepped took grown letter digit start commandOf noneOf oneOf twoOf threeOf fourOf
+desk-line = refl
 
 -- nothing
 empty-line : lineOf [] ≡ command.Bad

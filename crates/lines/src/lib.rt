@@ -1,4 +1,4 @@
-// Lines of a script (H1 to H20): a verb and up to four numbers, with one space between two words. A line is read byte by
+// Lines of a script (H1 to H20 and Q10.7): a verb and up to four numbers, with one space between two words. A line is read byte by
 // byte, so none is too long, whatever zeros stand before a number.
 mod verb;
 
@@ -14,7 +14,7 @@ ghost use Rattle.lines.specs.Line.{letter as letterOf, digit as digitOf,
 
 pub enum Command {
     Sites(u64),
-    Begin(u64),
+    Begin(u64, u64),
     Enlist(u64, u64),
     Read(u64, u64, u64),
     Write(u64, u64, u64, u64),

@@ -3,6 +3,9 @@ use crate::Command;
 ghost use mathlib.Core.Path.{_≡_};
 ghost use Rattle.lines.specs.Line.{noneOf, oneOf, twoOf, threeOf, fourOf};
 
+// The desk of a `begin` that gives none.
+const HOUSE: u64 = 0;
+
 const EMIT: u64 = 1701669236;
 
 const SITES: u64 = 495690474867;
@@ -45,7 +48,7 @@ pub fn one(verb: u64, a: u64) -> Command
 {
     match verb {
         SITES => Command::Sites(a),
-        BEGIN => Command::Begin(a),
+        BEGIN => Command::Begin(a, HOUSE),
         COMMIT => Command::Commit(a),
         ABANDON => Command::Abandon(a),
         INSTALL => Command::Install(a),
@@ -60,6 +63,7 @@ pub fn two(verb: u64, a: u64, b: u64) -> Command
     ensures { λ r. ⌜ r ≡ twoOf verb a b ⌝ }
 {
     match verb {
+        BEGIN => Command::Begin(a, b),
         ENLIST => Command::Enlist(a, b),
         TAKE => Command::Take(a, b),
         VALUE => Command::Value(a, b),

@@ -5,6 +5,7 @@ use Rattle.laws.specs.Digits as digits
 use Rattle.laws.specs.Overlay as overlay
 use Rattle.kinds.specs.State as state
 use Rattle.rules.specs.House as house
+use Rattle.rules.specs.Desk as desk
 use Rattle.rules.specs.Message as message
 use Rattle.rules.specs.Record as records
 use Rattle.rules.specs.Keys as keys
@@ -34,7 +35,8 @@ use Rattle.played.proofs.Playable.{reachable, playable, allPlayable}
 unfoldable pub Open : Type 0
 unfolding scan.firstBelow scan.allBelow scan.anyBelow scan.foldBelow pair.precedes digits.onesBelow overlay.overlay overlay.putAt
     state.noKeys state.noSub state.noEntry house.houseOk house.isSite house.homeOf house.isKey house.txOf house.coordinatorOf house.serialOf
-    house.isTx house.maskOf house.inMask house.isMask house.participants house.repliesWanted house.wholeHouse message.entryOffset
+    house.isTx house.maskOf house.inMask house.isMask house.participants house.repliesWanted house.wholeHouse desk.isDesk desk.writeLimit
+    message.entryOffset
     message.messageWords message.entryCount message.messageHead message.messageEntries message.toCoordinator message.coordinatorEnd
     message.carriesClock message.argumentOk message.mostEntries message.endsOk message.headOk message.entryBefore message.entryOk
     message.entryPossible message.messageShape message.messageOk records.writeOffset records.recordWords records.recordHead
@@ -45,7 +47,7 @@ unfolding scan.firstBelow scan.allBelow scan.anyBelow scan.foldBelow pair.preced
     live.keyHeld live.isPrepared live.isQueued live.allHeard history.remembered history.forgotten history.isForgotten history.within
     history.walk history.searchIn history.isNewer history.recallPlace history.forgetInto queue.queuedBefore
     queue.comesFirst queue.betterPlace queue.leastQueued queue.isInstallable queue.stateBound queue.stateNumber valid.courseOk valid.subOk
-    valid.slotOk valid.countersOk valid.liveOk valid.historyOk valid.siteOk valid.heldOk valid.gatheredOk valid.listsOk valid.handedOk
+    valid.slotOk valid.countersOk valid.liveOk valid.historyOk valid.siteOk valid.deskOk valid.heldOk valid.gatheredOk valid.listsOk valid.handedOk
     effect.takenOf effect.turnAt effect.settle course.newSub course.raise course.headOf course.channelSpent
     course.sendTo course.sendAll course.quietly course.withParticipant course.enlistStep course.isOutstanding course.withReply
     course.abortStep course.withDecision course.commitStep course.decideStep course.withQueueMark course.castStep course.withRequest

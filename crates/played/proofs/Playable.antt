@@ -19,7 +19,7 @@ reachable records taken i = pick (leb i taken) (ltb i (length records)) false
 
 -- the words that a line names are there
 unfoldable pub playable : World → Line → Bool
-playable w (begin s) = true
+playable w (begin s d) = true
 playable w (enlist tx site) = true
 playable w (read s tx key) = true
 playable w (write s tx key v) = true
@@ -53,7 +53,7 @@ reached records taken i e =
 
 handed : (w : World) (l : Line) → playable w l ≡ true → Handed w (callOf w l)
 unfolding playable callOf
-handed w (begin s) e = tt
+handed w (begin s d) e = tt
 handed w (enlist tx site) e = tt
 handed w (read s tx key) e = tt
 handed w (write s tx key v) e = tt

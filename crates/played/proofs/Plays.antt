@@ -1,10 +1,13 @@
--- The two scripts, computed.
+-- The three scripts, computed.
 use mathlib.Core.Path.{_≡_, refl}
+use lib.ListN.{take, drop}
 use Rattle.rules.specs.World.{Lawful, freshWorld, run}
 use Rattle.rules.specs.Book.{bookFrom}
+use Rattle.rules.specs.Desks.{BegunFor}
 use Rattle.played.specs.Script.{linesOf, answersFrom, answersOf}
 use Rattle.played.specs.First.{firstScript, firstCalls}
 use Rattle.played.specs.Second.{secondScript, secondCalls, sends, secondMail, secondBook}
+use Rattle.played.specs.Third.{thirdScript, thirdCalls, thirdMail, proofing, whole}
 use Rattle.played.proofs.Open.{Open}
 use Rattle.played.proofs.Playable.{lawful}
 
@@ -31,3 +34,24 @@ second-mail = refl
 pub second-book : bookFrom (freshWorld 2) secondCalls ≡ secondBook
 unfolding Open secondCalls secondScript secondBook
 second-book = refl
+
+pub third-lawful : Lawful (freshWorld 2) thirdCalls
+unfolding Open thirdCalls thirdScript
+third-lawful = lawful (freshWorld 2) (linesOf thirdScript) refl
+
+pub third-answers : answersFrom (freshWorld 2) thirdCalls ≡ answersOf thirdScript
+unfolding Open thirdCalls thirdScript
+third-answers = refl
+
+pub third-mail : run (freshWorld 2) thirdCalls .sent ≡ thirdMail
+unfolding Open thirdCalls thirdScript sends thirdMail
+third-mail = refl
+
+-- the first call begins `proofing`, the nineteenth `whole`
+pub third-proofing : BegunFor 2 thirdCalls proofing 1
+unfolding Open thirdCalls thirdScript
+third-proofing = record { calls = take 0 thirdCalls; more = drop 1 thirdCalls; at = 1; split = refl; answers = refl }
+
+pub third-whole : BegunFor 2 thirdCalls whole 0
+unfolding Open thirdCalls thirdScript
+third-whole = record { calls = take 18 thirdCalls; more = drop 19 thirdCalls; at = 2; split = refl; answers = refl }

@@ -6,7 +6,7 @@ use Rattle.played.specs.Script.{Told, _⟶_, begin, write, commit, insta
 
 unfoldable pub firstScript : List Told
 firstScript =
-    begin 1 ⟶ Begun 4294967297
+    begin 1 0 ⟶ Begun 4294967297
     ∷ write 1 4294967297 5 700 ⟶ Done
     ∷ commit 4294967297 ⟶ Committed 1
     ∷ install 1 ⟶ Installed 1 1

@@ -17,7 +17,7 @@ use Rattle.rules.specs.World.{World, Call, step, freshWorld}
 use Rattle.rules.specs.World as world
 
 pub data Line : Type 0 where
-  begin : (s : ℕ) → Line
+  begin : (s desk : ℕ) → Line
   enlist : (tx site : ℕ) → Line
   read : (s tx key : ℕ) → Line
   write : (s tx key : ℕ) (value : Value) → Line
@@ -47,7 +47,7 @@ sentAt sent from to n = firstBelow (λ i. isNumbered from to n (getD sent i []))
 
 -- the call of a line, in the world that it meets
 unfoldable pub callOf : World → Line → Call
-callOf w (begin s) = world.begin s
+callOf w (begin s d) = world.begin s d
 callOf w (enlist tx site) = world.enlist (coordinatorOf tx) (room sizes.outgoing) tx site
 callOf w (read s tx key) = world.read s tx key
 callOf w (write s tx key v) = world.write s tx key v

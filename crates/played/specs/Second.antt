@@ -31,7 +31,7 @@ later = 8589934594
 unfoldable pub secondScript : List Told
 secondScript =
     -- `spanning` begins at site 1 and joins site 2: JOIN, handed in twice, and JOINED. It writes at both.
-    begin 1 ⟶ Begun spanning
+    begin 1 0 ⟶ Begun spanning
     ∷ enlist spanning 2 ⟶ Done
     ∷ take 1 2 1 ⟶ Done
     ∷ take 1 2 1 ⟶ Refused 4
@@ -51,7 +51,7 @@ secondScript =
     ∷ take 2 1 3 ⟶ Committed 1
     -- `halfSeeing` begins at site 2 before `spanning` is installed there, and at site 1 after it is installed there. Its JOINED
     -- cannot overtake the COMMIT.
-    ∷ begin 2 ⟶ Begun halfSeeing
+    ∷ begin 2 0 ⟶ Begun halfSeeing
     ∷ search 1 1 5 ⟶ Searched 0 0
     ∷ install 1 ⟶ Installed 1 1
     ∷ search 1 1 5 ⟶ Searched 700 1
@@ -75,7 +75,7 @@ secondScript =
     ∷ take 1 2 7 ⟶ Aborted 18
     ∷ take 2 1 7 ⟶ Done
     -- `later` begins at site 2 and joins site 1, both after `spanning`.
-    ∷ begin 2 ⟶ Begun later
+    ∷ begin 2 0 ⟶ Begun later
     ∷ enlist later 1 ⟶ Done
     ∷ take 2 1 8 ⟶ Done
     ∷ take 1 2 8 ⟶ Done
@@ -83,10 +83,10 @@ secondScript =
     ∷ read 2 later 261 ⟶ Found 900
     ∷ write 2 later 261 901 ⟶ Done
     -- Meanwhile `lone` commits at site 1 without a message, and another is abandoned.
-    ∷ begin 1 ⟶ Begun lone
+    ∷ begin 1 0 ⟶ Begun lone
     ∷ write 1 lone 6 600 ⟶ Done
     ∷ commit lone ⟶ Committed 2
-    ∷ begin 1 ⟶ Begun abandoned
+    ∷ begin 1 0 ⟶ Begun abandoned
     ∷ abandon abandoned ⟶ Aborted 20
     -- `later` commits after a yes of both. At site 1 it waits for its COMMIT, at site 2 for its install: the state there is 3 less 1.
     ∷ commit later ⟶ Done

@@ -7,9 +7,11 @@ ghost use Rattle.rules.specs.Copy.{valueOf};
 ghost use Rattle.rules.specs.World.{Lawful, freshWorld, run};
 ghost use Rattle.rules.specs.Book.{bookFrom};
 ghost use Rattle.rules.specs.Claim.{Committed};
+ghost use Rattle.rules.specs.Desks.{BegunFor};
 ghost use Rattle.played.specs.Script.{answersFrom, answersOf};
 ghost use Rattle.played.specs.First.{firstScript, firstCalls};
 ghost use Rattle.played.specs.Second.{secondScript, secondCalls, secondMail, secondBook, spanning, halfSeeing, later};
+ghost use Rattle.played.specs.Third.{thirdScript, thirdCalls, thirdMail, proofing, whole};
 ghost use Rattle.played.specs.Seen.{SawBoth, SawHalf};
 
 // The worked script H2.
@@ -36,4 +38,13 @@ pub fn second_script_plays()
 pub fn half_seeing_did_not_commit()
     ensures { λ _. ⌜ SawBoth secondBook later spanning 1 2 × Committed secondBook later 3 2
         × SawHalf secondBook halfSeeing spanning 1 2 × ((n c : ℕ) → Committed secondBook halfSeeing n c → ⊥) ⌝ }
+{}
+
+// Two desks: a fifth key is refused at the coordinator and at a participant, and the desk is that of `rules::desks_kept`.
+pub fn third_script_plays()
+    ensures { λ _. ⌜ Lawful (freshWorld 2) thirdCalls
+        × (answersFrom (freshWorld 2) thirdCalls ≡ answersOf thirdScript)
+        × (run (freshWorld 2) thirdCalls .sent ≡ thirdMail)
+        × BegunFor 2 thirdCalls proofing 1
+        × BegunFor 2 thirdCalls whole 0 ⌝ }
 {}

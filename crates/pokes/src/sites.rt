@@ -58,6 +58,8 @@ const READ: u64 = 8;
 
 const WROTE: u64 = 9;
 
+const DESK: u64 = 10;
+
 // A key or a value is its group times STEP and its place.
 const STEP: u64 = 100;
 
@@ -151,6 +153,7 @@ fn place_word(field: u64) -> usize
         HEARD => word::PLACE_HEARD,
         REASON => word::PLACE_REASON,
         LISTED => word::PLACE_LISTED,
+        DESK => word::PLACE_DESK,
         _ => word::PLACE_KEYS + keys_word(field),
     }
 }

@@ -19,6 +19,7 @@ use kinds::Core;
 use kinds::Merger;
 use kinds::MergerOut;
 use kinds::Reply;
+use kinds::desk::HOUSE;
 use kinds::sizes::COPY;
 use kinds::sizes::HISTORY;
 use kinds::sizes::OUTGOING;
@@ -113,7 +114,7 @@ fn at_site(
             words: 0,
             core: p,
         },
-        1 => store::begin(p, live, history),
+        1 => store::begin(p, live, history, HOUSE),
         2 => store::enlist(p, live, history, tx, 2, out),
         5 => store::write(p, live, history, tx, n % WRITTEN, n),
         6 => store::write(p, live, history, tx, SITE_KEYS + n % WRITTEN, n),

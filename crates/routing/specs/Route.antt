@@ -83,7 +83,7 @@ fromStream copy = pick (isCopy copy) (goes (firstCopy + (copy - 1)) (cursor (cop
 
 unfoldable pub routeOf : House → Command → Route
 routeOf o (command.Sites n) = refuse reason.malformed
-routeOf o (command.Begin site) = toSite o site
+routeOf o (command.Begin site d) = toSite o site
 routeOf o (command.Enlist tx site) = toEnlister o tx site
 routeOf o (command.Read site tx key) = toSite o site
 routeOf o (command.Write site tx key value) = toSite o site

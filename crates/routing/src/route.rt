@@ -157,7 +157,7 @@ pub fn routed(h: House, c: Command) -> Route
     ensures { λ r. ⌜ r ≡ routeOf h c ⌝ }
 {
     match c {
-        Command::Begin(site) => to_site(h, site),
+        Command::Begin(site, _) => to_site(h, site),
         Command::Enlist(tx, site) => to_enlister(h, tx, site),
         Command::Read(site, _, _) => to_site(h, site),
         Command::Write(site, _, _, _) => to_site(h, site),

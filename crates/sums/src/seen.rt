@@ -24,6 +24,7 @@ use kinds::word::KEYS_READS;
 use kinds::word::KEYS_VALUES;
 use kinds::word::KEYS_WRITES;
 use kinds::word::KEYS_WROTE;
+use kinds::word::PLACE_DESK;
 use kinds::word::PLACE_HEARD;
 use kinds::word::PLACE_KEYS;
 use kinds::word::PLACE_LISTED;
@@ -115,10 +116,8 @@ fn sub(own: u64, s: Seat, ws: &[u64]) -> u64 {
         number_of(c),
         heard_of(c, coordinates),
     );
-    keys(
-        more(d, reason_of(c, coordinates)),
-        piece(ws, PLACE_KEYS, KEYSET),
-    )
+    let e = more(d, reason_of(c, coordinates));
+    keys(more(e, word(ws, PLACE_DESK)), piece(ws, PLACE_KEYS, KEYSET))
 }
 
 fn live(own: u64, seats: [Seat; LIVE], ws: &[u64]) -> u64 {

@@ -74,6 +74,7 @@ fn one(v: u64) -> u64 {
 // Whom a verb with two numbers is for.
 fn two(v: u64) -> u64 {
     match v {
+        verb::BEGIN => SITE,
         verb::COMMIT => SITE,
         verb::ABANDON => SITE,
         verb::VALUE => COPY,

@@ -40,7 +40,7 @@ other p command.Emit w h base lists out r k e = (e, (refl, (refl, overlay-none o
 other p (command.Replay copy) w h base lists out r k e = (e, (refl, (refl, overlay-none out)))
 other p (command.Value copy key) w h base lists out r k e = (e, (refl, (refl, overlay-none out)))
 other p command.Bad w h base lists out r k e = (e, (refl, (refl, overlay-none out)))
-other p (command.Begin a) w h base lists out r k e = absurd (miss others 1 tt k)
+other p (command.Begin a d) w h base lists out r k e = absurd (miss others 1 tt k)
 other p (command.Enlist a b) w h base lists out r k e = absurd (miss others 2 tt k)
 other p (command.Read a b d) w h base lists out r k e = absurd (miss others 3 tt k)
 other p (command.Write a b d f) w h base lists out r k e = absurd (miss others 4 tt k)
@@ -111,7 +111,7 @@ unfolding effectOf baseLeft listsLeft
 returns c =
     let call = c .before .before in
     let arm = call .before .before .before in
-    rw (arm .enum-told .given .1) (call .begin .ensures, (refl, (refl, nothing _ _ (begin-quiet _))))
+    rw (arm .enum-told .given .1) (call .begin .ensures, (refl, (refl, nothing _ _ (begin-quiet _ _))))
 
 same-length-3 : tie.Need-same-length-3
 same-length-3 c = search needs

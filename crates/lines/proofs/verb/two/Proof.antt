@@ -18,8 +18,17 @@ returns-3 c = rw (c .match .keys3)
 
 returns-4 : tie.Need-returns-4
 unfolding twoOf
-returns-4 c = let r = c .match .rest in
-    simp (ne-eqb _ 111524939658100 (r .0 .0 .1), ne-eqb _ 1952541541 (r .0 .1), ne-eqb _ 508440638821 (r .1))
+returns-4 c = rw (c .match .keys4)
+
+returns-5 : tie.Need-returns-5
+unfolding twoOf
+returns-5 c = let r = c .match .rest in
+    simp (
+      ne-eqb _ 422608071022 (r .0 .0 .0 .1),
+      ne-eqb _ 111524939658100 (r .0 .0 .1),
+      ne-eqb _ 1952541541 (r .0 .1),
+      ne-eqb _ 508440638821 (r .1),
+    )
 
 pub two-spec : {M : Type 1} → statement M
-two-spec = tie.close (tie.spec returns returns-2 returns-3 returns-4)
+two-spec = tie.close (tie.spec returns returns-2 returns-3 returns-4 returns-5)

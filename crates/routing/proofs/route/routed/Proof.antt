@@ -22,7 +22,7 @@ other : (o : House) (c : Command) → OneOf others (tagOf the-type c) → refuse
 unfolding routeOf
 other o (command.Sites n) h = refl
 other o command.Bad h = refl
-other o (command.Begin a) h = absurd (miss others 1 tt h)
+other o (command.Begin a d) h = absurd (miss others 1 tt h)
 other o (command.Enlist a b) h = absurd (miss others 2 tt h)
 other o (command.Read a b d) h = absurd (miss others 3 tt h)
 other o (command.Write a b d e) h = absurd (miss others 4 tt h)

@@ -57,7 +57,7 @@ unfolding copyingOf
 other (command.Replay a) copy m k = absurd (miss others 12 tt k)
 other (command.Value a b) copy m k = absurd (miss others 13 tt k)
 other (command.Sites a) copy m k = (refl, refl)
-other (command.Begin a) copy m k = (refl, refl)
+other (command.Begin a d) copy m k = (refl, refl)
 other (command.Enlist a b) copy m k = (refl, refl)
 other (command.Read a b d) copy m k = (refl, refl)
 other (command.Write a b d e) copy m k = (refl, refl)

@@ -24,7 +24,7 @@ other : (c : Command) (g : Merger) (n : ℕ) (queues m : List ℕ) → OneOf oth
 unfolding mergingOf
 other command.Emit g n queues m k = absurd (miss others 11 tt k)
 other (command.Sites a) g n queues m k = refl
-other (command.Begin a) g n queues m k = refl
+other (command.Begin a d) g n queues m k = refl
 other (command.Enlist a b) g n queues m k = refl
 other (command.Read a b d) g n queues m k = refl
 other (command.Write a b d e) g n queues m k = refl
