@@ -2,7 +2,7 @@
 // The outgoing buffer is too short.
 pub const SHORT: u64 = 1;
 
-// A site, key, count or layout is impossible.
+// A site, key, desk, count or layout is impossible.
 pub const MALFORMED: u64 = 2;
 
 // The key or the message is for another site.
@@ -32,7 +32,7 @@ pub const HELD: u64 = 9;
 // The key has a version newer than the snapshot.
 pub const NEWER: u64 = 10;
 
-// The key would be the 17th distinct key.
+// The key would be the 17th distinct key that the part reads or writes, or the 5th that it writes for the proofing desk.
 pub const TOO_MANY: u64 = 11;
 
 // The site has 16 live subtransactions. As a reason: a JOINED said so.
