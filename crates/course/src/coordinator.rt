@@ -28,15 +28,16 @@ ghost use Rattle.rules.specs.Effect.{takenOf};
 ghost use Rattle.rules.specs.Course.{enlistStep, abortStep, commitStep, decideStep, castStep, prepareStep, voteDecides, voteStep, Entries};
 ghost use Rattle.rules.specs.Course.{CanSendTo, CanSendAll};
 
-// A participant more, and JOIN to it.
+// A participant more, and JOIN to it, which says the part's desk (Q10.3).
 pub fn enlist_step(t: Turn, site: u64, out: &mut [u64]) -> Taken
     requires { ⌜ CanSendTo t site (length (now out)) ⌝ }
     ensures { λ r. ⌜ r ≡ takenOf (enlistStep t site) ⌝ }
     ensures { λ _. ⌜ now (out .exit) ≡ overlay (now (out .entry)) (enlistStep t site .words) ⌝ }
 {
+    let desk = t.sub.desk;
     let c = with_participant(t.sub.course, site);
     let u = with_course(t, c);
-    send_to(u, JOIN, site, 0, 0, &[], out)
+    send_to(u, JOIN, site, 0, desk, &[], out)
 }
 
 // ABORT to the others; the part is gone.

@@ -9,6 +9,7 @@ use kinds::Snapshot;
 use kinds::Sub;
 use kinds::Taken;
 use kinds::Turn;
+use kinds::desk::HOUSE;
 use kinds::sizes::LAST;
 use kinds::sizes::READS;
 use kinds::sizes::WRITES;
@@ -44,6 +45,7 @@ pub fn no_sub() -> Sub
     let keys = no_keys();
     Sub {
         tx: 0,
+        desk: HOUSE,
         snapshot: Snapshot { installs: 0 },
         course: Course {
             stage: 0,
@@ -57,13 +59,14 @@ pub fn no_sub() -> Sub
     }
 }
 
-// A part that begins now.
-pub fn new_sub(tx: u64, mask: u64, installs: u64) -> Sub
-    ensures { λ r. ⌜ r ≡ newSub tx mask installs ⌝ }
+// A part that begins now, for a desk.
+pub fn new_sub(tx: u64, desk: u64, mask: u64, installs: u64) -> Sub
+    ensures { λ r. ⌜ r ≡ newSub tx desk mask installs ⌝ }
 {
     let keys = no_keys();
     Sub {
         tx,
+        desk,
         snapshot: Snapshot { installs },
         course: Course {
             stage: ACTIVE,

@@ -65,7 +65,16 @@ no-keys n o = rw (zero-at n (o + 0), zero-at n (o + 1), no-words n (o + 2) 16, n
 no-part : (n o : ℕ) → subFrom pastSeat (zeros n) o ≡ noSub
 unfolding subFrom noSub
 no-part n o =
-    rw (zero-at n (o + 0), zero-at n (o + 1), zero-at n (o + 2), zero-at n (o + 3), zero-at n (o + 4), zero-at n (o + 5), no-keys n (o + 6))
+    rw (
+      zero-at n (o + 0),
+      zero-at n (o + 1),
+      zero-at n (o + 2),
+      zero-at n (o + 3),
+      zero-at n (o + 4),
+      zero-at n (o + 5),
+      zero-at n (o + 6),
+      no-keys n (o + 7),
+    )
 
 no-install : (n o : ℕ) → entryFrom (zeros n) o ≡ noEntry
 unfolding entryFrom noEntry

@@ -81,7 +81,7 @@ keys-words w o =
 
 pub place-words : (a : Seat) (w : List ℕ) (o : ℕ) → placeWords (subFrom a w o) ≡ wordsFrom w o sizes.place
 unfolding placeWords subFrom wordsFrom rows
-place-words a w o = rw (keys-words w (o + word.placeKeys)) (sym (words-split w o 6 sizes.keyset))
+place-words a w o = rw (keys-words w (o + word.placeKeys)) (sym (words-split w o word.placeKeys sizes.keyset))
 
 pub slot-words : (w : List ℕ) (o : ℕ) → slotWords (entryFrom w o) ≡ wordsFrom w o sizes.slot
 unfolding slotWords entryFrom wordsFrom rows

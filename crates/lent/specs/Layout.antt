@@ -1,5 +1,5 @@
--- S7 to S9: where the words of a part and of a remembered install stand. A place of the live table has a seat by value; its other
--- words are its snapshot, its course and its keys. A slot of the history is words alone.
+-- S7 to S9 and Q10.2: where the words of a part and of a remembered install stand. A place of the live table has a seat by value; its
+-- other words are its snapshot, its course, its desk and its keys. A slot of the history is words alone.
 use Prim.Native.Nat.{ℕ, _+_, _*_}
 use mathlib.Core.List.{List, _∷_, _++_}
 use lib.ListN.{getD}
@@ -32,6 +32,7 @@ unfoldable pub subFrom : Seat → List ℕ → ℕ → Sub
 subFrom a w o =
     record {
       tx = a .tx;
+      desk = getD w (o + word.placeDesk) 0;
       snapshot = record { installs = getD w (o + word.placeSnapshot) 0 };
       course =
           record {
@@ -72,7 +73,7 @@ seatOf b = record { tx = b .tx; stage = b .course .stage }
 unfoldable pub placeWords : Sub → List ℕ
 placeWords b =
     let c = b .course in
-    b .snapshot .installs ∷ c .mask ∷ c .number ∷ c .heard ∷ c .reason ∷ c .listed ∷ keysWords (b .keys)
+    b .snapshot .installs ∷ c .mask ∷ c .number ∷ c .heard ∷ c .reason ∷ c .listed ∷ b .desk ∷ keysWords (b .keys)
 
 unfoldable pub slotWords : Entry → List ℕ
 slotWords e = e .tx ∷ e .mask ∷ e .number ∷ keysWords (e .keys)

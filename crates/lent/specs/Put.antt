@@ -67,6 +67,7 @@ sub-same a w v o p =
       p 3 (omega arith),
       p 4 (omega arith),
       p 5 (omega arith),
+      p 6 (omega arith),
       keys-same w v (o + word.placeKeys) inside,
     )
 

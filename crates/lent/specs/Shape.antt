@@ -81,7 +81,7 @@ behind-back b a k s e w o p = keys-back b s w (o + k) (λ j h. let q : o + k + j
 abbrev pub placeHead : Sub → List ℕ
 placeHead b =
     let c = b .course in
-    b .snapshot .installs ∷ c .mask ∷ c .number ∷ c .heard ∷ c .reason ∷ c .listed ∷ []
+    b .snapshot .installs ∷ c .mask ∷ c .number ∷ c .heard ∷ c .reason ∷ c .listed ∷ b .desk ∷ []
 
 pub shaped : (b : Sub) → Sized (b .keys) → Shaped b
 unfolding placeWords subFrom seatOf
@@ -96,6 +96,7 @@ shaped b s =
             p 3 (omega arith),
             p 4 (omega arith),
             p 5 (omega arith),
+            p 6 (omega arith),
             behind-back (b .keys) (placeHead b) word.placeKeys s (omega arith) w o p,
           );
     }

@@ -7,6 +7,7 @@ use kinds::sizes::CERT_ENTRIES;
 use kinds::sizes::CONC_ENTRIES;
 use numbers::coordinator_of;
 use numbers::in_mask;
+use numbers::is_desk;
 use numbers::is_mask;
 use numbers::is_site;
 use numbers::is_tx;
@@ -112,6 +113,9 @@ fn argument_ok(o: House, h: MessageHead) -> bool
 {
     let kind = h.kind;
     let argument = h.argument;
+    if kind == kind::JOIN {
+        return is_desk(argument);
+    }
     if kind == kind::JOINED {
         return joined_ok(argument);
     }

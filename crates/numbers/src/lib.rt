@@ -1,13 +1,17 @@
-// Sites, keys, transaction numbers, masks and pairs, as S1 to S6 number them.
+// Sites, keys, transaction numbers, masks and pairs, as S1 to S6 number them; desks, as Q10.1 and Q10.4 do.
 use kinds::House;
+use kinds::desk::PROOFING;
+use kinds::sizes::PROOFING_WRITES;
 use kinds::sizes::SERIALS;
 use kinds::sizes::SITE_KEYS;
 use kinds::sizes::SITES;
+use kinds::sizes::WRITES;
 ghost use mathlib.Core.Path.{_≡_};
 ghost use Prim.Native.Nat.{_≤_, _<_};
 ghost use Rattle.laws.specs.Pair.{precedes as precedesOf};
 ghost use Rattle.rules.specs.House.{houseOk, isSite, homeOf, isKey, txOf, coordinatorOf, serialOf, isTx, maskOf, inMask, isMask};
 ghost use Rattle.rules.specs.House.{participants as participantsOf, repliesWanted};
+ghost use Rattle.rules.specs.Desk.{isDesk, writeLimit};
 ghost use Rattle.kinds.specs.Sizes as sizes;
 
 pub fn house_ok(h: House) -> bool
@@ -127,4 +131,20 @@ pub fn precedes(m: u64, d: u64, n: u64, c: u64) -> bool
         return d < c;
     }
     false
+}
+
+pub fn is_desk(d: u64) -> bool
+    ensures { λ r. ⌜ r ≡ isDesk d ⌝ }
+{
+    d <= PROOFING
+}
+
+// How many keys a part for a desk may write.
+pub fn write_limit(d: u64) -> usize
+    ensures { λ r. ⌜ r ≡ writeLimit d ⌝ }
+{
+    if d == PROOFING {
+        return PROOFING_WRITES;
+    }
+    WRITES
 }

@@ -4,6 +4,7 @@ use mathlib.Core.Path.{_≡_, refl}
 use mathlib.Core.List.{List}
 use borrow.Author.Tests.{le-leb}
 use Rattle.kinds.specs.Sizes as sizes
+use Rattle.kinds.specs.Desk as desk
 use Rattle.kinds.specs.declared.Sub.{Sub}
 use Rattle.kinds.specs.State.{noSnapshot, pastKeys}
 use Rattle.rules.specs.KeysLaws.{by-order}
@@ -15,6 +16,7 @@ abbrev pub asked : ℕ → ℕ → ℕ → Sub
 asked stage number tx =
     record {
       tx = tx;
+      desk = desk.house;
       snapshot = noSnapshot;
       course = record { stage = stage; mask = 0; number = number; heard = 0; reason = 0; listed = 0 };
       keys = pastKeys;

@@ -65,14 +65,14 @@ pub fn arrived(p: Core, live: &[u64], place: usize, from: u64) -> Turn
     }
 }
 
-// A new part, with the channel's count stepped.
-pub fn join_turn(p: Core, h: MessageHead) -> Turn
+// A new part for a desk, with the channel's count stepped.
+pub fn join_turn(p: Core, h: MessageHead, desk: u64) -> Turn
     requires { ⌜ Countable (p .channels) (h .from) ⌝ }
-    ensures { λ r. ⌜ ((w g : List ℕ) → r ≡ joinTurn (siteOf p w g) h) ⌝ }
+    ensures { λ r. ⌜ ((w g : List ℕ) → r ≡ joinTurn (siteOf p w g) h desk) ⌝ }
 {
     let counters = p.counters;
     let channels = course::turn::taken_from(p.channels, h.from);
-    let sub = course::turn::new_sub(h.tx, 0, counters.installs);
+    let sub = course::turn::new_sub(h.tx, desk, 0, counters.installs);
     Turn {
         counters,
         channels,

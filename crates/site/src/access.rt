@@ -20,7 +20,6 @@ use kinds::reason::UNKNOWN;
 use kinds::sizes::KEYS;
 use kinds::sizes::LIVE;
 use kinds::sizes::READS;
-use kinds::sizes::WRITES;
 use kinds::stage::ACTIVE;
 use kinds::stage::FREE;
 ghost use mathlib.Core.Path.{_≡_};
@@ -90,8 +89,9 @@ fn read_code(lost: bool, has: bool, read: usize) -> u64
     0
 }
 
-fn write_code(lost: bool, held: bool, newer: bool, wrote: usize) -> u64
-    ensures { λ r. ⌜ r ≡ writeCode lost held newer wrote ⌝ }
+// `most` is how many keys the part's desk lets it write (Q10.4).
+fn write_code(lost: bool, held: bool, newer: bool, most: usize, wrote: usize) -> u64
+    ensures { λ r. ⌜ r ≡ writeCode lost held newer most wrote ⌝ }
 {
     if lost {
         return FORGOTTEN;
@@ -102,7 +102,7 @@ fn write_code(lost: bool, held: bool, newer: bool, wrote: usize) -> u64
     if newer {
         return NEWER;
     }
-    if WRITES <= wrote {
+    if most <= wrote {
         return TOO_MANY;
     }
     0
@@ -219,7 +219,8 @@ fn fresh_code(p: Core, live: &[u64], history: &[u64], place: usize, t: Turn, key
     let lost = history::is_forgotten(installs, snapshot);
     let held = live::key_held(seats, live, place, key);
     let newer = history::is_newer(history, installs, snapshot, key);
-    write_code(lost, held, newer, t.sub.keys.wrote)
+    let most = numbers::write_limit(t.sub.desk);
+    write_code(lost, held, newer, most, t.sub.keys.wrote)
 }
 
 // The part with the key written.

@@ -17,6 +17,7 @@ use kinds::word::KEYS_READS;
 use kinds::word::KEYS_VALUES;
 use kinds::word::KEYS_WRITES;
 use kinds::word::KEYS_WROTE;
+use kinds::word::PLACE_DESK;
 use kinds::word::PLACE_HEARD;
 use kinds::word::PLACE_KEYS;
 use kinds::word::PLACE_LISTED;
@@ -91,9 +92,11 @@ pub fn part_at(seats: [Seat; LIVE], w: &[u64], place: usize) -> Sub
         reason: w[at + PLACE_REASON],
         listed: w[at + PLACE_LISTED] as usize,
     };
+    let desk = w[at + PLACE_DESK];
     let keys = keys_at(w, at + PLACE_KEYS);
     Sub {
         tx: seat.tx,
+        desk,
         snapshot,
         course,
         keys,
@@ -150,6 +153,7 @@ pub fn put_part(w: &mut [u64], place: usize, b: Sub)
     w[at + PLACE_HEARD] = b.course.heard;
     w[at + PLACE_REASON] = b.course.reason;
     w[at + PLACE_LISTED] = b.course.listed as u64;
+    w[at + PLACE_DESK] = b.desk;
     lay_keys(w, at + PLACE_KEYS, b.keys);
 }
 

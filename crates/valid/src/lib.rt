@@ -1,5 +1,5 @@
-// Whether a handed state is possible: its counts, keys and masks are within the sizes of a house, and what goes out in messages is
-// of the house.
+// Whether a handed state is possible: its counts, keys, masks and desks are within the sizes of a house, and what goes out in messages
+// is of the house.
 use history::remembered;
 use keys::keys_ok_in;
 use kinds::Core;
@@ -20,24 +20,27 @@ use kinds::word;
 use messages::entries_possible;
 use numbers::house_ok;
 use numbers::in_mask;
+use numbers::is_desk;
 use numbers::is_mask;
 use numbers::is_site;
 use numbers::is_tx;
 use numbers::participants;
+use numbers::write_limit;
 use tables::lent_house;
 ghost use mathlib.Core.Bool.{true};
 ghost use mathlib.Core.Path.{_≡_};
 ghost use Prim.Native.Nat.{_+_, _≤_};
 ghost use lib.Dec.{eqb};
-ghost use lib.ListN.{length};
+ghost use lib.ListN.{length, getD};
 ghost use Rattle.laws.specs.Choice.{pick};
 ghost use Rattle.laws.specs.Scan.{allBelow};
 ghost use Rattle.kinds.specs.Sizes as sizes;
 ghost use Rattle.kinds.specs.Stage as stages;
+ghost use Rattle.kinds.specs.Word as words;
 ghost use Rattle.rules.specs.Message.{entryPossible};
-ghost use Rattle.rules.specs.Valid.{courseOk, subOk, slotOk, countersOk, liveOk, historyOk, siteOk, listsOk, handedOk};
+ghost use Rattle.rules.specs.Valid.{courseOk, deskOk, subOk, slotOk, countersOk, liveOk, historyOk, siteOk, listsOk, handedOk};
 ghost use Rattle.rules.specs.ValidLaws.{ValidHouse};
-ghost use Rattle.lent.specs.Layout.{subFrom, entryFrom, liveOf, historyOf};
+ghost use Rattle.lent.specs.Layout.{keysFrom, subFrom, entryFrom, liveOf, historyOf};
 ghost use Rattle.lent.specs.Lent.{siteOf};
 ghost use Rattle.valid.specs.Lists.{Gathered};
 
@@ -66,6 +69,19 @@ fn course_ok(o: House, own: u64, seat: Seat, w: &[u64], at: usize) -> bool
     listed <= CONC_ENTRIES * lists
 }
 
+// A desk, and at most as many keys written as it allows (Q10.6).
+fn desk_ok(w: &[u64], at: usize) -> bool
+    requires { ⌜ at + sizes.place ≤ length (now w) ⌝ }
+    ensures { λ r. ⌜ r ≡ deskOk (getD (now (w .entry)) (at + words.placeDesk) 0) (keysFrom (now (w .entry)) (at + words.placeKeys)) ⌝ }
+{
+    let desk = w[at + word::PLACE_DESK];
+    let wrote = w[at + word::PLACE_KEYS + word::KEYS_WROTE] as usize;
+    if !is_desk(desk) {
+        return false;
+    }
+    wrote <= write_limit(desk)
+}
+
 // The part of a seat, with its other words from word `at` on: a held one goes out in messages.
 fn part_ok(o: House, own: u64, seat: Seat, w: &[u64], at: usize) -> bool
     requires { ⌜ ValidHouse o own × (at + sizes.place ≤ length (now w)) ⌝ }
@@ -77,6 +93,9 @@ fn part_ok(o: House, own: u64, seat: Seat, w: &[u64], at: usize) -> bool
         return false;
     }
     if !keys_ok_in(o, own, w, at + word::PLACE_KEYS) {
+        return false;
+    }
+    if !desk_ok(w, at) {
         return false;
     }
     if stage == FREE {

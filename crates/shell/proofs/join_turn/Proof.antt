@@ -1,4 +1,4 @@
--- A new part, with the channel's count stepped.
+-- A new part for a desk, with the channel's count stepped.
 use borrow.Author.Needs.{needs}
 use Rattle.rules.specs.Deliver.{joinTurn}
 use Rattle.shell.proofs.join_turn.Statement.{statement}

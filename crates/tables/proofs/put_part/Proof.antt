@@ -101,6 +101,15 @@ mul-w-6 c = search needs
 slice-write-w-6 : tie.Need-slice-write-w-6
 slice-write-w-6 c = let r = room (c .before) in simp length-set (omega arith)
 
+add-w-7 : tie.Need-add-w-7
+add-w-7 c = search needs
+
+mul-w-7 : tie.Need-mul-w-7
+mul-w-7 c = search needs
+
+slice-write-w-7 : tie.Need-slice-write-w-7
+slice-write-w-7 c = let r = room (c .before) in simp length-set (omega arith)
+
 add-lay-keys : tie.Need-add-lay-keys
 add-lay-keys c = search needs
 
@@ -139,6 +148,9 @@ put-part-spec =
     add-w-6
     mul-w-6
     slice-write-w-6
+    add-w-7
+    mul-w-7
+    slice-write-w-7
     add-lay-keys
     lay-keys-requires
     same-length

@@ -1,20 +1,24 @@
--- The course, the keys, and the transaction of a held part.
+-- The course, the keys, the desk, and the transaction of a held part.
 use Prim.Native.Nat.{_+_}
 use mathlib.Core.Path.{_≡_, sym, _∙_}
 use mathlib.Core.Bool.{true}
 use borrow.Author.Needs.{needs}
 use borrow.Author.Tests.{not-true, not-false, eq-eqb, ne-eqb}
+use lib.ListN.{getD}
 use Rattle.laws.specs.Choice.{pick-self}
 use Rattle.kinds.specs.Word as word
 use Rattle.rules.specs.Keys.{keysOk}
-use Rattle.rules.specs.Valid.{courseOk, heldOk, subOk}
+use Rattle.rules.specs.Valid.{courseOk, deskOk, heldOk, subOk}
 use Rattle.lent.specs.Layout.{keysFrom, subFrom}
 use Rattle.valid.proofs.part_ok.Statement.{statement}
 use Rattle.valid.proofs.part_ok.Tie as tie
 
--- the function's start, from the first test on
+-- the function's start, from the first test on, and the place behind the first test from the third on
 abbrev start : tie.Else1 → tie.Start
 start c = c .before .before .before
+
+abbrev coursed : tie.Else3 → tie.Else1
+coursed c = let keys = c .before .before in keys .before .before
 
 -- what each test that was passed says
 course-good : (c : tie.Else1) →
@@ -24,6 +28,11 @@ course-good c = sym (c .before .course-ok .ensures) ∙ not-false _ (c .if1 .lef
 keys-good : (c : tie.Else2) →
     (let a = start (c .before .before) .args in keysOk (a .o) (a .own) (keysFrom (a .w .now) (a .at + word.placeKeys)) ≡ true)
 keys-good c = sym (c .before .keys-ok-in .ensures) ∙ not-false _ (c .if2 .left)
+
+desk-good : (c : tie.Else3) →
+    (let a = start (coursed c) .args in
+    deskOk (getD (a .w .now) (a .at + word.placeDesk) 0) (keysFrom (a .w .now) (a .at + word.placeKeys)) ≡ true)
+desk-good c = sym (c .before .desk-ok .ensures) ∙ not-false _ (c .if3 .left)
 
 course-ok-requires : tie.Need-course-ok-requires
 course-ok-requires c κs = search needs
@@ -42,20 +51,38 @@ returns-2 : tie.Need-returns-2
 unfolding subOk subFrom
 returns-2 c = simp (course-good (c .before .before), sym (c .before .keys-ok-in .ensures) ∙ not-true _ (c .if2 .taken))
 
+desk-ok-requires : tie.Need-desk-ok-requires
+desk-ok-requires c κs = search needs
+
 returns-3 : tie.Need-returns-3
 unfolding subOk subFrom
 returns-3 c =
-    let keys = c .before in
-    simp (course-good (keys .before .before), keys-good keys, eq-eqb _ _ (c .if3 .taken))
+    let keys = c .before .before in
+    simp (course-good (keys .before .before), keys-good keys, sym (c .before .desk-ok .ensures) ∙ not-true _ (c .if3 .taken))
+
+returns-4 : tie.Need-returns-4
+unfolding subOk subFrom
+returns-4 c =
+    let desk = c .before in
+    let keys = desk .before .before in
+    simp (course-good (coursed desk), keys-good keys, desk-good desk, eq-eqb _ _ (c .if4 .taken))
 
 is-tx-requires : tie.Need-is-tx-requires
 is-tx-requires c κs = search needs
 
-returns-4 : tie.Need-returns-4
+returns-5 : tie.Need-returns-5
 unfolding subOk heldOk subFrom
-returns-4 c =
-    let keys = c .before .before in
-    simp (course-good (keys .before .before), keys-good keys, ne-eqb _ _ (c .before .if3 .left), ← c .is-tx .ensures, pick-self)
+returns-5 c =
+    let desk = c .before .before in
+    let keys = desk .before .before in
+    simp (
+      course-good (coursed desk),
+      keys-good keys,
+      desk-good desk,
+      ne-eqb _ _ (c .before .if4 .left),
+      ← c .is-tx .ensures,
+      pick-self,
+    )
 
 pub part-ok-spec : {M : Type 1} → statement M
 part-ok-spec =
@@ -66,6 +93,8 @@ part-ok-spec =
     add-keys-ok-in
     keys-ok-in-requires
     returns-2
+    desk-ok-requires
     returns-3
+    returns-4
     is-tx-requires
-    returns-4)
+    returns-5)

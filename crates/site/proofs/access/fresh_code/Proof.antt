@@ -6,6 +6,7 @@ use borrow.Author.Needs.{needs}
 use Rattle.kinds.specs.declared.Site.{Site}
 use Rattle.kinds.specs.declared.Turn.{Turn}
 use Rattle.rules.specs.Access.{writeCode, writeCodeAt}
+use Rattle.rules.specs.Desk.{writeLimit}
 use Rattle.rules.specs.Effect.{turnAt}
 use Rattle.rules.specs.History.{isForgotten, isNewer}
 use Rattle.rules.specs.Live.{keyHeld}
@@ -31,13 +32,13 @@ valid c = valid-site (handed c) (c .pre .0 .possible)
 long : (c : tie.Start) → Lengths (c .args .live .now) (c .args .history .now)
 long c = lent-lengths (c .args .p) (c .args .live .now) (c .args .history .now) (c .pre .0 .possible)
 
--- the code of the part's own snapshot and count is the rule's
-code-at : (s : Site) (place key : ℕ) (t : Turn) (lost held newer : Bool) → t ≡ turnAt s place
+-- the code of the part's own snapshot, desk and count is the rule's
+code-at : (s : Site) (place key : ℕ) (t : Turn) (lost held newer : Bool) (most : ℕ) → t ≡ turnAt s place
     → lost ≡ isForgotten (s .counters .installs) (t .sub .snapshot) → held ≡ keyHeld (s .live) place key
     → newer ≡ isNewer (s .history) (s .counters .installs) (t .sub .snapshot) key
-    → writeCode lost held newer (t .sub .keys .wrote) ≡ writeCodeAt s place key
+    → most ≡ writeLimit (t .sub .desk) → writeCode lost held newer most (t .sub .keys .wrote) ≡ writeCodeAt s place key
 unfolding writeCodeAt turnAt
-code-at s place key t lost held newer e f g h = rw (f, g, h, e)
+code-at s place key t lost held newer most e f g h l = rw (f, g, h, l, e)
 
 is-forgotten-requires : tie.Need-is-forgotten-requires
 is-forgotten-requires c κs = search needs
@@ -50,17 +51,20 @@ is-newer-requires c κs =
     let s = start (c .before) in
     record { long = long s .history; few = λ i l. valid s .entry i l .keys .few-wrote }
 
+write-limit-requires : tie.Need-write-limit-requires
+write-limit-requires c κs = search needs
+
 write-code-requires : tie.Need-write-code-requires
 write-code-requires c κs = search needs
 
 returns : tie.Need-returns
 returns c =
-    let held = c .before .before in
+    let held = c .before .before .before in
     let s = start (held .before) in
     c .write-code .ensures
-    ∙ code-at (handed s) (s .args .place) (s .args .key) (s .args .t) _ _ _ (s .pre .1) (held .before .is-forgotten .ensures)
-    (held .key-held .ensures) (c .before .is-newer .ensures)
+    ∙ code-at (handed s) (s .args .place) (s .args .key) (s .args .t) _ _ _ _ (s .pre .1) (held .before .is-forgotten .ensures)
+    (held .key-held .ensures) (c .before .before .is-newer .ensures) (c .before .write-limit .ensures)
 
 pub fresh-code-spec : {M : Type 1} → statement M
 fresh-code-spec =
-    tie.close (tie.spec is-forgotten-requires key-held-requires is-newer-requires write-code-requires returns)
+    tie.close (tie.spec is-forgotten-requires key-held-requires is-newer-requires write-limit-requires write-code-requires returns)

@@ -3,14 +3,16 @@ use mathlib.Core.Path.{_≡_, sym, _∙_}
 use mathlib.Core.Bool.{true, false, true≢false}
 use mathlib.Core.List.{[]}
 use Prim.Native.Nat.{ℕ, _≤_, _<_}
+use native.Mathlib.Omega.{arith}
 use borrow.Author.Needs.{needs}
 use borrow.Author.Tests.{ne-eqb}
 use Rattle.kinds.specs.Sizes as sizes
-use Rattle.kinds.specs.State.{Value}
+use Rattle.kinds.specs.State.{Value, subAt}
 use Rattle.kinds.specs.declared.Site.{Site}
 use Rattle.kinds.specs.declared.Turn.{Turn}
 use Rattle.rules.specs.Access.{writeAt, writeCodeAt, written}
 use Rattle.rules.specs.CallLaws.{write-clear}
+use Rattle.rules.specs.Desk.{limit-most}
 use Rattle.rules.specs.Effect.{refused, turnAt}
 use Rattle.rules.specs.Keys.{wroteKey}
 use Rattle.rules.specs.ValidLaws.{ValidSite, valid-site}
@@ -61,7 +63,7 @@ few s place t l e v = rw e (v .part place l .keys .few-wrote)
 
 room : (s : Site) (place k : ℕ) (t : Turn) → t ≡ turnAt s place → writeCodeAt s place k ≡ 0 → t .sub .keys .wrote < sizes.writes
 unfolding turnAt writeCodeAt
-room s place k t e f = rw e (write-clear _ _ _ _ f .room)
+room s place k t e f = rw e (omega (arith, write-clear _ _ _ _ _ f .room, limit-most (subAt s place .desk)))
 
 turn-at-requires : tie.Need-turn-at-requires
 turn-at-requires c κs = let s = start c in (long s .live, s .pre .low)

@@ -1,7 +1,6 @@
 -- Each return is the first cause, or none.
 use borrow.Author.Tests.{le-leb, lt-leb}
 use Rattle.rules.specs.Access.{writeCode}
-use Rattle.kinds.specs.Sizes as sizes
 use Rattle.site.proofs.access.write_code.Statement.{statement}
 use Rattle.site.proofs.access.write_code.Tie as tie
 
@@ -27,7 +26,7 @@ returns-4 c =
       c .before .before .before .if1 .left,
       c .before .before .if2 .left,
       c .before .if3 .left,
-      le-leb sizes.writes (start (c .before) .args .wrote) (c .if4 .taken),
+      le-leb (start (c .before) .args .most) (start (c .before) .args .wrote) (c .if4 .taken),
     )
 
 returns-5 : tie.Need-returns-5
@@ -37,7 +36,7 @@ returns-5 c =
       c .before .before .before .if1 .left,
       c .before .before .if2 .left,
       c .before .if3 .left,
-      lt-leb sizes.writes (start (c .before) .args .wrote) (c .if4 .left),
+      lt-leb (start (c .before) .args .most) (start (c .before) .args .wrote) (c .if4 .left),
     )
 
 pub write-code-spec : {M : Type 1} → statement M

@@ -1,10 +1,12 @@
 -- Refused, or the new part settled at the free place.
+use Prim.Native.Nat.{ℕ}
 use mathlib.Core.Path.{_≡_, sym, _∙_}
 use mathlib.Core.List.{[]}
 use native.Mathlib.Omega.{arith}
 use borrow.Author.Needs.{needs}
 use borrow.Author.Tests.{eq-eqb, ne-eqb}
 use Rattle.kinds.specs.declared.Site.{Site}
+use Rattle.rules.specs.Desk.{isDesk}
 use Rattle.rules.specs.Begin.{BeginClear, begin-clear, beginCode, beginOf, begun}
 use Rattle.rules.specs.Live.{freePlace}
 use Rattle.rules.specs.Valid.{siteOk}
@@ -17,23 +19,41 @@ use Rattle.site.proofs.begin.begin.Tie as tie
 abbrev start : tie.After-site-ok-arg → tie.Start
 start c = c .before .before .before
 
-abbrev looked : tie.After-begin-code → tie.After-site-ok
-looked c = c .before .before .before
+abbrev known : tie.After-begin-code → tie.After-is-desk
+known c = c .before .before .before
 
--- the site that the call is handed
+abbrev looked : tie.After-begin-code → tie.After-site-ok
+looked c = known c .before
+
+-- the site and the desk that the call is handed
 abbrev handed : tie.After-begin-code → Site
 handed c = let a = start (looked c .before) .args in siteOf (a .p) (a .live .now) (a .history .now)
 
+abbrev desk : tie.After-begin-code → ℕ
+desk c = start (looked c .before) .args .desk
+
 -- the first cause against the call, and what it says where there is none
-first : (c : tie.After-begin-code) → c .begin-code .result ≡ beginCode (siteOk (handed c)) (handed c .counters) (freePlace (handed c .live))
-first c = rw (← looked c .site-ok .ensures, ← c .before .free-place .ensures (start (looked c .before) .args .live .now))
+abbrev codeOf : tie.After-begin-code → ℕ
+codeOf c = let s = handed c in beginCode (siteOk s) (isDesk (desk c)) (s .counters) (freePlace (s .live))
+
+first : (c : tie.After-begin-code) → c .begin-code .result ≡ codeOf c
+first c =
+    rw (
+      ← looked c .site-ok .ensures,
+      ← known c .is-desk .ensures,
+      ← c .before .free-place .ensures (start (looked c .before) .args .live .now),
+    )
     (c .begin-code .ensures)
 
-clear : (c : tie.Else1) → BeginClear (siteOk (handed (c .before))) (handed (c .before) .counters) (freePlace (handed (c .before) .live))
-clear c = begin-clear _ _ _ (sym (first (c .before)) ∙ c .if1 .left)
+clear : (c : tie.Else1) → (let s = handed (c .before) in
+    BeginClear (siteOk s) (isDesk (desk (c .before))) (s .counters) (freePlace (s .live)))
+clear c = begin-clear _ _ _ _ (sym (first (c .before)) ∙ c .if1 .left)
 
 site-ok-requires : tie.Need-site-ok-requires
 site-ok-requires c κs = search needs
+
+is-desk-requires : tie.Need-is-desk-requires
+is-desk-requires c κs = search needs
 
 free-place-requires : tie.Need-free-place-requires
 free-place-requires c κs = search needs
@@ -79,7 +99,7 @@ returns-2 c =
     let code = past .before in
     let a = start (looked code .before) .args in
     rw (← first code, eq-eqb (code .begin-code .result) 0 (past .if1 .left), ← code .before .free-place .ensures (a .live .now))
-    (end .settled .ensures (begun (handed code)) (end .before .before .begun .ensures (a .live .now) (a .history .now))
+    (end .settled .ensures (begun (handed code) (a .desk)) (end .before .before .begun .ensures (a .live .now) (a .history .now))
     (a .history .now) [])
 
 pub begin-spec : {M : Type 1} → statement M
@@ -87,6 +107,7 @@ begin-spec =
     tie.close
     (tie.spec
     site-ok-requires
+    is-desk-requires
     free-place-requires
     begin-code-requires
     refused-requires
