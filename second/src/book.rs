@@ -2,10 +2,13 @@
 //! words, it says what the copies must hold and what transactions may have seen.
 //! It looks into no state but the copies' values, which it checks.
 
+mod limits;
+
 use std::collections::{BTreeMap, HashMap, HashSet};
 
 use crate::answer::{Decision, Pair, Refusal};
 use crate::copy::Copy;
+use crate::desk::Desk;
 use crate::house::messages;
 use crate::site::Found;
 use crate::sizes::*;
@@ -23,8 +26,12 @@ struct Chapter {
     begun: [Option<u64>; SITES],
     installed: [Option<u64>; SITES],
     writes: BTreeMap<u64, u64>,
+    /// Keys that entered the set of keys read, and all keys used.
+    reads: HashSet<u64>,
     used: HashSet<u64>,
     pair: Option<Pair>,
+    /// The desk that it began for, as the call said.
+    desk: Option<Desk>,
 }
 
 impl Chapter {
@@ -104,8 +111,8 @@ impl Book {
         self.committed.len()
     }
 
-    /// Enters an accepted call; refused ones leave the book. An `Err` names the
-    /// claim that broke.
+    /// Enters an accepted call; refused ones leave the book, which is asked whether
+    /// an 11 was due. An `Err` names the claim that broke.
     pub fn enter(
         &mut self,
         call: &Call,
@@ -113,30 +120,33 @@ impl Book {
         written: &[u64],
         copies: &[Copy],
     ) -> Checked {
-        let Ok(answer) = answer else { return Ok(()) };
+        let answer = match answer {
+            Ok(answer) => answer,
+            Err(Refusal::TooManyKeys) => return self.too_many_keys(call),
+            Err(_) => return Ok(()),
+        };
         self.moment += 1;
         match (*call, *answer) {
-            (Call::Begin { site }, Answer::Begun(transaction)) => self.begin(site, transaction)?,
+            (Call::Begin { site, desk }, Answer::Begun(transaction)) => {
+                self.begin_for(desk, transaction)?;
+                self.begin(site, transaction)?;
+            }
+            (Call::Enlist { transaction, .. }, _) => self.joins(transaction, written)?,
             (Call::Read { site, transaction, key }, Answer::Value(value)) => {
                 self.read(site, transaction, key, value)?;
             }
             (Call::Search { site, snapshot, key }, Answer::Found(found)) => {
                 self.search(site, snapshot, key, found)?;
             }
-            (Call::Write { transaction, key, value, .. }, _) => {
-                let chapter = self.chapters.entry(transaction).or_default();
-                chapter.used.insert(key);
-                chapter.writes.insert(key, value);
-                self.recheck(transaction)?;
+            (Call::Write { site, transaction, key, value }, _) => {
+                self.write(site, transaction, key, value)?;
             }
             (Call::Commit { transaction, .. }, _) => self.decide(transaction, answer)?,
             (Call::Message { site, words }, _) => self.message(site, words, answer, written)?,
             (Call::Install { site }, Answer::Installed(done)) => self.install(site, done.pair)?,
             (Call::Replay { copy, .. }, Answer::Replayed(pair)) => self.replay(copy, pair)?,
             (Call::Value { copy, key }, Answer::CopyValue(value, pair)) => {
-                let shelf = &self.shelves[copy as usize - 1];
-                let due = (shelf.expected[key as usize], shelf.last.unwrap_or_default());
-                claim(due == (value, pair), || format!("value {key} of copy {copy}: {due:?} due"))?;
+                self.value(copy, key, (value, pair))?;
             }
             _ => {}
         }
@@ -153,6 +163,7 @@ impl Book {
     fn message(&mut self, site: u64, words: &[u64], answer: &Answer, written: &[u64]) -> Checked {
         let transaction = words[TRANSACTION];
         if words[KIND] == JOIN && messages(written).any(|reply| reply[ARGUMENT] == 0) {
+            self.joins(transaction, words)?;
             self.begin(site, transaction)?;
         }
         self.decide(transaction, answer)
@@ -187,11 +198,22 @@ impl Book {
         self.recheck(transaction)
     }
 
+    fn write(&mut self, site: u64, transaction: u64, key: u64, value: u64) -> Checked {
+        let chapter = self.chapters.entry(transaction).or_default();
+        chapter.used.insert(key);
+        chapter.writes.insert(key, value);
+        self.check_limits(site, transaction)?;
+        self.recheck(transaction)
+    }
+
     /// Beyond demand 3: a read gives the own write, else what the installs
-    /// before its part began left.
+    /// before its part began left. Only the latter enters the set of keys read (C10).
     fn read(&mut self, site: u64, transaction: u64, key: u64, value: u64) -> Checked {
         let chapter = self.chapters.entry(transaction).or_default();
         chapter.used.insert(key);
+        if !chapter.writes.contains_key(&key) {
+            chapter.reads.insert(key);
+        }
         let began = chapter.begun[site as usize - 1];
         let began = began.ok_or(format!("{transaction} reads at {site} without a part"))?;
         let left = || {
@@ -202,6 +224,7 @@ impl Book {
         };
         let due = chapter.writes.get(&key).copied().unwrap_or_else(left);
         claim(due == value, || format!("{transaction} read {value} at {key}, {due} is due"))?;
+        self.check_limits(site, transaction)?;
         self.recheck(transaction)
     }
 
@@ -240,6 +263,12 @@ impl Book {
             _ => self.reshelve(copy),
         }
         Ok(())
+    }
+
+    fn value(&self, copy: u64, key: u64, answer: (u64, Pair)) -> Checked {
+        let shelf = &self.shelves[copy as usize - 1];
+        let due = (shelf.expected[key as usize], shelf.last.unwrap_or_default());
+        claim(due == answer, || format!("value {key} of copy {copy}: {due:?} due"))
     }
 
     /// The writes of the committed up to a copy's last pair, over zeros.

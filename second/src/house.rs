@@ -125,7 +125,7 @@ impl Running {
     fn route<'a>(&self, command: Command, words: &'a [u64]) -> Result<Call<'a>, Refusal> {
         Ok(match command {
             Command::Sites(_) => return Err(Refusal::Impossible),
-            Command::Begin(site) => Call::Begin { site },
+            Command::Begin { site, desk } => Call::Begin { site, desk },
             Command::Enlist { transaction, target } => {
                 require(is_site(target, self.sites()), Refusal::Impossible)?;
                 Call::Enlist { site: self.coordinator(transaction)?, transaction, target }

@@ -5,6 +5,7 @@ pub mod aim;
 pub mod answer;
 pub mod book;
 pub mod copy;
+pub mod desk;
 pub mod fuzz;
 pub mod house;
 pub mod merger;

@@ -1,6 +1,7 @@
-//! Messages as words (M1 to M17): the check, the reader, the writer.
+//! Messages as words (M1 to M17, Q10.3): the check, the reader, the writer.
 
 use crate::answer::{reason, require, Refusal};
+use crate::desk::Desk;
 use crate::sizes::*;
 
 mod at {
@@ -59,7 +60,7 @@ impl Kind {
     }
 
     pub fn carries_argument(self) -> bool {
-        matches!(self, Kind::Joined | Kind::Prepare | Kind::Vote)
+        matches!(self, Kind::Join | Kind::Joined | Kind::Prepare | Kind::Vote)
     }
 
     pub fn carries_entries(self) -> bool {
@@ -145,6 +146,7 @@ impl<'a> Message<'a> {
 
     fn argument_is_possible(&self, sites: u64) -> bool {
         match self.kind {
+            Kind::Join => Desk::of(self.argument).is_some(),
             Kind::Joined => matches!(self.argument, 0 | reason::LIVE_FULL),
             Kind::Prepare => {
                 let both = site_bit(self.from) | site_bit(self.to);

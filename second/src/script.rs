@@ -1,10 +1,12 @@
-//! Lines of a `house` script (H1 to H20).
+//! Lines of a `house` script (H1 to H20, Q10.7).
+
+use crate::desk::Desk;
 
 /// A line that has a command's form; whether it can be obeyed is asked later.
 #[derive(Clone, Copy, PartialEq, Eq, Debug)]
 pub enum Command {
     Sites(u64),
-    Begin(u64),
+    Begin { site: u64, desk: u64 },
     Enlist { transaction: u64, target: u64 },
     Read { site: u64, transaction: u64, key: u64 },
     Write { site: u64, transaction: u64, key: u64, value: u64 },
@@ -36,7 +38,8 @@ impl Command {
     fn form(name: &[u8], numbers: &[u64]) -> Option<Command> {
         Some(match (name, numbers) {
             (b"sites", &[sites]) => Command::Sites(sites),
-            (b"begin", &[site]) => Command::Begin(site),
+            (b"begin", &[site]) => Command::Begin { site, desk: Desk::House.number() },
+            (b"begin", &[site, desk]) => Command::Begin { site, desk },
             (b"enlist", &[transaction, target]) => Command::Enlist { transaction, target },
             (b"read", &[site, transaction, key]) => Command::Read { site, transaction, key },
             (b"write", &[site, transaction, key, value]) => {

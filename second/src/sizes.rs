@@ -4,8 +4,10 @@ pub const SITES: usize = 8;
 pub const KEYS: u64 = 2_048;
 pub const SITE_KEYS: u64 = KEYS / SITES as u64;
 pub const LIVE: usize = 16;
-/// Limit of the read set, and of the write set, of one part.
+/// Limit of the read set of one part, and of the write set of one for the house.
 pub const SET_KEYS: usize = 16;
+/// Limit of the write set of a part for the proofing desk (Q10.4).
+pub const PROOFING_KEYS: usize = 4;
 pub const HISTORY: usize = 32;
 /// Parts that the merger queues for one site.
 pub const QUEUED_PARTS: usize = 16;

@@ -4,8 +4,10 @@ use std::collections::BTreeMap;
 use std::fmt;
 
 use crate::answer::{Decision, Refusal};
+use crate::desk::Desk;
 use crate::house::messages;
-use crate::world::{Answer, Call};
+use crate::sizes::coordinator_of;
+use crate::world::{Answer, Call, World};
 
 const LINES: [&str; 14] = [
     "line sites",
@@ -53,6 +55,33 @@ impl Tally {
             } else if message[1] == 4 {
                 self.count(name(call), "replies CONC".to_string());
             }
+        }
+    }
+
+    /// Counts begins by desk, and writes refused 11 by desk and kind of site. A
+    /// refused call leaves the part as it was.
+    pub fn desks(&mut self, call: &Call, answer: &Result<Answer, Refusal>, world: &World) {
+        match (*call, answer) {
+            (Call::Begin { desk, .. }, _) => {
+                let desk = match Desk::of(desk) {
+                    Some(Desk::House) => "desk house",
+                    Some(Desk::Proofing) => "desk proofing",
+                    None => "desk other",
+                };
+                self.count(desk, outcome(answer));
+            }
+            (Call::Write { site, transaction, .. }, Err(Refusal::TooManyKeys)) => {
+                let state = &world.sites[site as usize - 1];
+                let Some(place) = state.find(transaction) else { return };
+                let limit = match state.live[place].desk {
+                    Desk::House => "17th written",
+                    Desk::Proofing => "5th written",
+                };
+                let coordinates = coordinator_of(transaction) == site;
+                let at = if coordinates { "coordinator" } else { "participant" };
+                self.count(limit, at.to_string());
+            }
+            _ => {}
         }
     }
 

@@ -8,7 +8,7 @@ use crate::sizes::*;
 
 #[derive(Clone, Copy, PartialEq, Eq, Debug)]
 pub enum Call<'a> {
-    Begin { site: u64 },
+    Begin { site: u64, desk: u64 },
     Enlist { site: u64, transaction: u64, target: u64 },
     Read { site: u64, transaction: u64, key: u64 },
     Write { site: u64, transaction: u64, key: u64, value: u64 },
@@ -75,7 +75,7 @@ impl World {
     /// A site or copy that is not there is impossible: 2.
     pub fn call(&mut self, call: &Call, out: &mut [u64]) -> Result<Answer, Refusal> {
         match *call {
-            Call::Begin { site } => self.site(site)?.begin().map(Answer::Begun),
+            Call::Begin { site, desk } => self.site(site)?.begin(desk).map(Answer::Begun),
             Call::Enlist { site, transaction, target } => {
                 self.site(site)?.enlist(transaction, target, out).map(Answer::Sent)
             }

@@ -19,7 +19,7 @@ fn a_vote_of_5_aborts_with_it() {
     assert_eq!(votes, [[10, 6, 2, 1, 1, T, 40, 5, 0, 0]]);
     assert_eq!((two.clock, two.taken[0], two.live.len()), (40, 1, 0));
     let mut one = site(2, 1);
-    one.begin().unwrap();
+    one.begin(HOUSE).unwrap();
     (one.live[0].participants, one.live[0].heard) = (3, 2);
     one.commit(T, &mut buffer()).unwrap();
     let (decision, sent) = take(&mut one, &votes[0]);
@@ -46,10 +46,10 @@ fn a_full_site_aborts_12_at_the_commit_request() {
 fn a_spent_clock_aborts_13() {
     let mut one = site(1, 1);
     one.clock = u64::MAX - 1;
-    let last = one.begin().unwrap();
+    let last = one.begin(HOUSE).unwrap();
     let (decision, _) = sent(&mut one, |site, out| site.commit(last, out));
     assert_eq!(decision, Some(Decision::Commit(u64::MAX)));
-    let late = one.begin().unwrap();
+    let late = one.begin(HOUSE).unwrap();
     let (decision, _) = sent(&mut one, |site, out| site.commit(late, out));
     assert_eq!(decision, Some(Decision::Abort(13)));
     assert_eq!((one.clock, one.find(late)), (u64::MAX, None));
@@ -58,7 +58,7 @@ fn a_spent_clock_aborts_13() {
 #[test]
 fn a_spent_clock_aborts_13_on_the_last_vote() {
     let mut one = site(2, 1);
-    one.begin().unwrap();
+    one.begin(HOUSE).unwrap();
     one.live[0].participants = 3;
     one.live[0].stage = Stage::Open { mark: 0 };
     let mut yes = message(6, 2, 1, T);

@@ -14,14 +14,14 @@ const T: u64 = (1 << 32) + 1;
 fn keys_live_at_their_sites() {
     assert_eq!([255, 256, 2_047].map(key_site), [1, 2, 8]);
     let mut site = site(8, 1);
-    site.begin().unwrap();
+    site.begin(HOUSE).unwrap();
     assert_eq!(site.read(T, 2_048), Err(Refusal::Impossible));
 }
 
 #[test]
 fn first_serials() {
-    assert_eq!(site(2, 1).begin(), Ok(4_294_967_297));
-    assert_eq!(site(2, 2).begin(), Ok(8_589_934_593));
+    assert_eq!(site(2, 1).begin(HOUSE), Ok(4_294_967_297));
+    assert_eq!(site(2, 2).begin(HOUSE), Ok(8_589_934_593));
 }
 
 #[test]
@@ -71,7 +71,7 @@ fn a_snapshot_reads_its_version_and_may_not_overwrite_a_newer_one() {
         let writes = if value == 0 { vec![] } else { vec![(5, value)] };
         one.history.push_back(installed(install, T + install, &writes));
     }
-    let late = one.begin().unwrap();
+    let late = one.begin(HOUSE).unwrap();
     one.installs = 4;
     one.history.push_back(installed(4, T + 4, &[(5, 80)]));
     assert_eq!(one.read(late, 5), Ok(70));
@@ -104,7 +104,7 @@ fn common_reads_alone_are_not_dependent() {
 #[test]
 fn a_buffer_of_7966_passes_and_one_of_7965_does_not() {
     let mut one = site(1, 1);
-    one.begin().unwrap();
+    one.begin(HOUSE).unwrap();
     refused(&one, 7_965, 1, |site, out| site.commit(T, out));
     assert!(one.commit(T, &mut vec![0; 7_966]).is_ok());
     refused(&one, 40, 1, |site, out| site.install(out));
@@ -115,7 +115,7 @@ fn a_buffer_of_7966_passes_and_one_of_7965_does_not() {
 #[test]
 fn sixteen_keys_pass() {
     let mut one = site(1, 1);
-    one.begin().unwrap();
+    one.begin(HOUSE).unwrap();
     for key in (0..16).rev() {
         one.read(T, key).unwrap();
         one.write(T, key, key + 100).unwrap();

@@ -5,6 +5,9 @@ mod common;
 use std::collections::{BTreeMap, BTreeSet};
 
 use common::probed::House as Probed;
+use common::stages::*;
+use common::*;
+use second::answer::{Refusal, Sent};
 use second::book::Book;
 use second::copy::Copy;
 use second::fuzz;
@@ -46,6 +49,25 @@ fn scripts_reach_all_that_they_can() {
     }
     assert_eq!(tally.get("line take", "refused 27"), 0);
     assert!(tally.get("any line", "ok, commits") > 0);
+    assert!(tally.get("desk house", "refused 12") > 0);
+    assert!(tally.get("desk proofing", "refused 12") > 0);
+    assert_both_desks(&tally);
+}
+
+/// Both desks begin and meet their limits, at coordinators and at participants; a
+/// begin for no desk is refused 2 and with no other number.
+fn assert_both_desks(tally: &Tally) {
+    for desk in ["desk house", "desk proofing"] {
+        assert!(tally.get(desk, "ok") > 100, "{desk}");
+    }
+    for limit in ["5th written", "17th written"] {
+        assert!(tally.get(limit, "coordinator") > 0, "{limit}");
+        assert!(tally.get(limit, "participant") > 0, "{limit}");
+    }
+    assert!(tally.get("desk other", "refused  2") > 10);
+    for outcome in ["ok", "refused 12", "refused 13"] {
+        assert_eq!(tally.get("desk other", outcome), 0);
+    }
 }
 
 #[test]
@@ -65,6 +87,8 @@ fn random_lists_keep_the_book_and_tell_the_wrong_site_from_the_wrong_stage() {
     }
     assert_eq!(tally.total("refused 26"), elsewhere, "another call gave 26");
     assert_eq!(tally.total("refused  6"), 0, "a call gave 6");
+    assert!(tally.get("read", "refused 11") > 0);
+    assert_both_desks(&tally);
 }
 
 const PROBES: std::ops::RangeInclusive<u64> = 1..=12;
@@ -100,6 +124,39 @@ fn random_searches_are_refused_with_no_number_but_2_and_3() {
     let searches: Vec<&str> =
         met.iter().filter(|it| it.0 == "search").map(|it| it.1.as_str()).collect();
     assert_eq!(searches, ["2", "3"]);
+}
+
+/// Pokes of a desk or of a count of written keys, and begins with a desk.
+fn desks_of_random_probes() -> BTreeSet<(String, u64)> {
+    let texts = PROBES.map(|seed| random::probe(seed, 1_500));
+    let mut met = BTreeSet::new();
+    for text in texts {
+        for words in text.lines().map(|line| line.split(' ').collect::<Vec<_>>()) {
+            let (what, value) = match words.as_slice() {
+                ["begin", _, desk] => ("begin", *desk),
+                ["live", _, _, field @ ("9" | "10"), value] => (*field, *value),
+                ["word", "7", desk] => ("word", *desk),
+                _ => continue,
+            };
+            met.insert((what.to_string(), value.parse().unwrap()));
+        }
+    }
+    met
+}
+
+#[test]
+fn random_probes_poke_desks_and_counts_around_both_limits() {
+    let met = desks_of_random_probes();
+    for (what, values) in [
+        ("begin", &[0, 1, 2, u64::MAX][..]),
+        ("9", &[4, 5, 16, 17]),
+        ("10", &[0, 1, 2]),
+        ("word", &[0, 1, 2]),
+    ] {
+        for &value in values {
+            assert!(met.contains(&(what.to_string(), value)), "{what} {value}");
+        }
+    }
 }
 
 /// Where a search that is answered ends.
@@ -162,10 +219,75 @@ fn the_book_finds_a_wrong_copy() {
     let transaction = (1 << 32) + 1;
     let mut copies = vec![Copy::start(); COPIES];
     let mut book = Book::default();
-    let begun = Call::Begin { site: 1 };
+    let begun = Call::Begin { site: 1, desk: HOUSE };
     let written = Call::Write { site: 1, transaction, key: 5, value: 6 };
     assert!(book.enter(&begun, &Ok(Answer::Begun(transaction)), &[], &copies).is_ok());
     assert!(book.enter(&written, &Ok(Answer::Done), &[], &copies).is_ok());
     copies[2].values[5] = 6;
     assert!(book.enter(&Call::Emit, &Ok(Answer::Done), &[], &copies).is_err());
+}
+
+/// A book in which T began at site 1 for a desk, and enlisted site 2 with these words.
+fn with_part(desk: u64, join: &[u64]) -> Result<Book, String> {
+    let copies = vec![Copy::start(); COPIES];
+    let mut book = Book::default();
+    let begin = Call::Begin { site: 1, desk };
+    let enlist = Call::Enlist { site: 1, transaction: T, target: 2 };
+    let sent = Answer::Sent(Sent { words: join.len(), decision: None });
+    book.enter(&begin, &Ok(Answer::Begun(T)), &[], &copies)?;
+    book.enter(&enlist, &Ok(sent), join, &copies)?;
+    Ok(book)
+}
+
+#[test]
+fn the_book_finds_a_desk_that_is_none_or_not_the_transactions() {
+    for (desk, said) in [(HOUSE, PROOFING), (PROOFING, HOUSE), (PROOFING, 2), (2, 2)] {
+        assert!(with_part(desk, &to_two(1, 1, 0, said)).is_err(), "{said} in place of {desk}");
+    }
+    let copies = vec![Copy::start(); COPIES];
+    let joined = to_one(1, 2, 0);
+    let answer = Ok(Answer::Sent(Sent { words: joined.len(), decision: None }));
+    for (said, holds) in [(PROOFING, true), (HOUSE, false), (2, false)] {
+        let mut book = with_part(PROOFING, &to_two(1, 1, 0, PROOFING)).unwrap();
+        let join = to_two(1, 1, 0, said);
+        let taken = Call::Message { site: 2, words: &join };
+        assert_eq!(book.enter(&taken, &answer, &joined, &copies).is_ok(), holds, "{said}");
+    }
+}
+
+#[test]
+fn the_book_finds_a_key_too_many_and_an_11_too_early() {
+    let copies = vec![Copy::start(); COPIES];
+    for (desk, limit) in [(PROOFING, 4), (HOUSE, 16)] {
+        let mut book = with_part(desk, &to_two(1, 1, 0, desk)).unwrap();
+        let write = |key: u64| Call::Write { site: 1, transaction: T, key, value: 6 };
+        for key in 0..limit {
+            let early = book.enter(&write(key), &Err(Refusal::TooManyKeys), &[], &copies);
+            assert!(early.is_err(), "{key}");
+            assert!(book.enter(&write(key), &Ok(Answer::Done), &[], &copies).is_ok());
+        }
+        assert!(book.enter(&write(0), &Ok(Answer::Done), &[], &copies).is_ok(), "known");
+        assert!(book.enter(&write(0), &Err(Refusal::TooManyKeys), &[], &copies).is_err());
+        assert!(book.enter(&write(limit), &Err(Refusal::TooManyKeys), &[], &copies).is_ok());
+        assert!(book.enter(&write(limit), &Ok(Answer::Done), &[], &copies).is_err());
+    }
+}
+
+#[test]
+fn the_book_finds_a_seventeenth_key_read_for_either_desk() {
+    let copies = vec![Copy::start(); COPIES];
+    for desk in [HOUSE, PROOFING] {
+        let mut book = with_part(desk, &to_two(1, 1, 0, desk)).unwrap();
+        let read = |key: u64| Call::Read { site: 1, transaction: T, key };
+        let value = Ok(Answer::Value(0));
+        let own = Call::Write { site: 1, transaction: T, key: 99, value: 0 };
+        assert!(book.enter(&own, &Ok(Answer::Done), &[], &copies).is_ok());
+        assert!(book.enter(&read(99), &value, &[], &copies).is_ok(), "enters no set");
+        for key in 0..16 {
+            assert!(book.enter(&read(key), &Err(Refusal::TooManyKeys), &[], &copies).is_err());
+            assert!(book.enter(&read(key), &value, &[], &copies).is_ok(), "{key}");
+        }
+        assert!(book.enter(&read(16), &Err(Refusal::TooManyKeys), &[], &copies).is_ok());
+        assert!(book.enter(&read(16), &value, &[], &copies).is_err());
+    }
 }

@@ -90,6 +90,19 @@ fn the_head_says_why_a_late_call_is_refused() {
 }
 
 #[test]
+fn a_transaction_for_the_proofing_desk_begins_and_joins_as_one() {
+    let both = "sites 2\nbegin 1\nbegin 1 1\nenlist 4294967298 2\ntake 1 2\nbegin 1 2\n";
+    let picture = draw("desks.house", both.as_bytes(), false);
+    assert_well_formed(&picture);
+    assert_eq!(titles(&picture, "begin"), ["begin 1", "begin 1 1", "take 1 2"]);
+    for text in ["> begins<", "> begins, proofing desk<", "> joins, proofing desk<"] {
+        assert!(picture.contains(text), "{text}");
+    }
+    assert_eq!(titles(&picture, "refused"), ["begin 1 2"]);
+    assert!(!picture.contains("> joins<"));
+}
+
+#[test]
 fn what_nobody_took_is_dashed_and_an_unused_copy_has_no_lane() {
     let picture = draw("abandoned.house", ABANDONED.as_bytes(), false);
     assert_well_formed(&picture);

@@ -17,7 +17,7 @@ type SendingCall = fn(&mut Site, &mut [u64]) -> Result<Sent, Refusal>;
 /// Site 1 of a house of two, with one active transaction.
 fn begun() -> Site {
     let mut one = site(2, 1);
-    one.begin().unwrap();
+    one.begin(HOUSE).unwrap();
     one
 }
 
@@ -176,7 +176,7 @@ fn a_read_or_write_after_prepare_or_the_commit_request() {
     let parts = participants().into_iter().zip([256; 5]);
     for (mut site, key) in parts.chain(coordinators().into_iter().zip([0; 7])) {
         // Another one holds the key: 9 would apply as well.
-        let other = site.begin().unwrap();
+        let other = site.begin(HOUSE).unwrap();
         site.write(other, key, 1).unwrap();
         if site.live[0].is_active() {
             assert_eq!(site.read(T, key), Ok(0));
@@ -217,7 +217,7 @@ fn a_message_out_of_turn() {
 #[test]
 fn a_commit_request_with_a_joined_outstanding() {
     let mut one = site(3, 1);
-    one.begin().unwrap();
+    one.begin(HOUSE).unwrap();
     one.enlist(T, 2, &mut buffer()).unwrap();
     one.enlist(T, 3, &mut buffer()).unwrap();
     let mut full = message(2, 2, 1, T);
@@ -229,12 +229,12 @@ fn a_commit_request_with_a_joined_outstanding() {
 #[test]
 fn a_read_or_write_past_a_forgotten_install() {
     let mut one = site(1, 1);
-    one.begin().unwrap();
+    one.begin(HOUSE).unwrap();
     one.write(T, 3, 30).unwrap();
     one.read(T, 4).unwrap();
     for install in 0..33 {
         assert_eq!(one.read(T, 4), Ok(0), "after {install} installs");
-        let other = one.begin().unwrap();
+        let other = one.begin(HOUSE).unwrap();
         one.commit(other, &mut buffer()).unwrap();
         one.install(&mut buffer()).unwrap();
     }
@@ -247,7 +247,7 @@ fn a_read_or_write_past_a_forgotten_install() {
 #[test]
 fn a_write_to_a_key_held_by_another() {
     let mut one = begun();
-    let other = one.begin().unwrap();
+    let other = one.begin(HOUSE).unwrap();
     one.write(T, 7, 70).unwrap();
     refused(&one, 0, 9, |site, _| site.write(other, 7, 1));
     one.commit(T, &mut buffer()).unwrap();
@@ -262,11 +262,11 @@ fn a_seventeenth_live_part_or_a_spent_serial() {
     let mut one = site(1, 1);
     one.serial = LAST_SERIAL - 16;
     for _ in 0..16 {
-        one.begin().unwrap();
+        one.begin(HOUSE).unwrap();
     }
-    refused(&one, 0, 12, |site, _| site.begin());
+    refused(&one, 0, 12, |site, _| site.begin(HOUSE));
     one.live.pop();
-    refused(&one, 0, 13, |site, _| site.begin());
+    refused(&one, 0, 13, |site, _| site.begin(HOUSE));
 }
 
 #[test]

@@ -31,7 +31,7 @@ fn grown(seed: u64, installs: u64) -> (Site, Log) {
 
 /// A lone save that reads one key and writes none to three.
 fn save(site: &mut Site, log: &mut Log, random: &mut Random) {
-    let transaction = site.begin().unwrap();
+    let transaction = site.begin(HOUSE).unwrap();
     site.read(transaction, random.between(WRITTEN.start, WRITTEN.end)).unwrap();
     let mut writes = Vec::new();
     for _ in 0..random.below(4) {
@@ -162,7 +162,7 @@ fn another_sites_key_is_never_answered_and_2_goes_before_3() {
 fn no_search_is_refused_for_a_snapshot_a_part_or_a_stage() {
     // Installs after the snapshot are forgotten: a read is refused 8.
     let (mut two, log) = grown(2, 33);
-    let late = two.begin().unwrap();
+    let late = two.begin(HOUSE).unwrap();
     two.live[0].snapshot = 0;
     refused(&two, 0, 8, |site, _| site.read(late, 260));
     assert_eq!(two.search(0, 260), Ok(due(&log, 0, 260)));
@@ -189,7 +189,7 @@ fn a_read_finds_what_the_search_of_its_snapshot_finds() {
         let (mut two, mut log, mut readers) = (site(3, 2), Log::new(), Vec::new());
         for installs in 0..=70 {
             if [38, 39, 45, 53, 62, 69, 70].contains(&installs) {
-                readers.push((two.begin().unwrap(), installs));
+                readers.push((two.begin(HOUSE).unwrap(), installs));
             }
             if installs < 70 {
                 save(&mut two, &mut log, &mut random);
@@ -207,7 +207,7 @@ fn a_read_finds_what_the_search_of_its_snapshot_finds() {
 #[test]
 fn an_own_write_is_read_and_not_searched() {
     let mut one = planted(2, &[&[(5, 50)], &[(6, 60)]]);
-    let writer = one.begin().unwrap();
+    let writer = one.begin(HOUSE).unwrap();
     one.write(writer, 5, 51).unwrap();
     assert_eq!(one.read(writer, 5), Ok(51));
     assert_eq!(answer(&one, 2, 5), (50, 2));
@@ -250,8 +250,8 @@ fn a_search_alters_no_state_and_writes_no_word() {
 #[test]
 fn no_table_of_another_length_is_searched() {
     let mut house = one_save();
-    for (verb, length) in [("places", 896), ("slots", 1_696), ("base", 2_048)] {
-        for lent in [0, length - 1, length + 1] {
+    for (verb, length) in [("places", 912), ("slots", 1_696), ("base", 2_048)] {
+        for lent in [0, length - 1, length + 1, length - 16] {
             house.say(&format!("{verb} {lent}"));
             assert_eq!(says(&mut house, SEARCHES), ["refused 2"; 4], "{verb} {lent}");
             assert_eq!(house.left, "0 0 1 0");
@@ -278,6 +278,7 @@ fn no_impossible_state_is_searched() {
         (format!("live 1 {part} 2"), 6, 1),
         (format!("live 1 {part} 3"), 4, 1),
         (format!("live 1 {part} 8"), 17, 0),
+        (format!("live 1 {part} 10"), 2, 1),
         ("past 1 1 0".to_string(), 7, T),
         ("past 1 1 3".to_string(), 4, 1),
         ("past 1 1 200".to_string(), 300, 3),

@@ -23,7 +23,7 @@ const SAW_HALF: &str = "
     sites 2 => 1 ok
     begin 1 => 2 ok 4294967297
     enlist 4294967297 2 => 3 ok
-    take 1 2 => 4 ok ; JOIN from 1 to 2 channel 1 transaction 4294967297
+    take 1 2 => 4 ok ; JOIN from 1 to 2 channel 1 transaction 4294967297 argument 0
     take 2 1 => 5 ok ; JOINED from 2 to 1 channel 1 transaction 4294967297 argument 0
     write 1 4294967297 5 700 => 6 ok
     write 2 4294967297 261 900 => 7 ok
@@ -35,7 +35,7 @@ const SAW_HALF: &str = "
     begin 2 => 13 ok 8589934593
     install 1 => 14 ok 1 1 ; part site 1 pair 1 1 transaction 4294967297 participants 3 writes 1: 5 = 700
     enlist 8589934593 1 => 15 ok
-    take 2 1 => 16 ok ; JOIN from 2 to 1 channel 4 transaction 8589934593
+    take 2 1 => 16 ok ; JOIN from 2 to 1 channel 4 transaction 8589934593 argument 0
     take 1 2 => 17 ok ; COMMIT from 1 to 2 channel 4 transaction 4294967297 clock 1
     take 1 2 => 18 ok ; JOINED from 1 to 2 channel 5 transaction 8589934593 argument 0
     read 1 8589934593 5 => 19 ok 700
@@ -105,6 +105,17 @@ fn a_record_of_many_writes_shows_the_first_four() {
          commit 4294967297 => 8 ok 1
          install 1 => 9 ok 1 1 ; part site 1 pair 1 1 transaction 4294967297 participants 1 \
          writes 5: 1 = 1, 2 = 2, 3 = 3, 4 = 4, ..",
+    );
+}
+
+#[test]
+fn a_join_shows_its_desk() {
+    traced(
+        "sites 2 => 1 ok
+         begin 1 1 => 2 ok 4294967297
+         enlist 4294967297 2 => 3 ok
+         take 1 2 => 4 ok ; JOIN from 1 to 2 channel 1 transaction 4294967297 argument 1
+         begin 1 2 => 5 refused 2",
     );
 }
 

@@ -30,7 +30,7 @@ fn prepare_never_goes_out_before_every_joined() {
 fn a_full_site_does_not_leave_join_untaken() {
     let mut two = site(2, 2);
     for _ in 0..16 {
-        two.begin().unwrap();
+        two.begin(HOUSE).unwrap();
     }
     let (_, replies) = take(&mut two, &message(1, 1, 2, T));
     assert_eq!(replies, [[10, 2, 2, 1, 1, T, 0, 12, 0, 0]]);
@@ -157,10 +157,10 @@ fn messages_for_a_transaction_not_held_only_step_the_channel() {
 fn words_of_a_whole_save() {
     let (mut one, mut two) = (site(3, 1), site(3, 2));
     two.clock = 8;
-    let other = two.begin().unwrap();
+    let other = two.begin(HOUSE).unwrap();
     two.write(other, 300, 1).unwrap();
     assert_eq!(two.commit(other, &mut buffer()).unwrap().decision, Some(Decision::Commit(9)));
-    one.begin().unwrap();
+    one.begin(HOUSE).unwrap();
     let (_, join) = sent(&mut one, |site, out| site.enlist(T, 2, out));
     assert_eq!(join, [[10, 1, 1, 2, 1, T, 0, 0, 0, 0]]);
     let (_, joined) = take(&mut two, &join[0]);

@@ -41,7 +41,8 @@ fn other_lines_are_refused_2_and_counted() {
          sites 2 => ok
          sites 2 => refused 2
          begin => refused 2
-         begin 1 1 => refused 2
+         begin 1 2 => refused 2
+         begin 1 0 0 => refused 2
          begin  1 => refused 2
          Begin 1 => refused 2
          begin +1 => refused 2

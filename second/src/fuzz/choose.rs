@@ -33,10 +33,15 @@ impl Source {
 impl Fuzz {
     pub(super) fn choose(&mut self) -> (Words, Source) {
         let plain = |call| (Vec::new(), Source::Plain(call));
+        if self.random.chance(self.filling) {
+            if let Some(call) = self.fill() {
+                return plain(call);
+            }
+        }
         let site = self.any_site();
         let (at, transaction) = self.random.part(self.world.sites.iter(), 30);
         match self.random.weighted(if self.lone { &LONE } else { &SPANNING }) {
-            0 => plain(Call::Begin { site }),
+            0 => plain(Call::Begin { site, desk: self.any_desk() }),
             1 => plain(Call::Enlist { site: at, transaction, target: site }),
             2 => plain(Call::Read { site: at, transaction, key: self.random.key(at, self.keys) }),
             3 => {
@@ -58,6 +63,35 @@ impl Fuzz {
             }
             _ => plain(self.any_search(site)),
         }
+    }
+
+    /// Both desks, and now and then none.
+    fn any_desk(&mut self) -> u64 {
+        match self.random.below(40) {
+            0 => self.random.between(2, 12),
+            1 => self.random.word(),
+            _ => u64::from(self.random.chance(self.proofing)),
+        }
+    }
+
+    /// A read or write of one part again and again, with any key of its site, until it
+    /// leaves its first stage: so sets fill up.
+    fn fill(&mut self) -> Option<Call<'static>> {
+        let sites = self.world.sites.iter();
+        let parts = sites.flat_map(|site| site.live.iter().map(|part| (site.own, part)));
+        let active: Vec<(u64, u64)> = parts
+            .filter(|(_, part)| part.is_active())
+            .map(|(site, part)| (site, part.transaction))
+            .collect();
+        if !active.contains(&self.filled) || self.random.chance(2) {
+            self.filled = self.random.pick(&active)?;
+        }
+        let (site, transaction) = self.filled;
+        let key = self.random.key(site, SITE_KEYS);
+        Some(match self.random.below(2) {
+            0 => Call::Read { site, transaction, key },
+            _ => Call::Write { site, transaction, key, value: self.random.word() },
+        })
     }
 
     fn any_site(&mut self) -> u64 {

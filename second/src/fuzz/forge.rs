@@ -1,7 +1,12 @@
 //! Words that no call wrote, on states set aside: the answer is free, but it
-//! must not trap, and a refused call alters nothing.
+//! must not trap, and a refused call alters nothing. What a JOIN for any desk gives
+//! is fixed.
 
 use super::{Fuzz, Words};
+use crate::answer::Refusal;
+use crate::desk::Desk;
+use crate::message::Kind;
+use crate::site::Site;
 use crate::sizes::*;
 
 impl Fuzz {
@@ -61,5 +66,61 @@ impl Fuzz {
             return Err(format!("a forged record altered a copy: {words:?}"));
         }
         Ok(())
+    }
+
+    /// A JOIN as the next of its channel, with a number that may be held and a desk
+    /// that may be none.
+    pub(super) fn forged_join(&mut self) -> Result<(), String> {
+        let sites = self.world.sites.len() as u64;
+        let (from, to) = (self.random.between(1, sites), self.random.between(1, sites));
+        let site = &self.world.sites[to as usize - 1];
+        let held: Vec<u64> = site.live.iter().map(|part| part.transaction).collect();
+        let fresh = transaction_number(from, LAST_SERIAL - self.random.below(3));
+        let transaction = match self.random.chance(10) {
+            true => self.random.pick(&held).unwrap_or(fresh),
+            false => fresh,
+        };
+        let desk = [0, 1, 1, 2, 12, u64::MAX][self.random.below(6) as usize];
+        let channel = site.taken[from as usize - 1].wrapping_add(1);
+        let join = [10, Kind::Join as u64, from, to, channel, transaction, 0, desk, 0, 0];
+        check_join(site, &join).map_err(|error| format!("a forged JOIN {join:?} {error}"))
+    }
+}
+
+/// Q10.3, Q10.4: the part that a JOIN begins keeps its desk, and writes so many keys.
+fn check_join(site: &Site, join: &[u64; MESSAGE_HEADER]) -> Result<(), String> {
+    let [.., transaction, _, desk, _, _] = *join;
+    let (mut joined, mut out) = (site.clone(), vec![7; SEND_BUFFER]);
+    let (answer, due) = (joined.message(join, &mut out).err(), refusal_of_join(site, join));
+    if answer != due {
+        return Err(format!("gave {answer:?}, and {due:?} was due"));
+    }
+    if due.is_some() && (joined != *site || out.iter().any(|&word| word != 7)) {
+        return Err("altered a site that refused it".to_string());
+    }
+    if joined.live.len() == site.live.len() {
+        return Ok(());
+    }
+    let first = (site.own - 1) * SITE_KEYS;
+    let is_held = |key: u64| site.live.iter().any(|part| part.footprint.writes.contains(key));
+    let free = (first..first + SITE_KEYS).filter(|&key| !is_held(key));
+    let written = free.take_while(|&key| joined.write(transaction, key, key).is_ok()).count();
+    match Desk::of(desk).map(Desk::written_keys) == Some(written) {
+        true => Ok(()),
+        false => Err(format!("began a part that wrote {written} keys")),
+    }
+}
+
+fn refusal_of_join(site: &Site, join: &[u64; MESSAGE_HEADER]) -> Option<Refusal> {
+    let [_, _, from, _, channel, transaction, _, desk, ..] = *join;
+    let possible = coordinator_of(transaction) == from && from != site.own;
+    if !possible || Desk::of(desk).is_none() {
+        Some(Refusal::Impossible)
+    } else if channel == 0 {
+        Some(Refusal::NotNext)
+    } else if site.find(transaction).is_some() {
+        Some(Refusal::WrongStage)
+    } else {
+        (site.sent[from as usize - 1] == u64::MAX).then_some(Refusal::CountSpent)
     }
 }

@@ -9,6 +9,7 @@ mod forge;
 use crate::answer::Refusal;
 use crate::book::Book;
 use crate::copy::Copy;
+use crate::desk::Desk;
 use crate::house::messages;
 use crate::merger::Merger;
 use crate::random::Random;
@@ -47,6 +48,11 @@ pub struct Fuzz {
     replayed: Vec<usize>,
     keys: u64,
     lone: bool,
+    /// Percent of transactions that begin for the proofing desk.
+    proofing: u64,
+    /// Percent of calls that read or write for one part; its site and number.
+    filling: u64,
+    filled: (u64, u64),
     /// Percent of messages that come in turn.
     order: u64,
     /// A channel that brings nothing.
@@ -87,6 +93,9 @@ impl Fuzz {
             replayed: vec![0; COPIES],
             keys: [2, 5, 40, SITE_KEYS][random.below(4) as usize],
             lone: random.chance(25),
+            proofing: [10, 50, 90][random.below(3) as usize],
+            filling: [0, 6, 30][random.below(3) as usize],
+            filled: (0, 0),
             order: [60, 90, 98][random.below(3) as usize],
             mute,
             trace,
@@ -97,6 +106,9 @@ impl Fuzz {
     fn step(&mut self) -> Result<(), String> {
         if self.random.chance(3) {
             return self.forged_words();
+        }
+        if self.random.chance(1) {
+            return self.forged_join();
         }
         let (handed, source) = self.choose();
         let call = source.call(&handed);
@@ -120,6 +132,7 @@ impl Fuzz {
         }
         let written = &buffer[..words];
         self.tally.called(&call, &answer, written);
+        self.tally.desks(&call, &answer, &self.world);
         self.book.enter(&call, &answer, written, &self.world.copies)?;
         self.keep(&call, &answer, written);
         Ok(())
@@ -128,9 +141,15 @@ impl Fuzz {
     /// Beyond demand 3: a channel's next message is in turn, a log's next
     /// record ascends, a due record is whole. Of the coordinator's calls, 26 falls
     /// only at another site and 27 only at the coordinator; 26 falls in no other call.
-    /// A search is refused 2 or 3.
+    /// A search is refused 2 or 3. A begin is refused 2 for a site or a desk that is
+    /// none, whatever else applies, and for nothing else.
     fn is_out_of_reach(&self, call: &Call, refusal: Refusal) -> bool {
         match *call {
+            Call::Begin { site, desk } => {
+                let possible = is_site(site, self.world.sites.len() as u64);
+                let possible = possible && Desk::of(desk).is_some();
+                possible == (refusal == Refusal::Impossible)
+            }
             Call::Enlist { site, transaction, .. }
             | Call::Commit { site, transaction }
             | Call::Abandon { site, transaction } => match refusal {
@@ -176,7 +195,7 @@ impl Fuzz {
         let site = |number: u64| self.world.sites.get(number.wrapping_sub(1) as usize).cloned();
         let copy = |number: u64| self.world.copies.get(number.wrapping_sub(1) as usize).cloned();
         match *call {
-            Call::Begin { site: number }
+            Call::Begin { site: number, .. }
             | Call::Enlist { site: number, .. }
             | Call::Read { site: number, .. }
             | Call::Write { site: number, .. }

@@ -115,7 +115,7 @@ fn place(command: Command, answer: &Result<Answer, Refusal>, sites: u64) -> Opti
     let site = |site: u64| is_site(site, sites).then_some(Place::Site(site));
     match command {
         Command::Sites(_) => None,
-        Command::Begin(own)
+        Command::Begin { site: own, .. }
         | Command::Read { site: own, .. }
         | Command::Write { site: own, .. }
         | Command::Take { to: own, .. }

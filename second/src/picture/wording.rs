@@ -1,6 +1,7 @@
 //! What a picture says of a step, and of the numbers of refusals and aborts.
 
 use crate::answer::{reason, Decision, Pair, Refusal};
+use crate::desk::Desk;
 use crate::house::messages;
 use crate::message::{Kind, Message};
 use crate::record::LogRecord;
@@ -58,8 +59,8 @@ fn accepted(command: Command, answer: &Answer, told: &Told) -> Option<Did> {
         return Some(decided);
     }
     Some(match (command, *answer) {
-        (Command::Begin(_), Answer::Begun(transaction)) => {
-            Did::new(Look::Begin, transaction, "begins".to_string())
+        (Command::Begin { desk, .. }, Answer::Begun(transaction)) => {
+            Did::new(Look::Begin, transaction, at_desk("begins", desk))
         }
         (Command::Enlist { transaction, target }, _) => {
             Did::plain(transaction, format!("enlists site {target}"))
@@ -125,7 +126,7 @@ fn took(message: &Message, told: &Told) -> Did {
     let reply = messages(&told.written).filter_map(read_message).next();
     let from = message.from;
     let (look, text) = match (message.kind, reply.map(|reply| (reply.kind, reply.argument))) {
-        (Kind::Join, Some((_, 0))) => (Look::Begin, "joins".to_string()),
+        (Kind::Join, Some((_, 0))) => (Look::Begin, at_desk("joins", message.argument)),
         (Kind::Join, _) => (Look::Plain, "has no room".to_string()),
         (Kind::Prepare, Some((Kind::Conc, _))) => (Look::Plain, "is prepared".to_string()),
         (Kind::Cert, Some((_, 0))) => (Look::Plain, "votes yes".to_string()),
@@ -143,6 +144,14 @@ fn took(message: &Message, told: &Told) -> Did {
         (Kind::Prepare | Kind::Cert, None) => (Look::Plain, "is prepared".to_string()),
     };
     Did::new(look, message.transaction, text)
+}
+
+/// The house desk goes without saying.
+fn at_desk(text: &str, desk: u64) -> String {
+    match Desk::of(desk) {
+        Some(Desk::Proofing) => format!("{text}, proofing desk"),
+        _ => text.to_string(),
+    }
 }
 
 fn merged(record: &LogRecord) -> Did {
@@ -166,7 +175,7 @@ pub fn name(transaction: u64) -> String {
 /// The causes (N3), in their order.
 pub fn cause(number: u64) -> &'static str {
     match number {
-        2 => "impossible line, site, key or count",
+        2 => "impossible line, site, desk, key or count",
         3 => "a key of another site",
         5 => "the transaction is not held here",
         26 => "the call belongs to the coordinator, which this site is not",
@@ -175,7 +184,7 @@ pub fn cause(number: u64) -> &'static str {
         8 => "an install after the snapshot is forgotten",
         9 => "another transaction holds the key",
         10 => "the key has a version newer than the snapshot",
-        11 => "a 17th key",
+        11 => "a 17th key, or a 5th written for the proofing desk",
         12 => "16 transactions are live at the site",
         13 => "a count is spent",
         14 => "not above the last one",

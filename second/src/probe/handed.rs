@@ -3,6 +3,7 @@
 
 use std::collections::{BTreeMap, BTreeSet};
 
+use super::claimed::Claimed;
 use super::listed::Listed;
 use super::sums;
 use crate::answer::Refusal;
@@ -22,15 +23,18 @@ mod field {
     pub const LISTED: u64 = 7;
     pub const READ: u64 = 8;
     pub const WROTE: u64 = 9;
+    pub const DESK: u64 = 10;
 }
 
 const LAST_STAGE: u64 = 5;
 
-/// Where a number past the sizes stands: a part's or an installed one's field.
+/// Where a number past the sizes stands: a part's or an installed one's field, or
+/// a free place, which no line reaches.
 #[derive(Clone, Copy, PartialEq, Eq, PartialOrd, Ord, Debug)]
 enum Place {
     Live(u64, u64),
     Past(u64, u64),
+    Free,
 }
 
 #[derive(Clone, PartialEq, Eq, Debug)]
@@ -39,6 +43,8 @@ pub struct Handed {
     /// The site whose keys the parts hold.
     keys_of: u64,
     past_sizes: BTreeSet<Place>,
+    /// Desks and counts that were poked, by transaction.
+    claims: BTreeMap<u64, Claimed>,
     /// Gathered lists that were poked, by transaction.
     lists: BTreeMap<u64, Listed>,
     /// Every slot of the history: install n stands in slot (n − 1) % 32. The site
@@ -58,12 +64,13 @@ impl Handed {
             keys_of: site.own,
             site,
             past_sizes: BTreeSet::new(),
+            claims: BTreeMap::new(),
             lists: BTreeMap::new(),
             slots: vec![unused; HISTORY],
         }
     }
 
-    /// S19: counts, keys and masks. What goes out in a CONC is
+    /// S19, Q10.6: counts, keys, masks and desks. What goes out in a CONC is
     /// a transaction of the house: the numbers of parts and of remembered ones.
     pub fn is_within_sizes(&self) -> bool {
         let site = &self.site;
@@ -77,6 +84,7 @@ impl Handed {
         site.serial <= LAST_SERIAL
             && self.past_sizes.is_empty()
             && site.live.iter().all(|part| self.has_possible_masks(part))
+            && site.live.iter().all(|part| self.claimed(part.transaction).is_possible(part))
             && self.slots.iter().all(|past| is_mask(past.participants, site.sites))
             && numbers.into_iter().all(|number| is_transaction(number, site.sites))
             && (site.own == self.keys_of || footprints.into_iter().all(is_empty))
@@ -95,6 +103,10 @@ impl Handed {
             && is_mask(part.heard, sites)
             && part.heard & site_bit(own) == 0
             && self.list_of(part).count <= LIST_ENTRIES as u64 * lists
+    }
+
+    fn claimed(&self, transaction: u64) -> Claimed {
+        self.claims.get(&transaction).copied().unwrap_or_default()
     }
 
     /// Whether every entry that a gathered list counts is possible.
@@ -163,6 +175,9 @@ impl Handed {
     ) -> Result<Result<(), Refusal>, String> {
         let Some(place) = self.site.find(transaction) else { return Ok(Err(Refusal::NotHeld)) };
         let own = self.site.own;
+        if matches!(what, field::WROTE | field::DESK) {
+            return self.claim(place, what, value);
+        }
         let past = match what {
             field::STAGE => value > LAST_STAGE,
             _ => is_past(&self.site.live[place].footprint, own, what, value),
@@ -195,6 +210,26 @@ impl Handed {
         Ok(Ok(()))
     }
 
+    /// A count of written keys that the desk allows is the part's own: which keys
+    /// another one would add or leave out, the rules do not say.
+    fn claim(
+        &mut self,
+        place: usize,
+        what: u64,
+        value: u64,
+    ) -> Result<Result<(), Refusal>, String> {
+        let part = &mut self.site.live[place];
+        let claimed = self.claims.entry(part.transaction).or_default();
+        match what {
+            field::DESK => claimed.poke_desk(part, value),
+            _ => claimed.poke_wrote(part, value),
+        }
+        if claimed.is_open(part) {
+            return Err("a count of other keys than were written".to_string());
+        }
+        Ok(Ok(()))
+    }
+
     /// Two parts of one number: which of them a call finds is left free.
     fn number_anew(&mut self, place: usize, value: u64) -> Result<Result<(), Refusal>, String> {
         let before = self.site.live[place].transaction;
@@ -204,6 +239,9 @@ impl Handed {
         self.site.live[place].transaction = value;
         if let Some(list) = self.lists.remove(&before) {
             self.lists.insert(value, list);
+        }
+        if let Some(claimed) = self.claims.remove(&before) {
+            self.claims.insert(value, claimed);
         }
         let noted = std::mem::take(&mut self.past_sizes).into_iter();
         self.past_sizes = noted
@@ -215,13 +253,21 @@ impl Handed {
         Ok(Ok(()))
     }
 
-    /// A free place's number and list are not looked at, its counts and masks are.
+    /// A free place's number and list are not looked at, its counts, keys, masks and
+    /// desk are.
     fn free(&mut self, place: usize) -> Result<Result<(), Refusal>, String> {
         if !self.has_house() || !self.has_possible_masks(&self.site.live[place]) {
             return Err("a free place past the sizes".to_string());
         }
         let part = self.site.live.remove(place);
-        self.lists.remove(&part.transaction);
+        let number = part.transaction;
+        let claimed = self.claims.remove(&number).unwrap_or_default();
+        let of_part = |noted: &Place| matches!(noted, Place::Live(of, _) if *of == number);
+        if self.past_sizes.iter().any(of_part) || !claimed.is_possible(&part) {
+            self.past_sizes.insert(Place::Free);
+        }
+        self.past_sizes.retain(|noted| !of_part(noted));
+        self.lists.remove(&number);
         Ok(Ok(()))
     }
 

@@ -6,8 +6,8 @@ pub struct Line {
     pub numbers: Vec<u64>,
 }
 
-/// Verbs, each with how many numbers follow it.
-const VERBS: [(&str, usize); 41] = [
+/// Verbs, each with how many numbers follow it; begin with a desk or without.
+const VERBS: [(&str, usize); 42] = [
     ("house", 1),
     ("room", 1),
     ("places", 1),
@@ -17,6 +17,7 @@ const VERBS: [(&str, usize); 41] = [
     ("queues", 1),
     ("copies", 1),
     ("begin", 1),
+    ("begin", 2),
     ("enlist", 3),
     ("read", 3),
     ("search", 3),

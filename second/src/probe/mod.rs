@@ -2,6 +2,7 @@
 //! that it is lent, states poked to any number, and after each line checksums of
 //! what it left. The program `probe` over the proved store obeys the same lines.
 
+mod claimed;
 mod hand;
 mod handed;
 pub mod line;
@@ -14,6 +15,7 @@ use std::fmt::Write;
 
 use crate::answer::{require, Decision, Refusal};
 use crate::copy::Copy;
+use crate::desk::Desk;
 use crate::merger::Merger;
 use crate::site::Site;
 use crate::sizes::*;
@@ -29,8 +31,8 @@ const COPIES: usize = 2;
 const COPY_WORDS: u64 = 2 + KEYS;
 /// Words of a set of keys: two counts, the keys read, the keys written, their values.
 const KEY_WORDS: usize = 2 + 3 * SET_KEYS;
-/// A live place has six words before its keys, a slot of the history three.
-const PLACES: u64 = (LIVE * (6 + KEY_WORDS)) as u64;
+/// A live place has seven words beside its keys, a slot of the history three.
+const PLACES: u64 = (LIVE * (7 + KEY_WORDS)) as u64;
 const SLOTS: u64 = (HISTORY * (3 + KEY_WORDS)) as u64;
 const LISTS: u64 = (LIVE * listed::LIST_WORDS) as u64;
 const QUEUES: u64 = (SITES * sums::SITE_QUEUE) as u64;
@@ -272,7 +274,8 @@ fn site_call(
     }
     let site = &mut handed.site;
     match (line.verb.as_str(), &line.numbers[1..]) {
-        ("begin", _) => site.begin().map(Answer::Begun),
+        ("begin", &[]) => site.begin(Desk::House.number()).map(Answer::Begun),
+        ("begin", &[desk]) => site.begin(desk).map(Answer::Begun),
         ("enlist", &[transaction, target]) => {
             site.enlist(transaction, target, out).map(Answer::Sent)
         }

@@ -1,8 +1,9 @@
 //! Random probes: calls in turn and out of turn, words forged, buffers shortened,
 //! tables lent at other lengths, counters near their ends, states past the sizes,
-//! fields poked, histories searched. The house is run beside, so that the lines lead
-//! into deep states.
+//! fields poked, histories searched, both desks. The house is run beside, so that the
+//! lines lead into deep states.
 
+mod desks;
 mod pokes;
 mod searches;
 
@@ -13,10 +14,10 @@ use super::{sums, Probe, LISTS, PLACES, SLOTS};
 use crate::random::Random;
 use crate::sizes::*;
 
-//                    begin enl read wri com ab take inst rep merge emit repl val room ends past lent search
-const SPANNING: [u64; 18] = [8, 10, 8, 14, 12, 1, 70, 18, 4, 14, 8, 8, 2, 2, 1, 2, 1, 8];
+//                    begin enl read wri com ab take inst rep merge emit repl val room ends past lent search fill
+const SPANNING: [u64; 19] = [8, 10, 8, 14, 12, 1, 70, 18, 4, 14, 8, 8, 2, 2, 1, 2, 1, 8, 2];
 /// Few messages, many installs: history is forgotten.
-const LONE: [u64; 18] = [30, 3, 8, 14, 40, 0, 30, 40, 2, 16, 12, 6, 1, 1, 1, 2, 1, 12];
+const LONE: [u64; 19] = [30, 3, 8, 14, 40, 0, 30, 40, 2, 16, 12, 6, 1, 1, 1, 2, 1, 12, 2];
 
 struct Maker {
     random: Random,
@@ -61,6 +62,9 @@ pub fn probe(seed: u64, lines: u64) -> String {
     while maker.lines < lines {
         maker.step();
     }
+    if maker.random.chance(30) {
+        maker.free_past_the_sizes();
+    }
     maker.text
 }
 
@@ -88,7 +92,7 @@ impl Maker {
         match self.random.weighted(if self.lone { &LONE } else { &SPANNING }) {
             0 => {
                 let site = self.any_site();
-                self.say(format!("begin {site}"));
+                self.begin(site);
             }
             1 => {
                 let target = self.any_site();
@@ -118,7 +122,8 @@ impl Maker {
             14 => self.near_the_end(site),
             15 => self.past_the_sizes(site),
             16 => self.lent(site, transaction),
-            _ => self.search(site),
+            17 => self.search(site),
+            _ => self.fill(),
         }
     }
 
@@ -150,6 +155,9 @@ impl Maker {
         }
         if self.random.chance(self.forged) {
             self.forge();
+        }
+        if self.random.chance(2 * self.forged) {
+            self.forge_desk();
         }
         let to = if self.random.chance(2) { self.any_site() } else { to };
         self.say(format!("message {to}"));
@@ -227,16 +235,17 @@ impl Maker {
         self.say(format!("room {SEND_BUFFER}"));
     }
 
-    /// A table of a site one word shorter or longer, or none of it, for some calls.
+    /// A table of a site one word shorter or longer, 16 words shorter, or none of it,
+    /// for some calls.
     fn lent(&mut self, site: u64, transaction: u64) {
         let tables = [("places", PLACES), ("slots", SLOTS), ("base", KEYS), ("lists", LISTS)];
         let (verb, size) = tables[self.random.below(4) as usize];
-        let length = [0, size - 1, size + 1][self.random.below(3) as usize];
+        let length = [0, size - 1, size + 1, size - LIVE as u64][self.random.below(4) as usize];
         self.say(format!("{verb} {length}"));
         for _ in 0..self.random.between(1, 3) {
             let key = self.random.key(site, self.keys);
             match self.random.below(11) {
-                0 => drop(self.say(format!("begin {site}"))),
+                0 => drop(self.begin(site)),
                 1 => drop(self.say(format!("enlist {site} {transaction} {site}"))),
                 2 => drop(self.say(format!("read {site} {transaction} {key}"))),
                 3 => drop(self.say(format!("write {site} {transaction} {key} 7"))),
@@ -313,7 +322,7 @@ impl Maker {
         };
         self.say(poke);
         let (_, transaction) = self.any_part();
-        self.say(format!("begin {site}"));
+        self.begin(site);
         self.search(site);
         self.say(format!("commit {site} {transaction}"));
         self.say(format!("install {site}"));

@@ -52,7 +52,8 @@ fn part(part: &Part, own: u64) -> u64 {
     let (stage, number, heard, reason) = course(part, own);
     let joined = part.is_active() && coordinator_of(part.transaction) != own;
     let mask = if joined { 0 } else { part.participants };
-    let fields = [part.transaction, part.snapshot, stage, mask, number, heard, reason];
+    let desk = part.desk.number();
+    let fields = [part.transaction, part.snapshot, stage, mask, number, heard, reason, desk];
     keys(words(3, &fields), own, &part.footprint)
 }
 

@@ -7,6 +7,7 @@
 //! the coordinator), nor reasons 5 and 13; and `take` never gives 27, since a
 //! channel brings its messages in turn.
 
+mod desks;
 mod end;
 mod noise;
 mod profile;
@@ -17,6 +18,7 @@ use std::fmt::Write;
 
 use crate::answer::Refusal;
 use crate::book::Book;
+use crate::desk::Desk;
 use crate::house::{House, Observer, Running};
 use crate::random::Random;
 use crate::site::{Part, Site};
@@ -46,6 +48,7 @@ impl Observer for Watcher {
             Call::Message { .. } | Call::Merge { .. } => self.tally.called(call, answer, written),
             _ => self.tally.replies(call, answer, written),
         }
+        self.tally.desks(call, answer, world);
         if let Err(violation) = self.book.enter(call, answer, written, &world.copies) {
             self.violation = Some(violation);
         }
@@ -196,8 +199,19 @@ impl Generator {
         found
     }
 
+    /// Begins a transaction for a desk of the profile's mixture.
     fn begin(&mut self, site: u64) -> Option<u64> {
-        match self.say("begin", &[site]) {
+        let proofing = self.random.chance(self.profile.proofing);
+        self.begin_for(site, if proofing { Desk::Proofing } else { Desk::House })
+    }
+
+    /// The house desk may go without saying.
+    fn begin_for(&mut self, site: u64, desk: Desk) -> Option<u64> {
+        let begun = match desk {
+            Desk::House if self.random.chance(70) => self.say("begin", &[site]),
+            _ => self.say("begin", &[site, desk.number()]),
+        };
+        match begun {
             Ok(Answer::Begun(transaction)) => Some(transaction),
             _ => None,
         }

@@ -4,7 +4,7 @@ use super::Generator;
 use crate::sizes::*;
 
 /// Lines that are no commands, or name what no house has.
-const BAD_LINES: [&str; 30] = [
+const BAD_LINES: [&str; 36] = [
     "",
     " ",
     "sites",
@@ -22,8 +22,14 @@ const BAD_LINES: [&str; 30] = [
     "begin 1\r",
     "begin\t1",
     "begin 0x1",
-    "begin 1 1",
     "begin 18446744073709551616",
+    "begin 1 2",
+    "begin 1 0 0",
+    "begin 1  1",
+    "begin 1 1 ",
+    "begin 1 x",
+    "begin 1 -1",
+    "begin 1 18446744073709551616",
     "enlist 4294967297",
     "write 1 4294967297 5",
     "read 1 4294967297",
@@ -51,13 +57,17 @@ impl Generator {
     }
 
     pub(super) fn noise(&mut self) {
-        match self.random.below(8) {
+        match self.random.below(9) {
             0 | 1 => self.bad_line(),
             2 => self.wrong_transaction(),
             3 => self.wrong_key(),
             4 => self.wrong_site(),
             5 => self.late_call(),
             6 => self.nothing_to_do(),
+            7 => {
+                let site = self.any_site();
+                self.no_desk(site);
+            }
             _ => self.leading_zeros(),
         }
     }
@@ -157,8 +167,15 @@ impl Generator {
         }
     }
 
+    /// A begin for a desk that is none: 2 also where 12 applies.
+    pub(super) fn no_desk(&mut self, site: u64) {
+        let desk = [2, 2, 3, 12, 1 << 32, u64::MAX][self.random.below(6) as usize];
+        self.tell("begin", &[site, desk]);
+    }
+
     fn leading_zeros(&mut self) {
-        let line = format!("begin 00{}", self.any_site());
+        let desk = ["", " 00", " 001"][self.random.below(3) as usize];
+        let line = format!("begin 00{}{desk}", self.any_site());
         let _ = self.line(&line);
     }
 }

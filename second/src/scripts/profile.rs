@@ -45,6 +45,8 @@ pub struct Profile {
     pub sites: u64,
     /// Keys in use at each site, from its first.
     pub keys: u64,
+    /// Percent of transactions that begin for the proofing desk.
+    pub proofing: u64,
     pub lines: u64,
     pub weights: Weights,
     /// Chance of a scene, against 100 for a step.
@@ -70,6 +72,7 @@ impl Profile {
         let mut profile = Profile {
             sites,
             keys,
+            proofing: [0, 15, 40, 85][random.below(4) as usize],
             lines: random.between(100, 400),
             weights: EVEN,
             scenes: 1,

@@ -209,6 +209,9 @@ impl Generator {
         let site = self.any_site();
         let other = self.other_site(site);
         while self.begin(site).is_some() {}
+        if self.random.chance(50) {
+            self.no_desk(site);
+        }
         if site == other {
             return;
         }
@@ -238,29 +241,6 @@ impl Generator {
         for _ in 0..self.random.between(0, 4) {
             self.tell("emit", &[]);
         }
-    }
-
-    /// 16 keys pass, the 17th does not; known ones still do.
-    fn wide_sets(&mut self) {
-        let site = self.any_site();
-        let Some(transaction) = self.begin(site) else { return };
-        let first = self.random.below(SITE_KEYS);
-        let reads_first = self.random.chance(50);
-        for count in 0..SET_KEYS as u64 + 2 {
-            let key = (site - 1) * SITE_KEYS + (first + count) % SITE_KEYS;
-            if reads_first {
-                self.tell("read", &[site, transaction, key]);
-            }
-            if self.random.chance(97) {
-                let value = self.fresh_value();
-                self.tell("write", &[site, transaction, key, value]);
-            }
-        }
-        let known = (site - 1) * SITE_KEYS + first;
-        self.tell("read", &[site, transaction, known]);
-        self.tell("write", &[site, transaction, known, 17]);
-        self.tell("commit", &[transaction]);
-        self.tell("install", &[site]);
     }
 
     /// Two readers see two independent saves in opposite orders: the base

@@ -1,4 +1,5 @@
-//! A site: its state and the calls of clients (C1 to C59, Q5.1 to Q5.5).
+//! A site: its state and the calls of clients (C1 to C59, Q5.1 to Q5.5, Q10.1 to
+//! Q10.5).
 //!
 //! Every call first finds the refusal that applies, in the order of the causes,
 //! then alters.
@@ -16,6 +17,7 @@ pub use part::{Footprint, Installed, KeySet, Part, Stage};
 pub use search::Found;
 
 use crate::answer::{reason, require, Decision, Refusal, Sent};
+use crate::desk::Desk;
 use crate::message::{Kind, Letter, Outbox};
 use crate::sizes::*;
 
@@ -56,13 +58,15 @@ impl Site {
         })
     }
 
-    /// Answers the new transaction's number.
-    pub fn begin(&mut self) -> Result<u64, Refusal> {
+    /// Answers the new transaction's number. An impossible desk goes before a full
+    /// table and spent serials.
+    pub fn begin(&mut self, desk: u64) -> Result<u64, Refusal> {
+        let desk = Desk::of(desk).ok_or(Refusal::Impossible)?;
         require(self.live.len() < LIVE, Refusal::LiveFull)?;
         require(self.serial < LAST_SERIAL, Refusal::CountSpent)?;
         self.serial += 1;
         let transaction = transaction_number(self.own, self.serial);
-        self.live.push(Part::begin(transaction, self.installs, self.own_bit()));
+        self.live.push(Part::begin(transaction, self.installs, self.own_bit(), desk));
         Ok(transaction)
     }
 
@@ -81,8 +85,11 @@ impl Site {
         let taking_part = part.participants | self.own_bit();
         require(part.is_active() && taking_part & bit == 0, Refusal::WrongStage)?;
         self.can_send(bit)?;
-        self.live[place].participants |= bit;
-        self.send(bit, Letter::bare(Kind::Join, transaction), &[], &mut out);
+        let part = &mut self.live[place];
+        part.participants |= bit;
+        let argument = part.desk.number();
+        let join = Letter { argument, ..Letter::bare(Kind::Join, transaction) };
+        self.send(bit, join, &[], &mut out);
         Ok(Sent { words: out.used(), decision: None })
     }
 
@@ -110,7 +117,8 @@ impl Site {
             let mut later = self.installed_since(part.snapshot);
             let newer = later.any(|installed| installed.footprint.writes.contains(key));
             require(!newer, Refusal::NewerVersion)?;
-            require(part.footprint.writes.len() < SET_KEYS, Refusal::TooManyKeys)?;
+            let limit = part.desk.written_keys();
+            require(part.footprint.writes.len() < limit, Refusal::TooManyKeys)?;
         }
         self.live[place].footprint.put(key, value);
         Ok(())

@@ -1,5 +1,6 @@
 //! A subtransaction: the part of a transaction that lives at one site.
 
+use crate::desk::Desk;
 use crate::message::Entry;
 use crate::record::Write;
 use crate::sizes::*;
@@ -98,11 +99,13 @@ pub struct Part {
     pub heard: u64,
     /// At the coordinator, its own list and those that came, one behind the other.
     pub gathered: Vec<Entry>,
+    /// The desk that the transaction began for, as JOIN brings it to a participant.
+    pub desk: Desk,
     pub footprint: Footprint,
 }
 
 impl Part {
-    pub fn begin(transaction: u64, snapshot: u64, participants: u64) -> Self {
+    pub fn begin(transaction: u64, snapshot: u64, participants: u64, desk: Desk) -> Self {
         Part {
             transaction,
             snapshot,
@@ -110,6 +113,7 @@ impl Part {
             stage: Stage::Active { full: false },
             heard: 0,
             gathered: Vec::new(),
+            desk,
             footprint: Footprint::default(),
         }
     }

@@ -1,8 +1,9 @@
 //! Messages: what a site does on taking one, and how it sends
-//! (M18 to M30).
+//! (M18 to M30, Q10.3).
 
 use super::{Part, Site, Stage};
 use crate::answer::{reason, require, Decision, Refusal, Sent};
+use crate::desk::Desk;
 use crate::message::{Entry, Kind, Letter, Message, Outbox};
 use crate::sizes::*;
 
@@ -54,11 +55,12 @@ impl Site {
 
     /// A full site takes the JOIN too, and says so.
     fn take_join(&mut self, message: &Message, out: &mut Outbox) -> Taken {
+        let desk = Desk::of(message.argument).ok_or(Refusal::Impossible)?;
         let from = site_bit(message.from);
         self.can_send(from)?;
         let argument = if self.live.len() < LIVE {
             let participants = from | self.own_bit();
-            self.live.push(Part::begin(message.transaction, self.installs, participants));
+            self.live.push(Part::begin(message.transaction, self.installs, participants, desk));
             0
         } else {
             reason::LIVE_FULL

@@ -5,9 +5,14 @@ pub mod probed;
 pub mod stages;
 
 use second::answer::{Decision, Refusal, Sent};
+use second::desk::Desk;
 use second::house::{messages, House};
 use second::site::{Footprint, Installed, Part, Site, Stage};
 use second::sizes::*;
+
+/// The desks by number.
+pub const HOUSE: u64 = Desk::House as u64;
+pub const PROOFING: u64 = Desk::Proofing as u64;
 
 /// Output lines of a script, without their numbers.
 pub fn outputs(script: &str) -> Vec<String> {
@@ -84,5 +89,6 @@ pub fn installed(install: u64, transaction: u64, writes: &[(u64, u64)]) -> Insta
 }
 
 pub fn queued(transaction: u64, stage: Stage) -> Part {
-    Part { stage, ..Part::begin(transaction, 0, site_bit(coordinator_of(transaction)) | 1) }
+    let participants = site_bit(coordinator_of(transaction)) | 1;
+    Part { stage, ..Part::begin(transaction, 0, participants, Desk::House) }
 }

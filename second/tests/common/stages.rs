@@ -4,7 +4,7 @@
 use second::site::Site;
 use second::sizes::*;
 
-use super::{buffer, message, site, take};
+use super::{buffer, message, site, take, HOUSE};
 
 pub const T: u64 = (1 << 32) + 1;
 
@@ -37,7 +37,7 @@ pub fn participants() -> [Site; 5] {
     let decided = after(&voted_yes, &to_two(4, 7, 1, 0));
     let mut forgetful = active.clone();
     for _ in 0..=HISTORY {
-        let other = forgetful.begin().unwrap();
+        let other = forgetful.begin(HOUSE).unwrap();
         forgetful.commit(other, &mut buffer()).unwrap();
         forgetful.install(&mut buffer()).unwrap();
     }
@@ -49,7 +49,7 @@ pub fn participants() -> [Site; 5] {
 /// decided.
 pub fn coordinators() -> [Site; 7] {
     let mut begun = site(3, 1);
-    begun.begin().unwrap();
+    begun.begin(HOUSE).unwrap();
     let mut joining = begun.clone();
     joining.enlist(T, 2, &mut buffer()).unwrap();
     let full = after(&joining, &to_one(1, 2, 12));

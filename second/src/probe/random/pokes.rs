@@ -14,12 +14,13 @@ const ENTRIES: u64 = 4;
 impl Maker {
     pub(super) fn poke(&mut self) {
         let Some((site, part)) = self.held() else { return self.poke_source() };
-        match self.random.below(10) {
+        match self.random.below(12) {
             0 | 8 => self.replies(site, part.transaction),
             1 | 2 | 9 => self.course(site, part.transaction),
             3 => self.number(site, &part),
             4 => self.past_number(site),
             5 | 6 => self.bad_list(site, &part),
+            10 | 11 => self.desk(site, &part),
             _ => self.poke_source(),
         }
         if self.random.chance(50) {
@@ -30,7 +31,7 @@ impl Maker {
         }
     }
 
-    fn held(&mut self) -> Option<(u64, Part)> {
+    pub(super) fn held(&mut self) -> Option<(u64, Part)> {
         let sites = self.probe.sites.iter().map(|handed| &handed.site);
         let parts: Vec<(u64, Part)> =
             sites.flat_map(|site| site.live.iter().map(|part| (site.own, part.clone()))).collect();
@@ -192,9 +193,9 @@ impl Maker {
         }
     }
 
-    fn some_calls(&mut self, site: u64, transaction: u64) {
+    pub(super) fn some_calls(&mut self, site: u64, transaction: u64) {
         match self.random.below(5) {
-            0 => drop(self.say(format!("begin {site}"))),
+            0 => drop(self.begin(site)),
             1 => drop(self.say(format!("read {site} {transaction} {}", (site - 1) * SITE_KEYS))),
             2 => drop(self.say(format!("install {site}"))),
             3 => self.search(site),
