@@ -5,6 +5,7 @@ use kinds::MessageHead;
 use kinds::Reply;
 use kinds::Taken;
 use kinds::Turn;
+use kinds::desk::HOUSE;
 use kinds::kind::JOINED;
 use kinds::kind::VOTE;
 use kinds::reason::FULL;
@@ -34,6 +35,7 @@ ghost use Rattle.handlers.specs.Held.{Held, Reached};
 // The words of a site's own list: all other live and all remembered.
 const LIST: usize = ENTRY * (LIVE + HISTORY);
 
+// The part that JOIN begins keeps the desk that JOIN says (Q10.3).
 pub fn take_join(
     p: Core,
     live: &mut [u64],
@@ -53,7 +55,7 @@ pub fn take_join(
     if code != 0 {
         return shell::refused(p, code);
     }
-    let t = shell::join_turn(p, h);
+    let t = shell::join_turn(p, h, h.argument);
     let seats = p.seats;
     let free = live::free_place(seats);
     let none = [0u64; 0];
@@ -136,7 +138,7 @@ pub fn pass_prepare(
     if code != 0 {
         return shell::refused(p, code);
     }
-    let first = shell::join_turn(p, h);
+    let first = shell::join_turn(p, h, HOUSE);
     let t = course::turn::raise(first, h.clock);
     let clock = t.counters.clock;
     let none = [0u64; 0];

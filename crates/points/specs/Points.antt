@@ -9,6 +9,7 @@ use Rattle.laws.specs.Choice.{pick}
 use Rattle.laws.specs.Pair.{precedes}
 use Rattle.kinds.specs.Sizes as sizes
 use Rattle.kinds.specs.Stage as stage
+use Rattle.kinds.specs.Desk as desk
 use Rattle.kinds.specs.declared.Answer.{Answer}
 use Rattle.kinds.specs.declared.Sub.{Sub}
 use Rattle.kinds.specs.State.{noSub}
@@ -48,8 +49,8 @@ unfoldable pub points : List Point
 points =
     point (homeOf wholeHouse 255 ∷ homeOf wholeHouse 256 ∷ homeOf wholeHouse 2047 ∷ []) (1 ∷ 2 ∷ 8 ∷ [])
     ∷ point (said (readOf (freshSite 8 8) (replicate sizes.keys 0) 34359738369 2048 .answer)) (2 ∷ 2 ∷ [])
-    ∷ point (said (beginOf (freshSite 2 1) .answer)) (0 ∷ 4294967297 ∷ [])
-    ∷ point (said (beginOf (freshSite 2 2) .answer)) (0 ∷ 8589934593 ∷ [])
+    ∷ point (said (beginOf (freshSite 2 1) desk.house .answer)) (0 ∷ 4294967297 ∷ [])
+    ∷ point (said (beginOf (freshSite 2 2) desk.house .answer)) (0 ∷ 8589934593 ∷ [])
     ∷ point (yes (precedes 16777216 2 16777217 1)) (1 ∷ [])
     ∷ point (yes (precedes 7 1 7 2)) (1 ∷ [])
     ∷ point (bitOr (maskOf 1) (maskOf 3) ∷ []) (5 ∷ [])

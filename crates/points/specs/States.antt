@@ -4,6 +4,7 @@ use mathlib.Core.List.{List, []}
 use lib.ListN.{replicate, set}
 use Rattle.kinds.specs.Sizes as sizes
 use Rattle.kinds.specs.Stage as stage
+use Rattle.kinds.specs.Desk as desk
 use Rattle.kinds.specs.Kind as kind
 use Rattle.kinds.specs.declared.Keys.{Keys}
 use Rattle.kinds.specs.declared.Sub.{Sub}
@@ -20,6 +21,7 @@ unfoldable pub queued : ℕ → ℕ → ℕ → Sub
 queued c st number =
     record {
       tx = txOf c 1;
+      desk = desk.house;
       snapshot = record { installs = 0 };
       course = record { stage = st; mask = 3; number = number; heard = 0; reason = 0; listed = 0 };
       keys = noKeys;
@@ -73,6 +75,7 @@ versions =
           set (replicate sizes.live noSub) 0
           (record {
             tx = txOf 1 5;
+            desk = desk.house;
             snapshot = record { installs = 3 };
             course = record { stage = stage.active; mask = 1; number = 0; heard = 0; reason = 0; listed = 0 };
             keys = noKeys;

@@ -14,6 +14,7 @@ use Rattle.kinds.specs.declared.Snapshot.{Snapshot}
 use Rattle.kinds.specs.declared.Merger.{Merger}
 use Rattle.rules.specs.Record.{recordHead}
 use Rattle.rules.specs.House.{isSite, inMask}
+use Rattle.rules.specs.Desk.{isDesk}
 use Rattle.rules.specs.Send.{countsLow}
 use Rattle.rules.specs.Keys.{wroteKey, readKey}
 use Rattle.rules.specs.History.{isForgotten}
@@ -44,9 +45,9 @@ unfolding saidOf startOf
 start-taken sites own base lists =
     by-test (eqb (startCode sites own base lists) 0) (λ e. rw e (λ f. refl)) (λ e. rw e (λ f. absurd (set-not _ refl f)))
 
-begin-taken : (s : Site) → Takes (beginOf s) (ok (nextTx (s .counters) ∷ []))
+begin-taken : (s : Site) (d : ℕ) → Takes (beginOf s d) (ok (nextTx (s .counters) ∷ []))
 unfolding saidOf beginOf begun
-begin-taken s = past (beginCode (siteOk s) (s .counters) (freePlace (s .live))) s [] _ _ (record { said = λ r. refl })
+begin-taken s d = past (beginCode (siteOk s) (isDesk d) (s .counters) (freePlace (s .live))) s [] _ _ (record { said = λ r. refl })
 
 enlist-taken : (s : Site) (room tx site : ℕ) → Takes (enlistOf s room tx site) (ok [])
 unfolding saidOf enlistOf enlistAt enlistStep sendTo
@@ -147,7 +148,7 @@ pub calls-say : Says
 calls-say =
     record {
       site-starts = λ n o b l. says _ _ _ (start-by n o b l) (start-taken n o b l);
-      begins = λ s. says _ _ _ (begin-by s) (begin-taken s .said);
+      begins = λ s d. says _ _ _ (begin-by s d) (begin-taken s d .said);
       enlists = λ s r t n. says _ _ _ (enlist-by s r t n) (enlist-taken s r t n .said);
       reads = λ s b t k. says _ _ _ (read-by s b t k) (read-taken s b t k .said);
       searches = λ s b p k. says _ _ _ (search-by s b p k) (search-taken s b p k);

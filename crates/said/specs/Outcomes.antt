@@ -62,7 +62,7 @@ valueSaid copy k = ok (copyValue copy k ∷ copyNumber copy ∷ copyCoordinator 
 pub record Says : Type 0 where
   pub site-starts : (sites own base lists : ℕ)
       → saidOf (startOf sites own base lists .answer) ≡ unlessFirst (startCauses sites own base lists) (ok [])
-  pub begins : (s : Site) → saidOf (beginOf s .answer) ≡ unlessFirst (beginHas s) (ok (nextTx (s .counters) ∷ []))
+  pub begins : (s : Site) (d : ℕ) → saidOf (beginOf s d .answer) ≡ unlessFirst (beginHas s d) (ok (nextTx (s .counters) ∷ []))
   pub enlists : (s : Site) (room tx site : ℕ) → saidOf (enlistOf s room tx site .answer) ≡ unlessFirst (enlistHas s room tx site) (ok [])
   pub reads : (s : Site) (base : List Value) (tx k : ℕ)
       → saidOf (readOf s base tx k .answer) ≡ unlessFirst (readHas s base tx k) (readSaid s base tx k)

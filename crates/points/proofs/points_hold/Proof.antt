@@ -7,6 +7,7 @@ use Rattle.laws.specs.Overlay.{overlay, putAt}
 use Rattle.kinds.specs.State.{noKeys, noSub, noEntry}
 use Rattle.rules.specs.House.{houseOk, isSite, homeOf, isKey, txOf, coordinatorOf, serialOf, isTx, maskOf, inMask, isMask, participants}
 use Rattle.rules.specs.House.{repliesWanted, wholeHouse}
+use Rattle.rules.specs.Desk.{isDesk, writeLimit}
 use Rattle.rules.specs.Message.{entryOffset, messageWords, entryCount, messageHead, messageEntries, toCoordinator, coordinatorEnd}
 use Rattle.rules.specs.Message.{carriesClock, argumentOk, mostEntries, endsOk, headOk, entryBefore, entryOk, messageShape, messageOk}
 use Rattle.rules.specs.Record.{writeOffset, recordWords, recordHead, recordWrites, pairOk, partHeadOk, stateHeadOk, mergedHeadOk}
@@ -16,7 +17,7 @@ use Rattle.rules.specs.Keys.{keyFrom, sortedKey, sortedCount, sortedWords, keys
 use Rattle.rules.specs.Live.{freePlace, isPartOf, placeOf, isHeld, otherHolds, keyHeld, isPrepared, isQueued, allHeard}
 use Rattle.rules.specs.History.{remembered, forgotten, isForgotten, within, walk, searchIn, isNewer, recallPlace, forgetInto}
 use Rattle.rules.specs.Queue.{queuedBefore, comesFirst, betterPlace, leastQueued, isInstallable, stateBound, stateNumber}
-use Rattle.rules.specs.Valid.{courseOk, subOk, countersOk, liveOk, historyOk, siteOk, heldOk}
+use Rattle.rules.specs.Valid.{courseOk, deskOk, subOk, countersOk, liveOk, historyOk, siteOk, heldOk}
 use Rattle.rules.specs.Valid as valids
 use Rattle.rules.specs.Effect.{takenOf, turnAt, settle}
 use Rattle.rules.specs.Course.{newSub, raise, headOf, channelSpent, sendTo, sendAll, quietly, withParticipant, enlistStep, isOutstanding}
@@ -44,24 +45,23 @@ use Rattle.points.proofs.points_hold.Tie as tie
 
 returns : tie.Need-returns
 unfolding firstBelow allBelow anyBelow foldBelow precedes onesBelow overlay putAt noKeys noSub noEntry houseOk isSite homeOf isKey txOf
-    coordinatorOf serialOf isTx maskOf inMask isMask participants repliesWanted wholeHouse entryOffset messageWords entryCount messageHead
-    messageEntries toCoordinator coordinatorEnd carriesClock argumentOk mostEntries endsOk headOk entryBefore entryOk messageShape messageOk
-    writeOffset recordWords recordHead recordWrites pairOk partHeadOk stateHeadOk mergedHeadOk keyAscends partWriteOk mergedWriteOk
-    recordShape partOk stateOk mergedOk keyPlace wroteKey readKey wroteValue withRead withWrite commonKey dependent lesserKey leastKey
-    keyFrom sortedKey sortedCount sortedWords keysAt keysOk freePlace isPartOf placeOf isHeld otherHolds keyHeld isPrepared isQueued
-    allHeard remembered forgotten isForgotten within walk searchIn isNewer recallPlace forgetInto queuedBefore comesFirst
-    betterPlace leastQueued isInstallable stateBound stateNumber courseOk subOk countersOk liveOk heldOk historyOk siteOk valids.slotOk
-    takenOf
-    turnAt settle saidOf newSub raise headOf channelSpent sendTo sendAll quietly withParticipant enlistStep isOutstanding
-    withReply abortStep withDecision commitStep decideStep withQueueMark castStep withRequest prepareStep voteDecides voteStep withStage
-    preparedStep certifiedStep nextTx beginCode begun beginOf keyCode accessCode readCode readVersion readAt readOf writeCode writeCodeAt
-    written
-    writeAt writeOf searchOf installCode entryOf partHead partWords baseAfter installedAt installOf reportCode stateWords reportOf freshSite
-    startCode startOf startTable mergerOutOf placeWords queuedPart queuedOk sourceOk mergerOk mergePartCode mergePart mergeStateCode
-    mergeState mergeCode mergeOf headAt headsOf hasHead betterHead leastHead isDueAt hasPart isWholeAt isWhole dueCode partWrites
-    joinedWrites mergedWords siteWords popQueue popQueueAt popQueues popMergerAt popMerger emitDue emitCode emitOf freshMerger
-    mergerStartCode mergerStartOf mergers.isDue HeadFits HeadsFit isRecipient headTo wordsTo messagesTo stepRecipients countsLow queued
-    queueOf queueing wrote read installed versions merging headWords numbersOf points PointsHold ones onesIn
+    coordinatorOf serialOf isTx maskOf inMask isMask participants repliesWanted wholeHouse isDesk writeLimit entryOffset messageWords
+    entryCount messageHead messageEntries toCoordinator coordinatorEnd carriesClock argumentOk mostEntries endsOk headOk entryBefore
+    entryOk messageShape messageOk writeOffset recordWords recordHead recordWrites pairOk partHeadOk stateHeadOk mergedHeadOk keyAscends
+    partWriteOk mergedWriteOk recordShape partOk stateOk mergedOk keyPlace wroteKey readKey wroteValue withRead withWrite commonKey
+    dependent lesserKey leastKey keyFrom sortedKey sortedCount sortedWords keysAt keysOk freePlace isPartOf placeOf isHeld otherHolds
+    keyHeld isPrepared isQueued allHeard remembered forgotten isForgotten within walk searchIn isNewer recallPlace forgetInto queuedBefore
+    comesFirst betterPlace leastQueued isInstallable stateBound stateNumber courseOk deskOk subOk countersOk liveOk heldOk historyOk
+    siteOk valids.slotOk takenOf turnAt settle saidOf newSub raise headOf channelSpent sendTo sendAll quietly withParticipant enlistStep
+    isOutstanding withReply abortStep withDecision commitStep decideStep withQueueMark castStep withRequest prepareStep voteDecides
+    voteStep withStage preparedStep certifiedStep nextTx beginCode begun beginOf keyCode accessCode readCode readVersion readAt readOf
+    writeCode writeCodeAt written writeAt writeOf searchOf installCode entryOf partHead partWords baseAfter installedAt installOf
+    reportCode stateWords reportOf freshSite startCode startOf startTable mergerOutOf placeWords queuedPart queuedOk sourceOk mergerOk
+    mergePartCode mergePart mergeStateCode mergeState mergeCode mergeOf headAt headsOf hasHead betterHead leastHead isDueAt hasPart
+    isWholeAt isWhole dueCode partWrites joinedWrites mergedWords siteWords popQueue popQueueAt popQueues popMergerAt popMerger emitDue
+    emitCode emitOf freshMerger mergerStartCode mergerStartOf mergers.isDue HeadFits HeadsFit isRecipient headTo wordsTo messagesTo
+    stepRecipients countsLow queued queueOf queueing wrote read installed versions merging headWords numbersOf points PointsHold ones
+    onesIn
 returns c = refl
 
 pub points-hold-spec : {M : Type 1} → statement M

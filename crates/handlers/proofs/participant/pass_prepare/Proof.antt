@@ -6,6 +6,7 @@ use mathlib.Core.List.{[]}
 use borrow.Author.Needs.{needs}
 use borrow.Author.Tests.{eq-eqb, ne-eqb}
 use Rattle.laws.specs.Overlay.{overlay, overlay-none}
+use Rattle.kinds.specs.Desk as desk
 use Rattle.kinds.specs.Kind as kind
 use Rattle.kinds.specs.Reason as reason
 use Rattle.kinds.specs.declared.Site.{Site}
@@ -35,7 +36,7 @@ abbrev handed : tie.Start → Site
 handed c = let a = c .args in siteOf (a .p) (a .live .now) (a .history .now)
 
 abbrev turn : tie.Start → Turn
-turn c = raise (joinTurn (handed c) (c .args .h)) (c .args .h .clock)
+turn c = raise (joinTurn (handed c) (c .args .h) desk.house) (c .args .h .clock)
 
 turned : (c : tie.After-raise) → c .raise .result ≡ turn (begins (past c .before))
 turned c =

@@ -41,7 +41,8 @@ began c = begins (past c .before)
 abbrev handed : tie.Start → Site
 handed c = let a = c .args in siteOf (a .p) (a .live .now) (a .history .now)
 
-turned : (c : tie.After-free-place) → c .before .before .join-turn .result ≡ joinTurn (handed (began c)) (began c .args .h)
+turned : (c : tie.After-free-place) → let h = began c .args .h in
+    c .before .before .join-turn .result ≡ joinTurn (handed (began c)) h (h .argument)
 turned c = let a = began c .args in c .before .before .join-turn .ensures (a .live .now) (a .history .now)
 
 -- the first cause against it
@@ -110,7 +111,7 @@ returns-2 c =
     let free = full .before in
     let a = began free .args in
     let f = le-ltb (free .free-place .result) sizes.live (full .if2 .taken) in
-    let change = step (a .h .from) reason.full (joinTurn (handed (began free)) (a .h)) in
+    let change = step (a .h .from) reason.full (joinTurn (handed (began free)) (a .h) (a .h .argument)) in
     let q = same (a .h .from) reason.full _ _ (turned free) in (
       rw (← first (past free .before), none free, ← free .free-place .ensures (a .live .now), f)
           (c .spoken .ensures change (done .send-to .ensures .0 ∙ ap takenOf q) (a .live .now) (a .history .now)),
@@ -151,7 +152,7 @@ returns-3 c =
     let free = there .before in
     let a = began free .args in
     let f = lt-ltb (free .free-place .result) sizes.live (there .if2 .left) in
-    let change = step (a .h .from) 0 (joinTurn (handed (began free)) (a .h)) in
+    let change = step (a .h .from) 0 (joinTurn (handed (began free)) (a .h) (a .h .argument)) in
     let q = same (a .h .from) 0 _ _ (turned free) in (
       rw (← first (past free .before), none free, ← free .free-place .ensures (a .live .now), f)
           (end .settled .ensures change (done .send-to2 .ensures .0 ∙ ap takenOf q) (a .history .now) []),

@@ -1,4 +1,5 @@
 -- Each return is the first cause, or none.
+use native.Mathlib.Omega.{arith}
 use borrow.Author.Tests.{le-leb, lt-leb}
 use Rattle.rules.specs.Access.{writeCode}
 use Rattle.site.proofs.access.write_code.Statement.{statement}
@@ -22,21 +23,25 @@ returns-3 c = simp (c .before .before .if1 .left, c .before .if2 .left, c .if3 .
 returns-4 : tie.Need-returns-4
 unfolding writeCode
 returns-4 c =
+    let latest = c .before in
+    let a = start latest .args in
     simp (
-      c .before .before .before .if1 .left,
-      c .before .before .if2 .left,
-      c .before .if3 .left,
-      le-leb (start (c .before) .args .most) (start (c .before) .args .wrote) (c .if4 .taken),
+      latest .before .before .if1 .left,
+      latest .before .if2 .left,
+      latest .if3 .left,
+      le-leb (a .most) (a .wrote) (omega (arith, c .if4 .taken)),
     )
 
 returns-5 : tie.Need-returns-5
 unfolding writeCode
 returns-5 c =
+    let latest = c .before in
+    let a = start latest .args in
     simp (
-      c .before .before .before .if1 .left,
-      c .before .before .if2 .left,
-      c .before .if3 .left,
-      lt-leb (start (c .before) .args .most) (start (c .before) .args .wrote) (c .if4 .left),
+      latest .before .before .if1 .left,
+      latest .before .if2 .left,
+      latest .if3 .left,
+      lt-leb (a .most) (a .wrote) (omega (arith, c .if4 .left)),
     )
 
 pub write-code-spec : {M : Type 1} → statement M
