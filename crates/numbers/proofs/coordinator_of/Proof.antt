@@ -5,7 +5,6 @@ use borrow.Author.Needs.{needs}
 use Rattle.numbers.proofs.coordinator_of.Statement.{statement}
 use Rattle.numbers.proofs.coordinator_of.Tie as tie
 
--- src/lib.rt:51:1
 returns : tie.Need-returns
 unfolding coordinatorOf
 returns c = search (lt-ltb, le-ltb, le-leb, lt-leb, eq-eqb, ne-eqb, needs)

@@ -5,11 +5,9 @@ use borrow.Author.Needs.{needs}
 use Rattle.numbers.proofs.home_of.Statement.{statement}
 use Rattle.numbers.proofs.home_of.Tie as tie
 
--- src/lib.rt:33:5
 add-result : tie.Need-add-result
 add-result c = search needs
 
--- src/lib.rt:30:1
 returns : tie.Need-returns
 unfolding homeOf
 returns c = search (lt-ltb, le-ltb, le-leb, lt-leb, eq-eqb, ne-eqb, needs)

@@ -6,12 +6,10 @@ use borrow.Author.Needs.{needs}
 use Rattle.numbers.proofs.house_ok.Statement.{statement}
 use Rattle.numbers.proofs.house_ok.Tie as tie
 
--- src/lib.rt:14:9
 returns : tie.Need-returns
 unfolding houseOk
 returns c = search (pick-self, lt-ltb, le-ltb, le-leb, lt-leb, eq-eqb, ne-eqb, needs)
 
--- src/lib.rt:9:1
 returns-2 : tie.Need-returns-2
 unfolding houseOk
 returns-2 c = search (pick-self, lt-ltb, le-ltb, le-leb, lt-leb, eq-eqb, ne-eqb, needs)

@@ -6,15 +6,12 @@ use borrow.Author.Needs.{needs}
 use Rattle.numbers.proofs.in_mask.Statement.{statement}
 use Rattle.numbers.proofs.in_mask.Tie as tie
 
--- src/lib.rt:86:15
 sub-result : tie.Need-sub-result
 sub-result c = search needs
 
--- src/lib.rt:86:6
 shr-result : tie.Need-shr-result
 shr-result c = search needs
 
--- src/lib.rt:82:1
 returns : tie.Need-returns
 unfolding inMask
 returns c = search (pick-self, lt-ltb, le-ltb, le-leb, lt-leb, eq-eqb, ne-eqb, needs)

@@ -4,11 +4,9 @@ use borrow.Author.Needs.{needs}
 use Rattle.numbers.proofs.is_key.Statement.{statement}
 use Rattle.numbers.proofs.is_key.Tie as tie
 
--- src/lib.rt:39:9
 home-of-requires : tie.Need-home-of-requires
 home-of-requires c κs = search needs
 
--- src/lib.rt:36:1
 returns : tie.Need-returns
 unfolding isKey
 returns c = rw (c .home-of .ensures)

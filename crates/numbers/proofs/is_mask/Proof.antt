@@ -6,11 +6,9 @@ use borrow.Author.Needs.{needs}
 use Rattle.numbers.proofs.is_mask.Statement.{statement}
 use Rattle.numbers.proofs.is_mask.Tie as tie
 
--- src/lib.rt:94:12
 shl-result : tie.Need-shl-result
 shl-result c = search needs
 
--- src/lib.rt:89:1
 returns : tie.Need-returns
 unfolding isMask
 returns c = rw (one-shifted (c .args .h .sites) (omega arith))

@@ -6,12 +6,10 @@ use borrow.Author.Needs.{needs}
 use Rattle.numbers.proofs.is_site.Statement.{statement}
 use Rattle.numbers.proofs.is_site.Tie as tie
 
--- src/lib.rt:24:9
 returns : tie.Need-returns
 unfolding isSite
 returns c = search (pick-self, lt-ltb, le-ltb, le-leb, lt-leb, eq-eqb, ne-eqb, needs)
 
--- src/lib.rt:19:1
 returns-2 : tie.Need-returns-2
 unfolding isSite
 returns-2 c = search (pick-self, lt-ltb, le-ltb, le-leb, lt-leb, eq-eqb, ne-eqb, needs)

@@ -6,19 +6,15 @@ use borrow.Author.Needs.{needs}
 use Rattle.numbers.proofs.is_tx.Statement.{statement}
 use Rattle.numbers.proofs.is_tx.Tie as tie
 
--- src/lib.rt:66:9
 coordinator-of-requires : tie.Need-coordinator-of-requires
 coordinator-of-requires c κs = search needs
 
--- src/lib.rt:67:9
 serial-of-requires : tie.Need-serial-of-requires
 serial-of-requires c κs = search needs
 
--- src/lib.rt:68:9
 is-site-requires : tie.Need-is-site-requires
 is-site-requires c κs = search needs
 
--- src/lib.rt:69:9
 returns : tie.Need-returns
 unfolding isTx
 returns c = simp (
@@ -27,7 +23,6 @@ returns c = simp (
   not-true (c .before .is-site .result) (c .if1 .taken),
 )
 
--- src/lib.rt:63:1
 returns-2 : tie.Need-returns-2
 unfolding isTx
 returns-2 c =

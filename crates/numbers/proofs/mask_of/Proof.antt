@@ -7,15 +7,12 @@ use borrow.Author.Needs.{needs}
 use Rattle.numbers.proofs.mask_of.Statement.{statement}
 use Rattle.numbers.proofs.mask_of.Tie as tie
 
--- src/lib.rt:79:11
 sub-result : tie.Need-sub-result
 sub-result c = search needs
 
--- src/lib.rt:79:5
 shl-result : tie.Need-shl-result
 shl-result c = search needs
 
--- src/lib.rt:75:1
 returns : tie.Need-returns
 unfolding maskOf
 returns c = one-shifted (c .args .site - 1) (omega arith)

@@ -7,11 +7,9 @@ use borrow.Author.Needs.{needs}
 use Rattle.numbers.proofs.participants.Statement.{statement}
 use Rattle.numbers.proofs.participants.Tie as tie
 
--- src/lib.rt:100:5
 cast-result : tie.Need-cast-result
 cast-result c = omega (arith, ones-le 64 (c .args .mask) (omega arith))
 
--- src/lib.rt:97:1
 returns : tie.Need-returns
 unfolding participants
 returns c = search (lt-ltb, le-ltb, le-leb, lt-leb, eq-eqb, ne-eqb, needs)

@@ -5,17 +5,14 @@ use borrow.Author.Needs.{needs}
 use Rattle.numbers.proofs.precedes.Statement.{statement}
 use Rattle.numbers.proofs.precedes.Tie as tie
 
--- src/lib.rt:118:9
 returns : tie.Need-returns
 unfolding precedes
 returns c = search (lt-ltb, le-ltb, le-leb, lt-leb, eq-eqb, ne-eqb, needs)
 
--- src/lib.rt:121:9
 returns-2 : tie.Need-returns-2
 unfolding precedes
 returns-2 c = search (lt-ltb, le-ltb, le-leb, lt-leb, eq-eqb, ne-eqb, needs)
 
--- src/lib.rt:114:1
 returns-3 : tie.Need-returns-3
 unfolding precedes
 returns-3 c = search (lt-ltb, le-ltb, le-leb, lt-leb, eq-eqb, ne-eqb, needs)

@@ -5,7 +5,6 @@ use borrow.Author.Needs.{needs}
 use Rattle.numbers.proofs.serial_of.Statement.{statement}
 use Rattle.numbers.proofs.serial_of.Tie as tie
 
--- src/lib.rt:57:1
 returns : tie.Need-returns
 unfolding serialOf
 returns c = search (lt-ltb, le-ltb, le-leb, lt-leb, eq-eqb, ne-eqb, needs)

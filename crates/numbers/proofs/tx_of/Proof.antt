@@ -5,15 +5,12 @@ use borrow.Author.Needs.{needs}
 use Rattle.numbers.proofs.tx_of.Statement.{statement}
 use Rattle.numbers.proofs.tx_of.Tie as tie
 
--- src/lib.rt:48:5
 mul-result : tie.Need-mul-result
 mul-result c = search needs
 
--- src/lib.rt:48:5
 add-result : tie.Need-add-result
 add-result c = search needs
 
--- src/lib.rt:44:1
 returns : tie.Need-returns
 unfolding txOf
 returns c = search (lt-ltb, le-ltb, le-leb, lt-leb, eq-eqb, ne-eqb, needs)

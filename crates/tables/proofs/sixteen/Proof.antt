@@ -11,7 +11,6 @@ use Rattle.lent.specs.Rows.{rows-same, rows-read}
 use Rattle.lent.specs.Layout.{wordsFrom}
 use Rattle.tables.proofs.sixteen.Statement.{statement}
 use Rattle.tables.proofs.sixteen.Tie as tie
-use Rattle.tables.proofs.sixteen.Reads as reads
 
 abbrev Inv-loop : tie.InvT-loop
 Inv-loop w at r₀ i₀ r i = (i ≤ sizes.reads) × ((length r ≡ sizes.reads) × ((j : ℕ) → j < i → getD r j 0 ≡ getD w (at + j) 0))

@@ -49,50 +49,50 @@ other p (command.Abandon a) w h base lists out r k e = absurd (miss others 6 tt 
 other p (command.Install a) w h base lists out r k e = absurd (miss others 8 tt k)
 other p (command.Report a) w h base lists out r k e = absurd (miss others 9 tt k)
 
-enum-told : tie.Need-enum-told
-enum-told c = search needs
+enum-known-c : tie.Need-enum-known-c
+enum-known-c c = search needs
 
 begin-requires : tie.Need-begin-requires
 begin-requires c κs = search needs
 
-enum-known-c : tie.Need-enum-known-c
-enum-known-c c = search needs
+enum-known-c-2 : tie.Need-enum-known-c-2
+enum-known-c-2 c = search needs
 
 enlist-requires : tie.Need-enlist-requires
 enlist-requires c κs = search needs
 
-enum-known-c-2 : tie.Need-enum-known-c-2
-enum-known-c-2 c = search needs
+enum-known-c-3 : tie.Need-enum-known-c-3
+enum-known-c-3 c = search needs
 
 read-requires : tie.Need-read-requires
 read-requires c κs = search needs
 
-enum-known-c-3 : tie.Need-enum-known-c-3
-enum-known-c-3 c = search needs
+enum-known-c-4 : tie.Need-enum-known-c-4
+enum-known-c-4 c = search needs
 
 write-requires : tie.Need-write-requires
 write-requires c κs = search needs
 
-enum-known-c-4 : tie.Need-enum-known-c-4
-enum-known-c-4 c = search needs
+enum-known-c-5 : tie.Need-enum-known-c-5
+enum-known-c-5 c = search needs
 
 commit-requires : tie.Need-commit-requires
 commit-requires c κs = search needs
 
-enum-known-c-5 : tie.Need-enum-known-c-5
-enum-known-c-5 c = search needs
+enum-known-c-6 : tie.Need-enum-known-c-6
+enum-known-c-6 c = search needs
 
 abandon-requires : tie.Need-abandon-requires
 abandon-requires c κs = search needs
 
-enum-told-2 : tie.Need-enum-told-2
-enum-told-2 c = search needs
+enum-told : tie.Need-enum-told
+enum-told c = search needs
 
 install-requires : tie.Need-install-requires
 install-requires c κs = search needs
 
-enum-told-3 : tie.Need-enum-told-3
-enum-told-3 c = search needs
+enum-told-2 : tie.Need-enum-told-2
+enum-told-2 c = search needs
 
 report-requires : tie.Need-report-requires
 report-requires c κs = search needs
@@ -111,7 +111,7 @@ unfolding effectOf baseLeft listsLeft
 returns c =
     let call = c .before .before in
     let arm = call .before .before .before in
-    rw (arm .enum-told .given .1) (call .begin .ensures, (refl, (refl, nothing _ _ (begin-quiet _ _))))
+    rw (arm .before .c .given .1) (call .begin .ensures, (refl, (refl, nothing _ _ (begin-quiet _ _))))
 
 same-length-3 : tie.Need-same-length-3
 same-length-3 c = search needs
@@ -129,7 +129,7 @@ returns-2 c =
     let call = call1 .before in
     let arm1 = call .before .before .before in
     let arm = arm1 .before .before in
-    rw (arm .c .given .1) (call .enlist .ensures .0, (refl, (refl, call .enlist .ensures .1)))
+    rw (arm .c2 .given .1) (call .enlist .ensures .0, (refl, (refl, call .enlist .ensures .1)))
 
 same-length-6 : tie.Need-same-length-6
 same-length-6 c = search needs
@@ -146,7 +146,7 @@ returns-3 c =
     let call = c .before .before in
     let arm1 = call .before .before .before in
     let arm = arm1 .before .before in
-    rw (arm .c2 .given .1) (call .read .ensures, (refl, (refl, nothing _ _ (read-quiet _ _ _ _))))
+    rw (arm .c3 .given .1) (call .read .ensures, (refl, (refl, nothing _ _ (read-quiet _ _ _ _))))
 
 same-length-9 : tie.Need-same-length-9
 same-length-9 c = search needs
@@ -160,7 +160,7 @@ returns-4 c =
     let call = c .before .before in
     let arm1 = call .before .before .before in
     let arm = arm1 .before in
-    rw (arm .c3 .given .1) (call .write .ensures, (refl, (refl, nothing _ _ (write-quiet _ _ _ _))))
+    rw (arm .c4 .given .1) (call .write .ensures, (refl, (refl, nothing _ _ (write-quiet _ _ _ _))))
 
 same-length-11 : tie.Need-same-length-11
 same-length-11 c = search needs
@@ -181,7 +181,7 @@ returns-5 c =
     let call = call1 .before .before .before in
     let arm1 = call .before .before .before in
     let arm = arm1 .before .before .before in
-    rw (arm .c4 .given .1) (call .commit .ensures .0, (refl, (call .commit .ensures .1 .0, call .commit .ensures .1 .1)))
+    rw (arm .c5 .given .1) (call .commit .ensures .0, (refl, (call .commit .ensures .1 .0, call .commit .ensures .1 .1)))
 
 same-length-15 : tie.Need-same-length-15
 same-length-15 c = search needs
@@ -199,7 +199,7 @@ returns-6 c =
     let call = call1 .before in
     let arm1 = call .before .before .before in
     let arm = arm1 .before .before in
-    rw (arm .c5 .given .1) (call .abandon .ensures .0, (refl, (refl, call .abandon .ensures .1)))
+    rw (arm .c6 .given .1) (call .abandon .ensures .0, (refl, (refl, call .abandon .ensures .1)))
 
 same-length-18 : tie.Need-same-length-18
 same-length-18 c = search needs
@@ -221,7 +221,7 @@ returns-7 c =
     let call = call2 .before .before in
     let arm1 = call .before .before .before in
     let arm = arm1 .before .before in
-    rw (arm .enum-told2 .given .1) (call .install .ensures .0, (call .install .ensures .1 .0, (refl, call .install .ensures .1 .1)))
+    rw (arm .enum-told .given .1) (call .install .ensures .0, (call .install .ensures .1 .0, (refl, call .install .ensures .1 .1)))
 
 same-length-22 : tie.Need-same-length-22
 same-length-22 c = search needs
@@ -238,7 +238,7 @@ returns-8 c =
     let call = c .before .before in
     let arm1 = call .before .before .before in
     let arm = arm1 .before in
-    rw (arm .enum-told3 .given .1) (call .report .ensures .0, (refl, (refl, call .report .ensures .1)))
+    rw (arm .enum-told2 .given .1) (call .report .ensures .0, (refl, (refl, call .report .ensures .1)))
 
 returns-9 : tie.Need-returns-9
 unfolding effectOf baseLeft listsLeft
@@ -252,21 +252,21 @@ pub own-call-spec : {M : Type 1} → statement M
 own-call-spec =
     tie.close
     (tie.spec
-    enum-told
-    begin-requires
     enum-known-c
-    enlist-requires
+    begin-requires
     enum-known-c-2
-    read-requires
+    enlist-requires
     enum-known-c-3
-    write-requires
+    read-requires
     enum-known-c-4
-    commit-requires
+    write-requires
     enum-known-c-5
+    commit-requires
+    enum-known-c-6
     abandon-requires
-    enum-told-2
+    enum-told
     install-requires
-    enum-told-3
+    enum-told-2
     report-requires
     refused-requires
     same-length

@@ -4,7 +4,6 @@ use Rattle.rules.specs.Access.{readCode}
 use Rattle.kinds.specs.Sizes as sizes
 use Rattle.site.proofs.access.read_code.Statement.{statement}
 use Rattle.site.proofs.access.read_code.Tie as tie
-use Rattle.site.proofs.access.read_code.Reads as reads
 
 returns : tie.Need-returns
 unfolding readCode
