@@ -44,7 +44,8 @@ ghost use Rattle.lent.specs.Layout.{keysFrom, subFrom, entryFrom, liveOf, histo
 ghost use Rattle.lent.specs.Lent.{siteOf};
 ghost use Rattle.valid.specs.Lists.{Gathered};
 
-// Replies come from other sites, and each list gathered has at most `CONC_ENTRIES` entries, the own one included.
+// Replies come from other sites, and each list gathered has at most `CONC_ENTRIES` entries, the own one included. Most places have no
+// list, and then no replies are counted.
 fn course_ok(o: House, own: u64, seat: Seat, w: &[u64], at: usize) -> bool
     requires { ⌜ ValidHouse o own × (at + sizes.place ≤ length (now w)) ⌝ }
     ensures { λ r. ⌜ r ≡ courseOk o own (subFrom seat (now (w .entry)) at .course) ⌝ }
@@ -64,6 +65,9 @@ fn course_ok(o: House, own: u64, seat: Seat, w: &[u64], at: usize) -> bool
     }
     if in_mask(heard, own) {
         return false;
+    }
+    if listed == 0 {
+        return true;
     }
     let lists = participants(heard) as usize + 1;
     listed <= CONC_ENTRIES * lists

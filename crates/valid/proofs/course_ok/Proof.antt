@@ -1,5 +1,5 @@
 -- The tests in order; a mask of the house is below 256, so that the product fits.
-use Prim.Native.Nat.{_+_, _≤_}
+use Prim.Native.Nat.{_+_, _*_, _≤_}
 use mathlib.Core.Path.{_≡_, sym, _∙_}
 use mathlib.Core.Bool.{true}
 use native.Mathlib.Omega.{arith}
@@ -100,19 +100,38 @@ returns-4 c =
     let heard = c .before .before in
     simp (stage-ok (staged heard), mask-ok (heard .before .before), heard-ok heard, sym (c .before .in-mask .ensures) ∙ c .if4 .taken)
 
-participants-requires : tie.Need-participants-requires
-participants-requires c κs = search needs
-
-add-lists : tie.Need-add-lists
-add-lists c = omega (arith, c .participants .ensures, few (c .before .before .before))
-
-mul-result : tie.Need-mul-result
-mul-result c = omega (arith, c .participants .ensures, few (c .before .before .before))
-
+-- no entry is at most as many as any
 returns-5 : tie.Need-returns-5
 unfolding courseOk subFrom
 returns-5 c =
     let others = c .before in
+    let heard = others .before .before in
+    let a = start (read (staged heard)) .args in
+    let lists = participants (getD (a .w .now) (a .at + word.placeHeard) 0) + 1 in
+    simp (
+      stage-ok (staged heard),
+      mask-ok (heard .before .before),
+      heard-ok heard,
+      sym (others .before .in-mask .ensures) ∙ others .if4 .left,
+      le-leb (getD (a .w .now) (a .at + word.placeListed) 0) (sizes.concEntries * lists) (omega (arith, c .if5 .taken)),
+    )
+
+participants-requires : tie.Need-participants-requires
+participants-requires c κs = search needs
+
+abbrev counted : tie.After-participants → tie.Else3
+counted c = let others = c .before .before in others .before .before
+
+add-lists : tie.Need-add-lists
+add-lists c = omega (arith, c .participants .ensures, few (counted c))
+
+mul-result : tie.Need-mul-result
+mul-result c = omega (arith, c .participants .ensures, few (counted c))
+
+returns-6 : tie.Need-returns-6
+unfolding courseOk subFrom
+returns-6 c =
+    let others = c .before .before in
     let heard = others .before .before in
     simp (
       stage-ok (staged heard),
@@ -143,7 +162,8 @@ course-ok-spec =
     returns-3
     in-mask-requires
     returns-4
+    returns-5
     participants-requires
     add-lists
     mul-result
-    returns-5)
+    returns-6)
