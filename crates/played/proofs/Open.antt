@@ -47,8 +47,8 @@ unfolding scan.firstBelow scan.allBelow scan.anyBelow scan.foldBelow pair.preced
     live.keyHeld live.isPrepared live.isQueued live.allHeard history.remembered history.forgotten history.isForgotten history.within
     history.walk history.searchIn history.isNewer history.recallPlace history.forgetInto queue.queuedBefore
     queue.comesFirst queue.betterPlace queue.leastQueued queue.isInstallable queue.stateBound queue.stateNumber valid.courseOk valid.subOk
-    valid.slotOk valid.countersOk valid.liveOk valid.historyOk valid.siteOk valid.deskOk valid.heldOk valid.gatheredOk valid.listsOk valid.handedOk
-    effect.takenOf effect.turnAt effect.settle course.newSub course.raise course.headOf course.channelSpent
+    valid.slotOk valid.countersOk valid.liveOk valid.historyOk valid.siteOk valid.deskOk valid.heldOk valid.gatheredOk valid.listsOk
+    valid.handedOk effect.takenOf effect.turnAt effect.settle course.newSub course.raise course.headOf course.channelSpent
     course.sendTo course.sendAll course.quietly course.withParticipant course.enlistStep course.isOutstanding course.withReply
     course.abortStep course.withDecision course.commitStep course.decideStep course.withQueueMark course.castStep course.withRequest
     course.prepareStep course.voteDecides course.voteStep course.withStage course.preparedStep course.certifiedStep send.isRecipient

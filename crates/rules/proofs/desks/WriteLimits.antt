@@ -125,7 +125,8 @@ module _ (s : Site) (tx k : ℕ) (v : Value) where
         below = below;
         full = full;
         again = λ e f.
-            cases (λ x. x .answer ≡ Done) (λ n. absurd (n e)) (λ g h. takes) (λ g h. absurd (set-not _ f h)) (λ g h. absurd (set-not _ f h));
+            cases (λ x. x .answer ≡ Done) (λ n. absurd (n e)) (λ g h. takes) (λ g h. absurd (set-not _ f h))
+            (λ g h. absurd (set-not _ f h));
         only =
             cases (λ x. x .answer ≡ Refused 11 → (wroteKey (part .keys) k ≡ false) × (writeLimit (part .desk) ≤ part .keys .wrote))
             (λ n z. absurd (before-eight (refused-is _ _ z)))

@@ -46,7 +46,8 @@ replies-left j h g k (mVote t n v) e (inr a) = inr a
 
 module _ {t r : ℕ} {c : Course} {n : ℕ} {d h : Bool} {g : ℕ} where
   -- The participant takes the question, and replies.
-  pub joins-on : {f b : List Msg} {k : ℕ} → Phase t r c n d h g (mJoin t k ∷ f) b → Phase t r c n d true stage.active f (b ++ (mJoined t 0 ∷ []))
+  pub joins-on : {f b : List Msg} {k : ℕ} → Phase t r c n d h g (mJoin t k ∷ f) b
+      → Phase t r c n d true stage.active f (b ++ (mJoined t 0 ∷ []))
   joins-on (asked m w a y) = replied (mJoined t 0) w (a, λ e. refl)
   joins-on (overtaken m b e y) = aborting _ e
 
@@ -159,7 +160,8 @@ module _ {t r : ℕ} {c : Course} {n : ℕ} {d h : Bool} {g : ℕ} where
     skips-on c′ n′ o z (aborted b y) = absurd (alive y)
 
     -- JOIN to a new participant
-    pub enlists-on : {f b : List Msg} (k : ℕ) (c′ : Course) → (In (c .mask) r → ⊥) → Waits r c′ → c′ .stage ≡ stage.active → Phase t r c n d h g f b
+    pub enlists-on : {f b : List Msg} (k : ℕ) (c′ : Course) → (In (c .mask) r → ⊥) → Waits r c′ → c′ .stage ≡ stage.active
+        → Phase t r c n d h g f b
         → Phase t r c′ n d h g (f ++ (mJoin t k ∷ [])) b
     enlists-on k c′ o w e (idle x) = asked (mJoin t k) w e tt
     enlists-on k c′ o w e (asked m v a y) = absurd (o (v .0))

@@ -146,8 +146,8 @@ module _ {s : Site} {lists : List ℕ} (y : Sound s lists) where
         keeping-fits s lists _
         (unless-fits y (replyCode true (spentTo s (h .from))) [] _
         (λ z. spoken-fits [] _
-        (vote-fits valid (raise-fits s [] (joinTurn s h desk.house) (h .clock) (join-turn desk.house house-desk [])) on (t .counters .clock) reason.unknown
-        (may-unknown o))))))
+        (vote-fits valid (raise-fits s [] (joinTurn s h desk.house) (h .clock) (join-turn desk.house house-desk [])) on
+        (t .counters .clock) reason.unknown (may-unknown o))))))
         (λ e. rw e (keeping-fits s lists _ (passed-fits (h .from))))
 
     -- A transaction that is held.

@@ -240,7 +240,13 @@ module _ {s : Site} (v : ValidSite s) where
           turn = x;
           words = to-passes o t kind.join a 0 (t .sub .desk) []
               (record { sender = own-site t x; receiver = h; apart = λ z. n (sym (x .own) ∙ z); tx = l .tx })
-              (record { low = omega arith; high = omega arith; coordinator = leads-own; clock = refl; argument = desk-clear (t .sub .desk) (t .sub .keys) (x .desk) })
+              (record {
+                low = omega arith;
+                high = omega arith;
+                coordinator = leads-own;
+                clock = refl;
+                argument = desk-clear (t .sub .desk) (t .sub .keys) (x .desk);
+              })
               (carried-none o _);
         }
 

@@ -60,7 +60,8 @@ module _ {sites : ℕ} {p : Protocol} (i : Invariant sites p) where
   still q e f = record { keys = λ n s t h. rw e; installs = λ n. f }
 
   leaves : (q : Protocol) (m : Move sites p q) → Leaves p q (told m)
-  leaves q (begin s t d l m n e) = record { keys = λ x. new-keys p s t noKeys (new-tx sites p s t (i .parts) n e s); installs = λ x j. refl }
+  leaves q (begin s t d l m n e) =
+      record { keys = λ x. new-keys p s t noKeys (new-tx sites p s t (i .parts) n e s); installs = λ x j. refl }
   leaves q (enlist s t r c a l m n o) = still q refl (λ j. refl)
   leaves q (access s t b fs a v w f m) = record { keys = λ x. absurd (access-told v x); installs = λ x j. refl }
   leaves q (request s t es c a l r v) = still q refl (λ j. refl)
@@ -69,7 +70,8 @@ module _ {sites : ℕ} {p : Protocol} (i : Invariant sites p) where
   leaves q (decide s t c a l) = still q refl (λ j. refl)
   leaves q (install s t a l) = record { keys = λ x j u h. refl; installs = λ x. absurd (x _ here refl) }
   leaves q (report s n a) = record { keys = λ x j u h. refl; installs = λ x. inst-report p s n }
-  leaves q (joins a s t d n f) = record { keys = λ x. new-keys p s t noKeys (new-join sites p a s t d (i .posts) n); installs = λ x j. refl }
+  leaves q (joins a s t d n f) =
+      record { keys = λ x. new-keys p s t noKeys (new-join sites p a s t d (i .posts) n); installs = λ x j. refl }
   leaves q (full a s t d r n z) = still q refl (λ j. refl)
   leaves q (joined a s t r n y o) = still q refl (λ j. refl)
   leaves q (prepared a s t n m es y z v) = still q refl (λ j. refl)

@@ -10,7 +10,8 @@ use Rattle.laws.specs.Choice.{set-not}
 use Rattle.kinds.specs.State.{noSub}
 use Rattle.rules.specs.House.{coordinatorOf, inMask}
 use Rattle.rules.proofs.lists.Tables.{All, a-nil, all-map, all-append, all-one, all-at, last-cases}
-use Rattle.rules.proofs.protocol.ProtocolTables.{Protocol, Msg, IsJoin, mJoin, mJoined, mPrepare, mConc, mCert, mVote, mCommit, mAbort}
+use Rattle.rules.proofs.protocol.ProtocolTables.{Protocol, Msg, IsJoin, mJoin, mJoined, mPrepare, mConc, mCert, mVote, mCommit}
+use Rattle.rules.proofs.protocol.ProtocolTables.{mAbort}
 use Rattle.rules.proofs.protocol.Protocol.{courseAt, Move}
 use Rattle.rules.proofs.protocol.Protocol.{freshProtocol}
 use Rattle.rules.proofs.protocol.Invariants.{Held, In, MsgOk, Posts, Invariant}
