@@ -23,7 +23,7 @@ use Rattle.rules.specs.World.{Call, World, Lawful, freshWorld, step, run
 use Rattle.rules.specs.Book.{Fact, bookFrom}
 use Rattle.rules.specs.Claim.{Wrote}
 
--- A write of key k for tx, at a site that holds tx's part.
+-- A write of key k for tx, in any state. Where the site holds no part of tx a cause before 8 holds.
 module _ (s : Site) (tx k : ℕ) (v : Value) where
   abbrev place : ℕ
   place = placeOf (s .live) tx
