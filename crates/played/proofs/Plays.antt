@@ -4,54 +4,54 @@ use lib.ListN.{take, drop}
 use Rattle.rules.specs.World.{Lawful, freshWorld, run}
 use Rattle.rules.specs.Book.{bookFrom}
 use Rattle.rules.specs.Desks.{BegunFor}
-use Rattle.played.specs.Script.{linesOf, answersFrom, answersOf}
+use Rattle.played.specs.Script.{even, linesOf, answersFrom, answersOf}
 use Rattle.played.specs.First.{firstScript, firstCalls}
 use Rattle.played.specs.Second.{secondScript, secondCalls, sends, secondMail, secondBook}
 use Rattle.played.specs.Third.{thirdScript, thirdCalls, thirdMail, proofing, whole}
 use Rattle.played.proofs.Open.{Open}
 use Rattle.played.proofs.Playable.{lawful}
 
-pub first-lawful : Lawful (freshWorld 1) firstCalls
+pub first-lawful : Lawful (freshWorld (even 1)) firstCalls
 unfolding Open firstCalls firstScript
-first-lawful = lawful (freshWorld 1) (linesOf firstScript) refl
+first-lawful = lawful (freshWorld (even 1)) (linesOf firstScript) refl
 
-pub first-answers : answersFrom (freshWorld 1) firstCalls ≡ answersOf firstScript
+pub first-answers : answersFrom (freshWorld (even 1)) firstCalls ≡ answersOf firstScript
 unfolding Open firstCalls firstScript
 first-answers = refl
 
-pub second-lawful : Lawful (freshWorld 2) secondCalls
+pub second-lawful : Lawful (freshWorld (even 2)) secondCalls
 unfolding Open secondCalls secondScript
-second-lawful = lawful (freshWorld 2) (linesOf secondScript) refl
+second-lawful = lawful (freshWorld (even 2)) (linesOf secondScript) refl
 
-pub second-answers : answersFrom (freshWorld 2) secondCalls ≡ answersOf secondScript
+pub second-answers : answersFrom (freshWorld (even 2)) secondCalls ≡ answersOf secondScript
 unfolding Open secondCalls secondScript
 second-answers = refl
 
-pub second-mail : run (freshWorld 2) secondCalls .sent ≡ secondMail
+pub second-mail : run (freshWorld (even 2)) secondCalls .sent ≡ secondMail
 unfolding Open secondCalls secondScript sends secondMail
 second-mail = refl
 
-pub second-book : bookFrom (freshWorld 2) secondCalls ≡ secondBook
+pub second-book : bookFrom (freshWorld (even 2)) secondCalls ≡ secondBook
 unfolding Open secondCalls secondScript secondBook
 second-book = refl
 
-pub third-lawful : Lawful (freshWorld 2) thirdCalls
+pub third-lawful : Lawful (freshWorld (even 2)) thirdCalls
 unfolding Open thirdCalls thirdScript
-third-lawful = lawful (freshWorld 2) (linesOf thirdScript) refl
+third-lawful = lawful (freshWorld (even 2)) (linesOf thirdScript) refl
 
-pub third-answers : answersFrom (freshWorld 2) thirdCalls ≡ answersOf thirdScript
+pub third-answers : answersFrom (freshWorld (even 2)) thirdCalls ≡ answersOf thirdScript
 unfolding Open thirdCalls thirdScript
 third-answers = refl
 
-pub third-mail : run (freshWorld 2) thirdCalls .sent ≡ thirdMail
+pub third-mail : run (freshWorld (even 2)) thirdCalls .sent ≡ thirdMail
 unfolding Open thirdCalls thirdScript sends thirdMail
 third-mail = refl
 
 -- the first call begins `proofing`, the nineteenth `whole`
-pub third-proofing : BegunFor 2 thirdCalls proofing 1
+pub third-proofing : BegunFor (even 2) thirdCalls proofing 1
 unfolding Open thirdCalls thirdScript
 third-proofing = record { calls = take 0 thirdCalls; more = drop 1 thirdCalls; at = 1; split = refl; answers = refl }
 
-pub third-whole : BegunFor 2 thirdCalls whole 0
+pub third-whole : BegunFor (even 2) thirdCalls whole 0
 unfolding Open thirdCalls thirdScript
 third-whole = record { calls = take 18 thirdCalls; more = drop 19 thirdCalls; at = 2; split = refl; answers = refl }

@@ -2,7 +2,7 @@
 use mathlib.Core.List.{List, [], _∷_}
 use Rattle.kinds.specs.declared.Answer.the-variants.{Done, Begun, Committed, Installed, Emitted, Replayed, Standing}
 use Rattle.rules.specs.World.{Call}
-use Rattle.played.specs.Script.{Told, _⟶_, begin, write, commit, install, merge, emit, replay, value, callsOf}
+use Rattle.played.specs.Script.{Told, _⟶_, begin, write, commit, install, merge, emit, replay, value, even, callsOf}
 
 unfoldable pub firstScript : List Told
 firstScript =
@@ -17,4 +17,4 @@ firstScript =
     ∷ []
 
 unfoldable pub firstCalls : List Call
-firstCalls = callsOf 1 firstScript
+firstCalls = callsOf (even 1) firstScript

@@ -11,6 +11,7 @@ use Rattle.laws.specs.Scan.{firstBelow}
 use Rattle.kinds.specs.Sizes as sizes
 use Rattle.kinds.specs.State.{Value}
 use Rattle.kinds.specs.declared.Answer.{Answer}
+use Rattle.kinds.specs.declared.House.{House}
 use Rattle.rules.specs.House.{coordinatorOf}
 use Rattle.rules.specs.Message.{messageHead}
 use Rattle.rules.specs.World.{World, Call, step, freshWorld}
@@ -87,6 +88,10 @@ linesOf script = map (λ (t : Told). t .line) script
 unfoldable pub answersOf : List Told → List Answer
 answersOf script = map (λ (t : Told). t .answer) script
 
--- the calls that a script makes in a fresh house of so many sites
-unfoldable pub callsOf : ℕ → List Told → List Call
-callsOf sites script = callsFrom (freshWorld sites) (linesOf script)
+-- a house of n sites
+abbrev pub even : ℕ → House
+even n = record { sites = n }
+
+-- the calls that a script makes in a fresh house
+unfoldable pub callsOf : House → List Told → List Call
+callsOf o script = callsFrom (freshWorld o) (linesOf script)

@@ -10,7 +10,7 @@ use Rattle.rules.specs.Course.{headOf}
 use Rattle.rules.specs.World.{Call}
 use Rattle.rules.specs.Book.{Fact, began, used, wrote, committed, installed, replayed}
 use Rattle.played.specs.Script.{Told, _⟶_, begin, enlist, read, write, search, commit, commitAt, abandon, take, install, report}
-use Rattle.played.specs.Script.{merge, emit, replay, value, callsOf}
+use Rattle.played.specs.Script.{merge, emit, replay, value, even, callsOf}
 
 -- the first, second and third of site 1, the first and second of site 2
 abbrev pub spanning : ℕ
@@ -135,7 +135,7 @@ secondScript =
     ∷ []
 
 unfoldable pub secondCalls : List Call
-secondCalls = callsOf 2 secondScript
+secondCalls = callsOf (even 2) secondScript
 
 -- What it sends, in order. An entry is a transaction, its participants and its mark; of the VOTEs, argument 0 is yes.
 unfoldable pub sends : (kind from to number tx clock argument : ℕ) (entries : List ℕ) → List ℕ

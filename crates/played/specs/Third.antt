@@ -5,7 +5,7 @@ use mathlib.Core.List.{List, [], _∷_}
 use Rattle.kinds.specs.declared.Answer.the-variants.{Refused, Done, Begun, Found, Committed, Installed}
 use Rattle.kinds.specs.Kind as kind
 use Rattle.rules.specs.World.{Call}
-use Rattle.played.specs.Script.{Told, _⟶_, begin, enlist, read, write, commit, take, install, callsOf}
+use Rattle.played.specs.Script.{Told, _⟶_, begin, enlist, read, write, commit, take, install, even, callsOf}
 use Rattle.played.specs.Second.{sends}
 
 -- the first of site 1 and of site 2
@@ -58,7 +58,7 @@ thirdScript =
     ∷ []
 
 unfoldable pub thirdCalls : List Call
-thirdCalls = callsOf 2 thirdScript
+thirdCalls = callsOf (even 2) thirdScript
 
 -- what it sends: JOIN's argument is the desk
 unfoldable pub thirdMail : List (List ℕ)

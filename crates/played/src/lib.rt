@@ -8,7 +8,7 @@ ghost use Rattle.rules.specs.World.{Lawful, freshWorld, run};
 ghost use Rattle.rules.specs.Book.{bookFrom};
 ghost use Rattle.rules.specs.Claim.{Committed};
 ghost use Rattle.rules.specs.Desks.{BegunFor};
-ghost use Rattle.played.specs.Script.{answersFrom, answersOf};
+ghost use Rattle.played.specs.Script.{even, answersFrom, answersOf};
 ghost use Rattle.played.specs.First.{firstScript, firstCalls};
 ghost use Rattle.played.specs.Second.{secondScript, secondCalls, secondMail, secondBook, spanning, halfSeeing, later};
 ghost use Rattle.played.specs.Third.{thirdScript, thirdCalls, thirdMail, proofing, whole};
@@ -16,22 +16,22 @@ ghost use Rattle.played.specs.Seen.{SawBoth, SawHalf};
 
 // The worked script H2.
 pub fn first_script_plays()
-    ensures { λ _. ⌜ Lawful (freshWorld 1) firstCalls
-        × (answersFrom (freshWorld 1) firstCalls ≡ answersOf firstScript)
-        × (valueOf (run (freshWorld 1) firstCalls .copy 1) 5 ≡ Standing 700 1 1) ⌝ }
+    ensures { λ _. ⌜ Lawful (freshWorld (even 1)) firstCalls
+        × (answersFrom (freshWorld (even 1)) firstCalls ≡ answersOf firstScript)
+        × (valueOf (run (freshWorld (even 1)) firstCalls .copy 1) 5 ≡ Standing 700 1 1) ⌝ }
 {}
 
 // Commits at two sites, an abort 18, messages and records handed in twice, and two copies.
 pub fn second_script_plays()
-    ensures { λ _. ⌜ Lawful (freshWorld 2) secondCalls
-        × (answersFrom (freshWorld 2) secondCalls ≡ answersOf secondScript)
-        × (run (freshWorld 2) secondCalls .sent ≡ secondMail)
-        × (bookFrom (freshWorld 2) secondCalls ≡ secondBook)
-        × (valueOf (run (freshWorld 2) secondCalls .copy 1) 5 ≡ Standing 700 3 2)
-        × (valueOf (run (freshWorld 2) secondCalls .copy 1) 6 ≡ Standing 600 3 2)
-        × (valueOf (run (freshWorld 2) secondCalls .copy 1) 7 ≡ Standing 0 3 2)
-        × (valueOf (run (freshWorld 2) secondCalls .copy 1) 261 ≡ Standing 901 3 2)
-        × (valueOf (run (freshWorld 2) secondCalls .copy 2) 261 ≡ Standing 900 1 1) ⌝ }
+    ensures { λ _. ⌜ Lawful (freshWorld (even 2)) secondCalls
+        × (answersFrom (freshWorld (even 2)) secondCalls ≡ answersOf secondScript)
+        × (run (freshWorld (even 2)) secondCalls .sent ≡ secondMail)
+        × (bookFrom (freshWorld (even 2)) secondCalls ≡ secondBook)
+        × (valueOf (run (freshWorld (even 2)) secondCalls .copy 1) 5 ≡ Standing 700 3 2)
+        × (valueOf (run (freshWorld (even 2)) secondCalls .copy 1) 6 ≡ Standing 600 3 2)
+        × (valueOf (run (freshWorld (even 2)) secondCalls .copy 1) 7 ≡ Standing 0 3 2)
+        × (valueOf (run (freshWorld (even 2)) secondCalls .copy 1) 261 ≡ Standing 901 3 2)
+        × (valueOf (run (freshWorld (even 2)) secondCalls .copy 2) 261 ≡ Standing 900 1 1) ⌝ }
 {}
 
 // In its book one saw `spanning` at both sites and committed; one saw it at site 1 only and did not.
@@ -42,9 +42,9 @@ pub fn half_seeing_did_not_commit()
 
 // Two desks: a fifth key is refused at the coordinator and at a participant, and the desk is that of `rules::desks_kept`.
 pub fn third_script_plays()
-    ensures { λ _. ⌜ Lawful (freshWorld 2) thirdCalls
-        × (answersFrom (freshWorld 2) thirdCalls ≡ answersOf thirdScript)
-        × (run (freshWorld 2) thirdCalls .sent ≡ thirdMail)
-        × BegunFor 2 thirdCalls proofing 1
-        × BegunFor 2 thirdCalls whole 0 ⌝ }
+    ensures { λ _. ⌜ Lawful (freshWorld (even 2)) thirdCalls
+        × (answersFrom (freshWorld (even 2)) thirdCalls ≡ answersOf thirdScript)
+        × (run (freshWorld (even 2)) thirdCalls .sent ≡ thirdMail)
+        × BegunFor (even 2) thirdCalls proofing 1
+        × BegunFor (even 2) thirdCalls whole 0 ⌝ }
 {}

@@ -8,7 +8,7 @@ use Rattle.kinds.specs.Sizes as sizes
 use Rattle.kinds.specs.State.{Value, fresh}
 use Rattle.kinds.specs.declared.House.{House}
 use Rattle.kinds.specs.declared.Answer.the-variants.{Standing}
-use Rattle.rules.specs.House.{homeOf}
+use Rattle.rules.specs.House.{homeOf, GoodHouse}
 use Rattle.rules.specs.Copy.{valueOf}
 use Rattle.rules.specs.World.{Call, World, Member, Lawful, freshWorld, run}
 use Rattle.rules.specs.Book as book
@@ -124,8 +124,8 @@ pub record Holds (o : House) (b : List Fact) (w : World) : Type 0 where
   pub writers : WritersInOrder o b
   pub half-seen : NoneHalfSeen b
 
--- the claim: any list of the fourteen calls, from a fresh house of 1 to 8 sites
+-- the claim: any list of the fourteen calls, from a fresh house that is good
 unfoldable pub Demand3 : Type 0
 Demand3 =
-    (sites : ℕ) (calls : List Call) → 1 ≤ sites → sites ≤ sizes.sites → Lawful (freshWorld sites) calls
-    → Holds (record { sites = sites }) (bookFrom (freshWorld sites) calls) (run (freshWorld sites) calls)
+    (o : House) (calls : List Call) → GoodHouse o → Lawful (freshWorld o) calls
+    → Holds o (bookFrom (freshWorld o) calls) (run (freshWorld o) calls)

@@ -11,7 +11,7 @@ use Rattle.kinds.specs.declared.Site.{Site}
 use Rattle.kinds.specs.declared.Sub.{Sub}
 use Rattle.kinds.specs.declared.Answer.{Answer}
 use Rattle.kinds.specs.declared.Answer.the-variants.{Refused, Done, Begun}
-use Rattle.rules.specs.House.{homeOf, isSite}
+use Rattle.rules.specs.House.{homeOf, isSite, GoodHouse}
 use Rattle.rules.specs.Desk.{isDesk, writeLimit}
 use Rattle.rules.specs.Keys.{wroteKey}
 use Rattle.rules.specs.Live.{isPartOf, placeOf, keyHeld, stageAt}
@@ -67,12 +67,12 @@ unfoldable pub WritesLimited : Type 0
 WritesLimited = (s : Site) (tx k : ℕ) (v : Value) → Limited s tx k v
 
 -- In the list a begin for desk d answers tx.
-pub record BegunFor (sites : ℕ) (list : List Call) (tx d : ℕ) : Type 0 where
+pub record BegunFor (o : House) (list : List Call) (tx d : ℕ) : Type 0 where
   pub calls : List Call
   pub more : List Call
   pub at : ℕ
   pub split : list ≡ calls ++ (world.begin at d ∷ more)
-  pub answers : step (run (freshWorld sites) calls) (world.begin at d) .answer ≡ Begun tx
+  pub answers : step (run (freshWorld o) calls) (world.begin at d) .answer ≡ Begun tx
 
 -- no key stands twice
 abbrev pub Different : List ℕ → Type 0
@@ -85,9 +85,9 @@ pub record DeskKept (o : House) (b : List Fact) (w : World) (tx d : ℕ) : Type 
   pub writes : (s : ℕ) (keys : List ℕ) → Different keys
       → ((i : ℕ) → i < length keys → (homeOf o (getD keys i 0) ≡ s) × Wrote b tx (getD keys i 0)) → length keys ≤ writeLimit d
 
--- the claim: any list of the fourteen calls, from a fresh house of 1 to 8 sites
+-- the claim: any list of the fourteen calls, from a fresh house that is good
 unfoldable pub DesksKept : Type 0
 DesksKept =
-    (sites : ℕ) (list : List Call) → 1 ≤ sites → sites ≤ sizes.sites → Lawful (freshWorld sites) list
-    → (tx d : ℕ) → BegunFor sites list tx d
-    → DeskKept (record { sites = sites }) (bookFrom (freshWorld sites) list) (run (freshWorld sites) list) tx d
+    (o : House) (list : List Call) → GoodHouse o → Lawful (freshWorld o) list
+    → (tx d : ℕ) → BegunFor o list tx d
+    → DeskKept o (bookFrom (freshWorld o) list) (run (freshWorld o) list) tx d

@@ -1,5 +1,5 @@
 -- S1 to S6, and F11: where a key lives, transaction numbers, masks of participants.
-use Prim.Native.Nat.{ℕ, _+_, _-_, _*_, _/_, _%_, _^_, _<_}
+use Prim.Native.Nat.{ℕ, _+_, _-_, _*_, _/_, _%_, _^_, _≤_, _<_}
 use mathlib.Core.Path.{_≡_}
 use mathlib.Core.Bool.{Bool}
 use mathlib.Core.List.{[], _∷_}
@@ -14,6 +14,11 @@ use Rattle.kinds.specs.declared.House.{House}
 -- 1 to 8 sites
 unfoldable pub houseOk : House → Bool
 houseOk h = every (leb 1 (h .sites) ∷ leb (h .sites) sizes.sites ∷ [])
+
+-- a house that a start accepts
+pub record GoodHouse (o : House) : Type 0 where
+  pub some : 1 ≤ o .sites
+  pub few : o .sites ≤ sizes.sites
 
 -- a site of the house
 unfoldable pub isSite : House → ℕ → Bool

@@ -11,7 +11,7 @@ use Rattle.kinds.specs.Reason as reason
 use Rattle.kinds.specs.declared.House.{House}
 use Rattle.kinds.specs.declared.Site.{Site}
 use Rattle.kinds.specs.declared.Answer.the-variants.{Refused}
-use Rattle.rules.specs.House.{isSite, isKey}
+use Rattle.rules.specs.House.{isSite, isKey, GoodHouse}
 use Rattle.rules.specs.Desk.{isDesk}
 use Rattle.rules.specs.Message.{messageHead, messageOk}
 use Rattle.rules.specs.Record.{partOk, stateOk, mergedOk}
@@ -65,9 +65,8 @@ NextGoes o w =
     h .channel ≡ getD (s .channels .taken) (h .from - 1) 0 + 1
     → (n : ℕ) → step w (world.message (h .to) out m) .answer ≡ Refused n → (n ≡ reason.spent) × CountEnds o s)
 
--- the claim: any list of the fourteen calls, from a fresh house of 1 to 8 sites
+-- the claim: any list of the fourteen calls, from a fresh house that is good
 unfoldable pub Possible : Type 0
 Possible =
-    (sites : ℕ) (calls : List Call) → 1 ≤ sites → sites ≤ sizes.sites → Lawful (freshWorld sites) calls
-    → (let o : House = record { sites = sites } in
-    let w = run (freshWorld sites) calls in StatesPossible o w × MessagesPass o w × NextGoes o w)
+    (o : House) (calls : List Call) → GoodHouse o → Lawful (freshWorld o) calls
+    → (let w = run (freshWorld o) calls in StatesPossible o w × MessagesPass o w × NextGoes o w)

@@ -7,10 +7,12 @@ use mathlib.Core.List.{List, []}
 use lib.ListN.{length, getD, replicate}
 use Rattle.laws.specs.Pair.{precedes}
 use Rattle.kinds.specs.Sizes as sizes
+use Rattle.kinds.specs.declared.House.{House}
 use Rattle.kinds.specs.Kind as kind
 use Rattle.kinds.specs.Reason as reason
 use Rattle.kinds.specs.declared.RecordHead.{RecordHead}
 use Rattle.kinds.specs.declared.Answer.the-variants.{Refused, Done}
+use Rattle.rules.specs.House.{GoodHouse}
 use Rattle.rules.specs.Message.{messageHead}
 use Rattle.rules.specs.Record.{recordHead}
 use Rattle.rules.specs.World as world
@@ -28,11 +30,11 @@ NoneOutOfTurn w =
 abbrev pub NoneUnknown : World → Type 0
 NoneUnknown w = (m : List ℕ) → Member m (w .sent) → messageHead m .kind ≡ kind.vote → messageHead m .argument ≡ reason.unknown → ⊥
 
--- the claim: any list of the fourteen calls, from a fresh house of 1 to 8 sites
+-- the claim: any list of the fourteen calls, from a fresh house that is good
 unfoldable pub MessagesProgress : Type 0
 MessagesProgress =
-    (sites : ℕ) (calls : List Call) → 1 ≤ sites → sites ≤ sizes.sites → Lawful (freshWorld sites) calls
-    → NoneOutOfTurn (run (freshWorld sites) calls) × NoneUnknown (run (freshWorld sites) calls)
+    (o : House) (calls : List Call) → GoodHouse o → Lawful (freshWorld o) calls
+    → NoneOutOfTurn (run (freshWorld o) calls) × NoneUnknown (run (freshWorld o) calls)
 
 -- the i-th record of the log of s
 abbrev pub recordAt : World → ℕ → ℕ → RecordHead
@@ -59,9 +61,9 @@ abbrev pub DueIsWhole : World → Type 0
 DueIsWhole w = (out : List ℕ) → step w (world.emit out) .answer ≡ Refused reason.notWhole → ⊥
 
 -- the merger has taken all of every log, and each has a state at or above n
-abbrev pub Drained : ℕ → World → ℕ → Type 0
-Drained sites w n =
-    (s : ℕ) → 1 ≤ s → s ≤ sites
+abbrev pub Drained : House → World → ℕ → Type 0
+Drained o w n =
+    (s : ℕ) → 1 ≤ s → s ≤ o .sites
     → (w .merged s ≡ length (w .log s))
     × ((i : ℕ) × (i < length (w .log s)) × (recordAt w s i .kind ≡ kind.state) × (n ≤ recordAt w s i .number))
 
@@ -70,14 +72,14 @@ abbrev pub InStream : World → ℕ → Type 0
 InStream w tx = (i : ℕ) × (i < length (w .stream)) × (recordHead (getD (w .stream) i []) .tx ≡ tx)
 
 -- then emits, as many as it takes, bring out every committed transaction with a number up to n
-abbrev pub Drains : ℕ → List Fact → World → Type 0
-Drains sites b w =
-    (n tx m c : ℕ) (out : List ℕ) → Drained sites w n → Committed b tx m c → m ≤ n → sizes.merged ≤ length out
+abbrev pub Drains : House → List Fact → World → Type 0
+Drains o b w =
+    (n tx m c : ℕ) (out : List ℕ) → Drained o w n → Committed b tx m c → m ≤ n → sizes.merged ≤ length out
     → (k : ℕ) × InStream (run w (replicate k (world.emit out))) tx
 
 -- the claim, of the same lists
 unfoldable pub RecordsProgress : Type 0
 RecordsProgress =
-    (sites : ℕ) (calls : List Call) → 1 ≤ sites → sites ≤ sizes.sites → Lawful (freshWorld sites) calls
-    → (let w = run (freshWorld sites) calls in
-    LogsAscend w × NextTaken w × DueIsWhole w × Drains sites (bookFrom (freshWorld sites) calls) w)
+    (o : House) (calls : List Call) → GoodHouse o → Lawful (freshWorld o) calls
+    → (let w = run (freshWorld o) calls in
+    LogsAscend w × NextTaken w × DueIsWhole w × Drains o (bookFrom (freshWorld o) calls) w)

@@ -3,8 +3,10 @@ use Prim.Native.Nat.{ℕ, _≤_}
 use mathlib.Core.Path.{_≡_}
 use mathlib.Core.List.{List}
 use Rattle.kinds.specs.Sizes as sizes
+use Rattle.kinds.specs.declared.House.{House}
 use Rattle.kinds.specs.State.{Value}
 use Rattle.kinds.specs.declared.Answer.the-variants.{Found}
+use Rattle.rules.specs.House.{GoodHouse}
 use Rattle.rules.specs.World as world
 use Rattle.rules.specs.World.{Call, Lawful, freshWorld, step, run}
 use Rattle.rules.specs.Book.{Fact, began, installed, bookFrom}
@@ -21,10 +23,10 @@ pub data ReadLeft (b : List Fact) (s tx key : ℕ) (v : Value) : Type 0 where
   own : LastWrite b tx key v → ReadLeft b s tx key v
   seen : (none : Wrote b tx key → ⊥) → LeftOf b (SeenBy b s tx) key v → ReadLeft b s tx key v
 
--- the claim: a read after any list of the fourteen calls, from a fresh house of 1 to 8 sites. Each read of a list comes after those
+-- the claim: a read after any list of the fourteen calls, from a fresh house that is good. Each read of a list comes after those
 -- before it.
 unfoldable pub ReadsRight : Type 0
 ReadsRight =
-    (sites : ℕ) (calls : List Call) → 1 ≤ sites → sites ≤ sizes.sites → Lawful (freshWorld sites) calls
-    → (s tx key : ℕ) (v : Value) → step (run (freshWorld sites) calls) (world.read s tx key) .answer ≡ Found v
-    → ReadLeft (bookFrom (freshWorld sites) calls) s tx key v
+    (o : House) (calls : List Call) → GoodHouse o → Lawful (freshWorld o) calls
+    → (s tx key : ℕ) (v : Value) → step (run (freshWorld o) calls) (world.read s tx key) .answer ≡ Found v
+    → ReadLeft (bookFrom (freshWorld o) calls) s tx key v

@@ -10,6 +10,7 @@ use lib.Dec.{eqb, ltb}
 use Rattle.laws.specs.Choice.{pick, every}
 use Rattle.kinds.specs.Sizes as sizes
 use Rattle.kinds.specs.State.{Value}
+use Rattle.kinds.specs.declared.House.{House}
 use Rattle.kinds.specs.declared.Site.{Site}
 use Rattle.kinds.specs.declared.Merger.{Merger}
 use Rattle.kinds.specs.declared.Answer.{Answer}
@@ -61,15 +62,15 @@ pub record World : Type 0 where
   pub merged : ℕ → ℕ
   pub replayed : ℕ → ℕ
 
--- a fresh house of n sites, as the start calls leave it; a site that it lacks refuses every call
-unfoldable pub freshWorld : ℕ → World
-freshWorld n =
+-- a fresh house, as the start calls leave it; a site that it lacks refuses every call
+unfoldable pub freshWorld : House → World
+freshWorld o =
     record {
-      site = λ s. startOf n s sizes.keys sizes.lists .site;
-      base = λ s. startTable (startCode n s sizes.keys sizes.lists) (replicate sizes.keys 0);
-      lists = λ s. startTable (startCode n s sizes.keys sizes.lists) (replicate sizes.lists 0);
-      merger = mergerStartOf n (replicate sizes.queues 0) .merger;
-      queues = mergerStartOf n (replicate sizes.queues 0) .queues;
+      site = λ s. startOf (o .sites) s sizes.keys sizes.lists .site;
+      base = λ s. startTable (startCode (o .sites) s sizes.keys sizes.lists) (replicate sizes.keys 0);
+      lists = λ s. startTable (startCode (o .sites) s sizes.keys sizes.lists) (replicate sizes.lists 0);
+      merger = mergerStartOf (o .sites) (replicate sizes.queues 0) .merger;
+      queues = mergerStartOf (o .sites) (replicate sizes.queues 0) .queues;
       copy = λ c. copyStartOf (replicate sizes.copy 0) .copy;
       sent = [];
       log = λ s. [];

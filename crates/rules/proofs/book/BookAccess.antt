@@ -7,6 +7,7 @@ use mathlib.Core.List.{List, [], _∷_, _++_, append-assoc}
 use native.Mathlib.Omega.{arith}
 use borrow.Author.Tests.{eqb-true, eqb-false}
 use lib.Dec.{eqb}
+use Rattle.kinds.specs.declared.House.{House}
 use Rattle.laws.specs.Choice.{by-test}
 use Rattle.kinds.specs.State.{Value}
 use Rattle.kinds.specs.declared.Keys.{Keys}
@@ -23,14 +24,14 @@ use Rattle.rules.proofs.book.Booked.{home, UsedIn, Booked}
 use Rattle.rules.proofs.book.BookKept.{commits-kept, begins-kept, installs-kept, sees-kept, at-same}
 
 -- What an access tells: uses and writes of t at keys of s, which its keys have; and they keep what they had, but for a key written now.
-pub record Tells (sites s t : ℕ) (old new : Keys) (fs : List Fact) : Type 0 where
+pub record Tells (house : House) (s t : ℕ) (old new : Keys) (fs : List Fact) : Type 0 where
   pub kind : OfKind 1 fs
-  pub used : (u k : ℕ) → Member (book.used u k) fs → (u ≡ t) × (home sites k ≡ s) × UsedIn new k
-  pub wrote : (u k : ℕ) (v : Value) → Member (book.wrote u k v) fs → (u ≡ t) × (home sites k ≡ s) × (wroteKey new k ≡ true)
+  pub used : (u k : ℕ) → Member (book.used u k) fs → (u ≡ t) × (home house k ≡ s) × UsedIn new k
+  pub wrote : (u k : ℕ) (v : Value) → Member (book.wrote u k v) fs → (u ≡ t) × (home house k ≡ s) × (wroteKey new k ≡ true)
   pub read : (k : ℕ) → readKey old k ≡ true → readKey new k ≡ true
   pub last : (b : List Fact) (k : ℕ) → wroteKey new k ≡ true
-      → (wroteKey old k ≡ true → (home sites k ≡ s) × LastWrite b t k (wroteValue old k))
-      → (home sites k ≡ s) × LastWrite (b ++ fs) t k (wroteValue new k)
+      → (wroteKey old k ≡ true → (home house k ≡ s) × LastWrite b t k (wroteValue old k))
+      → (home house k ≡ s) × LastWrite (b ++ fs) t k (wroteValue new k)
 
 is-wrote : {u t k j n : ℕ} {x v : Value} → Member (book.wrote u k x) (book.used t n ∷ book.wrote t j v ∷ []) → (u ≡ t) × (k ≡ j)
 is-wrote (there here) = (refl, refl)
@@ -45,8 +46,8 @@ is-used-wrote : {u t k j n : ℕ} {v : Value} → Member (book.used u k) (book.u
 is-used-wrote here = (refl, refl)
 is-used-wrote (there (there i)) = absurd (none-is i)
 
-pub tells : {sites s t : ℕ} {old new : Keys} {fs : List Fact} → Accessed sites s t old new fs → Tells sites s t old new fs
-tells {sites} {s} {t} {old} {new} (reads k h c r w) =
+pub tells : {house : House} {s t : ℕ} {old new : Keys} {fs : List Fact} → Accessed house s t old new fs → Tells house s t old new fs
+tells {house} {s} {t} {old} {new} (reads k h c r w) =
     record {
       kind = all-one refl;
       used = λ u j i. let (a, e) = is-used i in (a, rw e h, rw e c);
@@ -58,7 +59,7 @@ tells {sites} {s} {t} {old} {new} (reads k h c r w) =
           let (o, z) = f y in
           (o, rw (v y) (last-kept (book.used t k ∷ []) (λ u i. none-wrote i) z));
     }
-tells {sites} {s} {t} {old} {new} (writes k v h x y r w) =
+tells {house} {s} {t} {old} {new} (writes k v h x y r w) =
     record {
       kind = a-cons refl (all-one refl);
       used = λ u j i. let (a, e) = is-used-wrote i in (a, rw e h, inr (rw e x));
@@ -86,41 +87,41 @@ pub record AccessedAs (p q : Protocol) (s t : ℕ) (new : Keys) : Type 0 where
   pub num : q .num ≡ p .num
   pub parts : (j : ℕ) → inst q j ≡ inst p j
 
-module _ {sites : ℕ} {b fs : List Fact} {p q : Protocol} {s t : ℕ} {new : Keys} (c : AccessedAs p q s t new) (i : Booked sites b p)
-    (a : Tells sites s t (p .keys s t) new fs) (w : (k : ℕ) → wroteKey (p .keys s t) k ≡ true → wroteKey new k ≡ true) where
+module _ {house : House} {b fs : List Fact} {p q : Protocol} {s t : ℕ} {new : Keys} (c : AccessedAs p q s t new) (i : Booked house b p)
+    (a : Tells house s t (p .keys s t) new fs) (w : (k : ℕ) → wroteKey (p .keys s t) k ≡ true → wroteKey new k ≡ true) where
   -- keys that the access kept
   still : (P : Keys → Type 0) → (P (p .keys s t) → P new) → (j u : ℕ) → P (p .keys j u) → P (q .keys j u)
   still P f = rw (c .keys) (upd₂-cases (λ j u z. P (p .keys j u) → P z) (p .keys) s t new f (λ j u n x. x))
 
   -- what the access told is of t at s
-  now : (P : Keys → Type 0) (k u : ℕ) → (u ≡ t) × (home sites k ≡ s) × P new
-      → (q .has (home sites k) u ≡ true) × P (q .keys (home sites k) u)
+  now : (P : Keys → Type 0) (k u : ℕ) → (u ≡ t) × (home house k ≡ s) × P new
+      → (q .has (home house k) u ≡ true) × P (q .keys (home house k) u)
   now P k u (e, h, x) = rw (c .has, c .keys, e, h) (c .begun, rw (upd₂-same (p .keys) s t new) x)
 
   wrote : (u k : ℕ) (v : Value) → Member (book.wrote u k v) b ⊎ Member (book.wrote u k v) fs
-      → (q .has (home sites k) u ≡ true) × (wroteKey (q .keys (home sites k) u) k ≡ true)
+      → (q .has (home house k) u ≡ true) × (wroteKey (q .keys (home house k) u) k ≡ true)
   wrote u k v (inl x) =
       let (h, y) = i .writes .wrote u k v x in
-      (rw (c .has) h, still (λ z. wroteKey z k ≡ true) (w k) (home sites k) u y)
+      (rw (c .has) h, still (λ z. wroteKey z k ≡ true) (w k) (home house k) u y)
   wrote u k v (inr x) = now (λ z. wroteKey z k ≡ true) k u (a .wrote u k v x)
 
-  used : (u k : ℕ) → Member (book.used u k) b ⊎ Member (book.used u k) fs → (q .has (home sites k) u ≡ true) × UsedIn
-      (q .keys (home sites k) u) k
+  used : (u k : ℕ) → Member (book.used u k) b ⊎ Member (book.used u k) fs → (q .has (home house k) u ≡ true) × UsedIn
+      (q .keys (home house k) u) k
   used u k (inl x) =
       let (h, y) = i .writes .used u k x in
-      (rw (c .has) h, still (λ z. UsedIn z k) (⊎-elim (λ e. inl (a .read k e)) (λ e. inr (w k e))) (home sites k) u y)
+      (rw (c .has) h, still (λ z. UsedIn z k) (⊎-elim (λ e. inl (a .read k e)) (λ e. inr (w k e))) (home house k) u y)
   used u k (inr x) = now (λ z. UsedIn z k) k u (a .used u k x)
 
   last : (k j u : ℕ) → q .has j u ≡ true → wroteKey (q .keys j u) k ≡ true
-      → (home sites k ≡ j) × LastWrite (b ++ fs) u k (wroteValue (q .keys j u) k)
+      → (home house k ≡ j) × LastWrite (b ++ fs) u k (wroteValue (q .keys j u) k)
   last k = rw (c .has, c .keys)
-      (upd₂-cases (λ j u z. p .has j u ≡ true → wroteKey z k ≡ true → (home sites k ≡ j) × LastWrite (b ++ fs) u k (wroteValue z k))
+      (upd₂-cases (λ j u z. p .has j u ≡ true → wroteKey z k ≡ true → (home house k ≡ j) × LastWrite (b ++ fs) u k (wroteValue z k))
       (p .keys) s t new
       (λ h x. a .last b k x (i .writes .last s t k h))
       (λ j u n h x. let (o, m) = i .writes .last j u k h x in
       (o, last-kept fs (λ v y. let (e, f, g) = a .wrote u k v y in n (sym o ∙ f, e)) m)))
 
-  pub booked-accessed : Booked sites (b ++ fs) q
+  pub booked-accessed : Booked house (b ++ fs) q
   booked-accessed =
       record {
         commits = commits-kept (a .kind) (λ z. omega arith) (c .num) (i .commits);

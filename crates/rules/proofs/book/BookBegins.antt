@@ -6,6 +6,7 @@ use mathlib.Core.Logic.{_⊎_, inl, inr, ⊎-elim}
 use mathlib.Core.List.{List, [], _∷_, _++_}
 use native.Mathlib.Omega.{arith}
 use lib.ListN.{length}
+use Rattle.kinds.specs.declared.House.{House}
 use Rattle.kinds.specs.declared.Keys.{Keys}
 use Rattle.kinds.specs.State.{noKeys}
 use Rattle.rules.specs.KeysLaws.{none-written}
@@ -36,7 +37,7 @@ pub record BeganAs (p q : Protocol) (s t : ℕ) : Type 0 where
   pub num : q .num ≡ p .num
   pub parts : (j : ℕ) → inst q j ≡ inst p j
 
-module _ {sites : ℕ} {b : List Fact} {p q : Protocol} {s t : ℕ} (c : BeganAs p q s t) (i : Booked sites b p) where
+module _ {house : House} {b : List Fact} {p q : Protocol} {s t : ℕ} (c : BeganAs p q s t) (i : Booked house b p) where
   abbrev l : List Fact
   l = book.began s t ∷ []
 
@@ -76,9 +77,9 @@ module _ {sites : ℕ} {b : List Fact} {p q : Protocol} {s t : ℕ} (c : BeganAs
   had j u x = rw (c .has) (kept₂ (p .has) s t j u x)
 
   last : (k j u : ℕ) → q .has j u ≡ true → wroteKey (q .keys j u) k ≡ true
-      → (home sites k ≡ j) × LastWrite (b ++ l) u k (wroteValue (q .keys j u) k)
+      → (home house k ≡ j) × LastWrite (b ++ l) u k (wroteValue (q .keys j u) k)
   last k = rw (c .has, c .keys)
-      (upd₂-both (λ j u h z. h ≡ true → wroteKey z k ≡ true → (home sites k ≡ j) × LastWrite (b ++ l) u k (wroteValue z k)) (p .has)
+      (upd₂-both (λ j u h z. h ≡ true → wroteKey z k ≡ true → (home house k ≡ j) × LastWrite (b ++ l) u k (wroteValue z k)) (p .has)
       (p .keys) s t true noKeys
       (λ x w. absurd (none-written k w))
       (λ j u n x w. let (o, z) = i .writes .last j u k x w in (o, last-kept l (λ v y. clash (all-is a y)) z)))
@@ -86,16 +87,16 @@ module _ {sites : ℕ} {b : List Fact} {p q : Protocol} {s t : ℕ} (c : BeganAs
       clash : _≡_ {A = ℕ} 1 0 → ⊥
       clash z = omega arith
 
-  writes : Writes sites (b ++ l) q
+  writes : Writes house (b ++ l) q
   writes =
       record {
         wrote = λ u k v x.
             let (h, w) = i .writes .wrote u k v (old b l a (λ z. omega arith) x) in
-            (had (home sites k) u h, other (λ z. wroteKey z k ≡ true) (home sites k) u h w);
+            (had (home house k) u h, other (λ z. wroteKey z k ≡ true) (home house k) u h w);
         last = λ j u k. last k j u;
         used = λ u k x.
             let (h, w) = i .writes .used u k (old b l a (λ z. omega arith) x) in
-            (had (home sites k) u h, other (λ z. UsedIn z k) (home sites k) u h w);
+            (had (home house k) u h, other (λ z. UsedIn z k) (home house k) u h w);
       }
 
   abbrev Sight : ℕ → ℕ → ℕ → ℕ → Type 0
@@ -132,7 +133,7 @@ module _ {sites : ℕ} {b : List Fact} {p q : Protocol} {s t : ℕ} (c : BeganAs
       (λ x d z. before-here (i .installs .installs s m n e d z) here)
       (λ j u o x d z. before-kept l (i .sees .before j u m n e x d z)))
 
-  pub booked-began : Booked sites (b ++ (book.began s t ∷ [])) q
+  pub booked-began : Booked house (b ++ (book.began s t ∷ [])) q
   booked-began =
       record {
         commits = commits-kept a (λ z. omega arith) (c .num) (i .commits);

@@ -56,8 +56,8 @@ module _ {o : House} {b : List Fact} {p : Protocol} (i : BookIs o b p) (n c k : 
       })
 
 -- what is claimed of a copy
-pub copy-holds : {sites : ℕ} {b : List Fact} {p : Protocol} {w : World} {c k : ℕ} → BookIs (record { sites = sites }) b p
-    → CopyStands sites p (w .copy c) k
+pub copy-holds : {house : House} {b : List Fact} {p : Protocol} {w : World} {c k : ℕ} → BookIs house b p
+    → CopyStands house p (w .copy c) k
     → LastReplay c b (copyNumber (w .copy c)) (copyCoordinator (w .copy c)) → CopyHolds b w c k
 copy-holds {b = b} {p = p} i s r =
     record {

@@ -7,6 +7,7 @@ use mathlib.Core.List.{List, [], _∷_, _++_}
 use native.Mathlib.Omega.{arith}
 use lib.ListN.{length, getD, length-append, List·getD-append}
 use lib.Seq.{getD-append-seam}
+use Rattle.kinds.specs.declared.House.{House}
 use Rattle.laws.specs.Choice.{by-same}
 use Rattle.kinds.specs.declared.Entry.{Entry}
 use Rattle.kinds.specs.State.{pastEntry}
@@ -38,7 +39,7 @@ pub record DecidedAs (p q : Protocol) (t n : ℕ) : Type 0 where
 is-committed : {u m d t n c : ℕ} → Member (book.committed u m d) (book.committed t n c ∷ []) → (u ≡ t) × (m ≡ n) × (d ≡ c)
 is-committed here = (refl, refl, refl)
 
-module _ {sites : ℕ} {b : List Fact} {p q : Protocol} {t n : ℕ} (c : DecidedAs p q t n) (i : Booked sites b p) where
+module _ {house : House} {b : List Fact} {p q : Protocol} {t n : ℕ} (c : DecidedAs p q t n) (i : Booked house b p) where
   abbrev told : List Fact
   told = book.committed t n (coordinatorOf t) ∷ []
 
@@ -63,7 +64,7 @@ module _ {sites : ℕ} {b : List Fact} {p q : Protocol} {t n : ℕ} (c : Decided
       (upd-cases (λ u k. 0 < k → Member (book.committed u k (coordinatorOf u)) (b ++ told)) (p .num) t n (λ z. is-last b)
       (λ u o z. is-kept told (i .commits .committed u z)))
 
-  pub booked-decided : Booked sites (b ++ (book.committed t n (coordinatorOf t) ∷ [])) q
+  pub booked-decided : Booked house (b ++ (book.committed t n (coordinatorOf t) ∷ [])) q
   booked-decided =
       record {
         commits = record { commit = λ u m d x. commit u m d (is-append b told x); committed = committed };
@@ -90,7 +91,7 @@ is-installed here = (refl, refl, refl)
 abbrev PairIn : List Entry → ℕ → ℕ → ℕ → Type 0
 PairIn l m n d = (getD l m pastEntry .number ≡ n) × (coordinatorOf (getD l m pastEntry .tx) ≡ d)
 
-module _ {sites : ℕ} {b : List Fact} {p q : Protocol} {s : ℕ} {e : Entry} (c : InstalledAs p q s e) (i : Booked sites b p) where
+module _ {house : House} {b : List Fact} {p q : Protocol} {s : ℕ} {e : Entry} (c : InstalledAs p q s e) (i : Booked house b p) where
   abbrev fact : List Fact
   fact = book.installed s (e .number) (coordinatorOf (e .tx)) ∷ []
 
@@ -157,7 +158,7 @@ module _ {sites : ℕ} {b : List Fact} {p q : Protocol} {s : ℕ} {e : Entry} (c
       (λ z. rw (c .log, upd-other (p .log) s (p .log s ++ (rPart e ∷ [])) j z)
       (omega (arith, installs-append j b fact, install-away j s (e .number) (coordinatorOf (e .tx)) z, i .installs .many j)))
 
-  pub booked-installed : Booked sites (b ++ (book.installed s (e .number) (coordinatorOf (e .tx)) ∷ [])) q
+  pub booked-installed : Booked house (b ++ (book.installed s (e .number) (coordinatorOf (e .tx)) ∷ [])) q
   booked-installed =
       record {
         commits = commits-kept installed-kind (λ z. omega arith) (c .num) (i .commits);

@@ -5,6 +5,7 @@ use mathlib.Core.Bool.{true}
 use mathlib.Core.List.{List, [], _∷_, _++_}
 use native.Mathlib.Omega.{arith}
 use lib.ListN.{getD}
+use Rattle.kinds.specs.declared.House.{House}
 use Rattle.kinds.specs.declared.Entry.{Entry}
 use Rattle.kinds.specs.State.{pastEntry}
 use Rattle.rules.specs.Book as book
@@ -33,7 +34,7 @@ module _ {b l : List Fact} {p q : Protocol} {k : ℕ} (a : OfKind k l) where
         once = λ s t x. i .once s t (before-old b l (λ z. n (all-is a z)) x);
       }
 
-  pub writes-kept : {sites : ℕ} → (1 ≡ k → ⊥) → q .has ≡ p .has → q .keys ≡ p .keys → Writes sites b p → Writes sites (b ++ l) q
+  pub writes-kept : {house : House} → (1 ≡ k → ⊥) → q .has ≡ p .has → q .keys ≡ p .keys → Writes house b p → Writes house (b ++ l) q
   writes-kept n h e i =
       record {
         wrote = λ t j v x. rw (h, e) (i .wrote t j v (old b l a n x));
@@ -75,8 +76,8 @@ Same p q = (q .has ≡ p .has) × (q .snap ≡ p .snap) × (q .keys ≡ p .keys)
 pub at-same : (p q : Protocol) → ((s : ℕ) → inst q s ≡ inst p s) → (s j : ℕ) → at q s j ≡ at p s j
 at-same p q e s j = ap (λ (l : List Entry). getD l j pastEntry) (e s)
 
-pub booked-kept : {sites : ℕ} {b l : List Fact} {p q : Protocol} (k : ℕ) → OfKind k l → 3 < k → Same p q → Booked sites b p
-    → Booked sites (b ++ l) q
+pub booked-kept : {house : House} {b l : List Fact} {p q : Protocol} (k : ℕ) → OfKind k l → 3 < k → Same p q → Booked house b p
+    → Booked house (b ++ l) q
 booked-kept {p = p} {q = q} k a h (e, f, g, n, o) i =
     record {
       commits = commits-kept a (λ z. omega arith) n (i .commits);
@@ -87,10 +88,10 @@ booked-kept {p = p} {q = q} k a h (e, f, g, n, o) i =
     }
 
 -- a move that tells nothing
-pub booked-quiet : {sites : ℕ} {b : List Fact} {p q : Protocol} → Same p q → Booked sites b p → Booked sites (b ++ []) q
+pub booked-quiet : {house : House} {b : List Fact} {p q : Protocol} → Same p q → Booked house b p → Booked house (b ++ []) q
 booked-quiet e i = booked-kept 4 a-nil (omega arith) e i
 
 -- a replay is no matter of the sites
-pub booked-replayed : {sites : ℕ} {b : List Fact} {p : Protocol} → Booked sites b p → (c n d : ℕ)
-    → Booked sites (b ++ (book.replayed c n d ∷ [])) p
+pub booked-replayed : {house : House} {b : List Fact} {p : Protocol} → Booked house b p → (c n d : ℕ)
+    → Booked house (b ++ (book.replayed c n d ∷ [])) p
 booked-replayed i c n d = booked-kept 4 (all-one refl) (omega arith) same i

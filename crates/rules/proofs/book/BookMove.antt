@@ -5,6 +5,7 @@ use mathlib.Core.Bool.{true≢false}
 use mathlib.Core.List.{List, [], _∷_, _++_}
 use native.Mathlib.Omega.{arith}
 use lib.ListN.{length}
+use Rattle.kinds.specs.declared.House.{House}
 use Rattle.kinds.specs.Stage as stage
 use Rattle.rules.specs.House.{coordinatorOf}
 use Rattle.rules.specs.Install.{entryOf}
@@ -31,11 +32,11 @@ use Rattle.rules.proofs.book.BookBegins.{booked-began}
 use Rattle.rules.proofs.book.BookAccess.{tells, booked-accessed}
 use Rattle.rules.proofs.book.BookInstalls.{booked-decided, booked-installed}
 
-module _ {sites : ℕ} {p : Protocol} {b : List Fact} (i : Invariant sites p) (x : Booked sites b p) where
+module _ {house : House} {p : Protocol} {b : List Fact} (i : Invariant house p) (x : Booked house b p) where
   -- the pair that an install tells is the entry's
   installed : (q : Protocol) (s t : ℕ)
-      → Booked sites (b ++ (book.installed s (entryOf (p .live s t) .number) (coordinatorOf (entryOf (p .live s t) .tx)) ∷ [])) q
-      → AtStage p s t stage.decided → Booked sites (b ++ (book.installed s (courseAt p s t .number) (coordinatorOf t) ∷ [])) q
+      → Booked house (b ++ (book.installed s (entryOf (p .live s t) .number) (coordinatorOf (entryOf (p .live s t) .tx)) ∷ [])) q
+      → AtStage p s t stage.decided → Booked house (b ++ (book.installed s (courseAt p s t .number) (coordinatorOf t) ∷ [])) q
   unfolding entryOf
   installed q s t y a = rw (i .parts .tx s t (λ f. omega arith)) at y
 
@@ -57,10 +58,10 @@ module _ {sites : ℕ} {p : Protocol} {b : List Fact} (i : Invariant sites p) (x
   undecided : (s t : ℕ) → coordinatorOf t ≡ s → AtStage p s t stage.queued → p .num t ≡ 0
   undecided s t c a = i .rounds .undecided t (rw c (λ f. omega arith)) (rw c (λ f. omega arith))
 
-  step : (q : Protocol) (m : Move sites p q) → Booked sites (b ++ told m) q
+  step : (q : Protocol) (m : Move house p q) → Booked house (b ++ told m) q
   step q (begin s t d l m n e) =
       booked-began
-      (record { none = new-tx sites p s t (i .parts) n e s; has = refl; snap = refl; keys = refl; num = refl; parts = λ j. refl }) x
+      (record { none = new-tx house p s t (i .parts) n e s; has = refl; snap = refl; keys = refl; num = refl; parts = λ j. refl }) x
   step q (enlist s t r c a l m n o) = booked-quiet same x
   step q (access s t k fs a v w f m) =
       let h : Held p s t = λ z. omega arith in
@@ -88,7 +89,7 @@ module _ {sites : ℕ} {p : Protocol} {b : List Fact} (i : Invariant sites p) (x
   step q (report s n a) = booked-quiet (refl, refl, refl, refl, inst-report p s n) x
   step q (joins a s t d n f) =
       booked-began
-      (record { none = new-join sites p a s t d (i .posts) n; has = refl; snap = refl; keys = refl; num = refl; parts = λ j. refl }) x
+      (record { none = new-join house p a s t d (i .posts) n; has = refl; snap = refl; keys = refl; num = refl; parts = λ j. refl }) x
   step q (full a s t d r n z) = booked-quiet same x
   step q (joined a s t r n y o) = booked-quiet same x
   step q (prepared a s t n m es y z v) = booked-quiet same x
@@ -102,30 +103,32 @@ module _ {sites : ℕ} {p : Protocol} {b : List Fact} (i : Invariant sites p) (x
   step q (aborts a s t y d) = booked-quiet same x
   step q (passes a s n m y) = booked-quiet same x
 
-pub booked-move : {sites : ℕ} {p q : Protocol} {b : List Fact} → sites ≤ 8 → Invariant sites p → (m : Move sites p q) → Booked sites b p
-    → Booked sites (b ++ told m) q
+pub booked-move : {house : House} {p q : Protocol} {b : List Fact} → house .sites ≤ 8 → Invariant house p → (m : Move house p q)
+    → Booked house b p
+    → Booked house (b ++ told m) q
 booked-move {q = q} h i m x = step i x q m
 
 -- the merger and the copies leave the sites as they are
-booked-step : {sites : ℕ} {v u : Stream} {b : List Fact} → sites ≤ 8 → Invariant sites (v .protocol) → (s : stream.Step sites v u)
-    → Booked sites b (v .protocol)
-    → Booked sites (b ++ toldStep s) (u .protocol)
+booked-step : {house : House} {v u : Stream} {b : List Fact} → house .sites ≤ 8 → Invariant house (v .protocol)
+    → (s : stream.Step house v u)
+    → Booked house b (v .protocol)
+    → Booked house (b ++ toldStep s) (u .protocol)
 booked-step h i (stream.moves q m) x = booked-move h i m x
 booked-step h i (stream.merges n m) x = booked-quiet same x
 booked-step h i (stream.replays c l) x = booked-quiet same x
 
-pub booked-steps : {sites : ℕ} {v u : Stream} {b : List Fact} → sites ≤ 8 → Standing sites v → (ss : Steps sites v u)
-    → Booked sites b (v .protocol)
-    → Booked sites (b ++ toldSteps ss) (u .protocol)
+pub booked-steps : {house : House} {v u : Stream} {b : List Fact} → house .sites ≤ 8 → Standing house v → (ss : Steps house v u)
+    → Booked house b (v .protocol)
+    → Booked house (b ++ toldSteps ss) (u .protocol)
 booked-steps h z stream.stop x = booked-quiet same x
-booked-steps {sites} {u = u} {b = b} h z (stream.more ss s) x =
-    regroup (λ l. Booked sites l (u .protocol)) b (toldSteps ss) (toldStep s)
+booked-steps {house} {u = u} {b = b} h z (stream.more ss s) x =
+    regroup (λ l. Booked house l (u .protocol)) b (toldSteps ss) (toldStep s)
     (booked-step h (standing-steps h ss z .invariant) s (booked-steps h z ss x))
 
 -- an empty book of the fresh tables
-pub booked-fresh : (sites : ℕ) → Booked sites [] freshProtocol
+pub booked-fresh : (house : House) → Booked house [] freshProtocol
 unfolding freshProtocol installsIn
-booked-fresh sites =
+booked-fresh house =
     record {
       commits = record { commit = λ t n c x. absurd (none-is x); committed = λ t z. absurd (omega arith) };
       begins = record {

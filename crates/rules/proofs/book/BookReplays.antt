@@ -10,6 +10,7 @@ use lib.ListN.{length, getD, set, length-set}
 use lib.Seq.{getD-set-same, getD-set-other}
 use Rattle.laws.specs.Choice.{pick, every, set-not}
 use Rattle.kinds.specs.Sizes as sizes
+use Rattle.kinds.specs.declared.House.{House}
 use Rattle.kinds.specs.Word as word
 use Rattle.kinds.specs.Kind as kind
 use Rattle.kinds.specs.Reason as reason
@@ -190,9 +191,9 @@ run-replays (c ∷ calls) w b h =
     (run-replays calls (step w c .world) _ (call-replays w b h c))
 
 -- from a fresh house: no copy has a pair, and the book is empty
-replays-fresh : (sites : ℕ) → LastReplays [] (freshWorld sites)
+replays-fresh : (house : House) → LastReplays [] (freshWorld house)
 unfolding freshWorld copyStartOf
-replays-fresh sites c = none (λ m d i. none-replayed a-nil c m d i) refl refl
+replays-fresh house c = none (λ m d i. none-replayed a-nil c m d i) refl refl
 
-pub book-replays : (sites : ℕ) (calls : List Call) → LastReplays (bookFrom (freshWorld sites) calls) (run (freshWorld sites) calls)
-book-replays sites calls = run-replays calls (freshWorld sites) [] (replays-fresh sites)
+pub book-replays : (house : House) (calls : List Call) → LastReplays (bookFrom (freshWorld house) calls) (run (freshWorld house) calls)
+book-replays house calls = run-replays calls (freshWorld house) [] (replays-fresh house)

@@ -6,6 +6,7 @@ use mathlib.Core.Bool.{true}
 use mathlib.Core.Logic.{_⊎_}
 use mathlib.Core.List.{List}
 use lib.ListN.{length}
+use Rattle.kinds.specs.declared.House.{House}
 use Rattle.kinds.specs.State.{Value}
 use Rattle.kinds.specs.declared.Keys.{Keys}
 use Rattle.rules.specs.House.{coordinatorOf, homeOf}
@@ -19,8 +20,8 @@ use Rattle.rules.proofs.protocol.ProtocolTables.{Protocol, inst}
 use Rattle.rules.proofs.protocol.Invariants.{at}
 
 -- the site that holds key k
-abbrev pub home : ℕ → ℕ → ℕ
-home sites k = homeOf (record { sites = sites }) k
+abbrev pub home : House → ℕ → ℕ
+home house k = homeOf house k
 
 -- the i-th install at s has this pair
 abbrev pub PairAt : Protocol → ℕ → ℕ → ℕ → ℕ → Type 0
@@ -39,12 +40,12 @@ pub record Begins (b : List Fact) (p : Protocol) : Type 0 where
   pub begun : (s t : ℕ) → p .has s t ≡ true → Member (book.began s t) b
   pub once : (s t : ℕ) → Before (book.began s t) (book.began s t) b → ⊥
 
-pub record Writes (sites : ℕ) (b : List Fact) (p : Protocol) : Type 0 where
+pub record Writes (house : House) (b : List Fact) (p : Protocol) : Type 0 where
   pub wrote : (t k : ℕ) (v : Value) → Member (book.wrote t k v) b
-      → (p .has (home sites k) t ≡ true) × (wroteKey (p .keys (home sites k) t) k ≡ true)
+      → (p .has (home house k) t ≡ true) × (wroteKey (p .keys (home house k) t) k ≡ true)
   pub last : (s t k : ℕ) → p .has s t ≡ true → wroteKey (p .keys s t) k ≡ true
-      → (home sites k ≡ s) × LastWrite b t k (wroteValue (p .keys s t) k)
-  pub used : (t k : ℕ) → Member (book.used t k) b → (p .has (home sites k) t ≡ true) × UsedIn (p .keys (home sites k) t) k
+      → (home house k ≡ s) × LastWrite b t k (wroteValue (p .keys s t) k)
+  pub used : (t k : ℕ) → Member (book.used t k) b → (p .has (home house k) t ≡ true) × UsedIn (p .keys (home house k) t) k
 
 pub record Installs (b : List Fact) (p : Protocol) : Type 0 where
   pub installed : (s n c : ℕ) → Member (book.installed s n c) b → (i : ℕ) × (i < length (inst p s)) × PairAt p s i n c
@@ -56,9 +57,9 @@ pub record Sees (b : List Fact) (p : Protocol) : Type 0 where
   pub seen : (s t n c : ℕ) → Before (book.installed s n c) (book.began s t) b → (i : ℕ) × (i < p .snap s t) × PairAt p s i n c
   pub before : (s t i n c : ℕ) → p .has s t ≡ true → i < p .snap s t → PairAt p s i n c → Before (book.installed s n c) (book.began s t) b
 
-pub record Booked (sites : ℕ) (b : List Fact) (p : Protocol) : Type 0 where
+pub record Booked (house : House) (b : List Fact) (p : Protocol) : Type 0 where
   pub commits : Commits b p
   pub begins : Begins b p
-  pub writes : Writes sites b p
+  pub writes : Writes house b p
   pub installs : Installs b p
   pub sees : Sees b p

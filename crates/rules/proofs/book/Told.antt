@@ -1,6 +1,7 @@
 -- What each move tells the book.
 use Prim.Native.Nat.{ℕ, _+_}
 use mathlib.Core.List.{List, [], _∷_, _++_}
+use Rattle.kinds.specs.declared.House.{House}
 use Rattle.rules.specs.House.{coordinatorOf}
 use Rattle.rules.specs.Book as book
 use Rattle.rules.specs.Book.{Fact}
@@ -12,7 +13,7 @@ use Rattle.rules.proofs.protocol.Protocol.{aborts, passes, stop, more}
 use Rattle.rules.proofs.stream.Stream as stream
 use Rattle.rules.proofs.stream.Stream.{Stream, Step, Steps}
 
-abbrev pub told : {sites : ℕ} {p q : Protocol} → Move sites p q → List Fact
+abbrev pub told : {house : House} {p q : Protocol} → Move house p q → List Fact
 told (begin s t d a b c e) = book.began s t ∷ []
 told (enlist s t r a b c d e f) = []
 told (access s t b fs a w c d m) = fs
@@ -36,16 +37,16 @@ told (commits a s t n f g) = []
 told (aborts a s t n f) = []
 told (passes a s n m f) = []
 
-abbrev pub toldAll : {sites : ℕ} {p q : Protocol} → Moves sites p q → List Fact
+abbrev pub toldAll : {house : House} {p q : Protocol} → Moves house p q → List Fact
 toldAll stop = []
 toldAll (more ms m) = toldAll ms ++ told m
 
 -- the merger and the copies tell nothing of the sites
-abbrev pub toldStep : {sites : ℕ} {v w : Stream} → Step sites v w → List Fact
+abbrev pub toldStep : {house : House} {v w : Stream} → Step house v w → List Fact
 toldStep (stream.moves q m) = told m
 toldStep (stream.merges n m) = []
 toldStep (stream.replays c h) = []
 
-abbrev pub toldSteps : {sites : ℕ} {v w : Stream} → Steps sites v w → List Fact
+abbrev pub toldSteps : {house : House} {v w : Stream} → Steps house v w → List Fact
 toldSteps stream.stop = []
 toldSteps (stream.more ss s) = toldSteps ss ++ toldStep s

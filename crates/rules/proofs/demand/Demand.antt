@@ -6,9 +6,10 @@ use mathlib.Core.Logic.{inl, inr, ⊎-elim}
 use mathlib.Core.List.{List}
 use native.Mathlib.Omega.{arith}
 use lib.ListN.{length}
+use Rattle.kinds.specs.declared.House.{House}
 use Rattle.laws.specs.Choice.{set-not}
 use Rattle.laws.specs.Pair.{precedes-rank}
-use Rattle.rules.specs.House.{coordinatorOf}
+use Rattle.rules.specs.House.{coordinatorOf, GoodHouse}
 use Rattle.rules.specs.Keys.{dependent}
 use Rattle.rules.specs.KeysLaws.{conflict-dependent}
 use Rattle.rules.specs.World.{World}
@@ -27,18 +28,18 @@ use Rattle.rules.proofs.book.BookCopies.{BookIs, copy-holds}
 use Rattle.rules.proofs.book.BookReplays.{LastReplays}
 use Rattle.rules.proofs.book.Booked.{home, PairAt, Booked}
 
-module _ {sites : ℕ} {p : Protocol} {b : List Fact} (few : sites ≤ 8) (i : Invariant sites p) (x : Booked sites b p) where
+module _ {house : House} {p : Protocol} {b : List Fact} (few : house .sites ≤ 8) (i : Invariant house p) (x : Booked house b p) where
   -- a committed transaction has a part at its coordinator, which is a site
   pub low : (t : ℕ) → 0 < p .num t → coordinatorOf t < 16
   low t z = let l = low-coordinator few (i .parts) (coordinatorOf t) t (coordinator-has i t z) in omega arith
 
-  book-is : BookIs (record { sites = sites }) b p
+  book-is : BookIs house b p
   book-is =
       record {
         commit = x .commits .commit;
         committed = x .commits .committed;
         wrote = λ t k z (v, w). x .writes .wrote t k v w;
-        last = λ t k z (h, w). x .writes .last (home sites k) t k h w .1;
+        last = λ t k z (h, w). x .writes .last (home house k) t k h w .1;
         low = low;
       }
 
@@ -66,14 +67,14 @@ module _ {sites : ℕ} {p : Protocol} {b : List Fact} (few : sites ≤ 8) (i : I
       let (o, q, _, _) = i .account .entry s j l in
       pair-once i (at p s j .tx) t q (sym o ∙ g ∙ sym e) (k ∙ sym f)
 
-  writers : WritersInOrder (record { sites = sites }) b
+  writers : WritersInOrder house b
   writers t u k n c m d y z (v, f) (w, g) e =
       let (nt, et, ct) = x .commits .commit t n c y in
       let (nu, eu, cu) = x .commits .commit u m d z in
       let (ht, wt) = x .writes .wrote t k v f in
       let (hu, wu) = x .writes .wrote u k w g in
       let r = precedes-rank n c m d (rw ct at (low t nt)) (rw cu at (low u nu)) e in
-      let s = home sites k in
+      let s = home house k in
       let (j, (l, q), o) =
       later-saw i few s t u k nt nu (λ a. omega (arith, ap (p .num) a, ap coordinatorOf a)) ht hu wt wu (omega arith) in
       x .sees .before s u j n c hu o (pair-at s j t n c l q et ct)
@@ -103,11 +104,11 @@ module _ {sites : ℕ} {p : Protocol} {b : List Fact} (few : sites ≤ 8) (i : I
   dependent-at t u (on-write-of-other k y (v, z)) =
       let (h, a) = x .writes .used t k y in
       let (g, w) = x .writes .wrote u k v z in
-      (home sites k, (h, g, conflict-dependent _ _ (record { key = k; how = ⊎-elim (λ r. inr (inr (r, w))) (λ r. inl (r, w)) a })))
+      (home house k, (h, g, conflict-dependent _ _ (record { key = k; how = ⊎-elim (λ r. inr (inr (r, w))) (λ r. inl (r, w)) a })))
   dependent-at t u (on-own-write k (v, y) z) =
       let (h, w) = x .writes .wrote t k v y in
       let (g, a) = x .writes .used u k z in
-      (home sites k, (h, g, conflict-dependent _ _ (record { key = k; how = ⊎-elim (λ r. inr (inl (w, r))) (λ r. inl (w, r)) a })))
+      (home house k, (h, g, conflict-dependent _ _ (record { key = k; how = ⊎-elim (λ r. inr (inl (w, r))) (λ r. inl (w, r)) a })))
 
   half-seen : NoneHalfSeen b
   half-seen t u n c s r d y touching at-s saw at-r missed =
@@ -119,10 +120,11 @@ module _ {sites : ℕ} {p : Protocol} {b : List Fact} (few : sites ≤ 8) (i : I
       let f = independent i s r t u nt d first (has r t (at-r .one)) (has r u (at-r .other)) second home-site ht hu in
       set-not _ e f
 
-pub holds : {sites : ℕ} {w : World} {v : Stream} {b : List Fact} → 1 ≤ sites → sites ≤ 8 → Standing sites v → StreamIs sites w v
-    → Booked sites b (v .protocol) → LastReplays b w
-    → Holds (record { sites = sites }) b w
-holds some few z x y r =
+pub holds : {house : House} {w : World} {v : Stream} {b : List Fact} → GoodHouse house → Standing house v → StreamIs house w v
+    → Booked house b (v .protocol) → LastReplays b w
+    → Holds house b w
+holds good z x y r =
+    let few = good .few in
     record {
       copies = λ c k h. copy-holds (book-is few (z .invariant) y) (copy-stands x z c k h) (r c);
       once = record { began = y .begins .once; installed = y .installs .once };

@@ -2,7 +2,9 @@
 use Prim.Native.Nat.{ℕ, _≤_}
 use mathlib.Core.Path.{_≡_}
 use mathlib.Core.List.{List, [], _∷_, _++_, append-nil}
+use Rattle.kinds.specs.declared.House.{House}
 use Rattle.kinds.specs.declared.Answer.{Answer}
+use Rattle.rules.specs.House.{GoodHouse}
 use Rattle.rules.specs.World.{World, Call, Handed, Lawful, step, run, freshWorld}
 use Rattle.rules.specs.World as world
 use Rattle.rules.specs.Book.{Fact, factsOf, bookFrom}
@@ -21,8 +23,8 @@ use Rattle.rules.proofs.book.BookMove.{booked-steps, booked-fresh}
 use Rattle.rules.proofs.book.BookReplays.{on-replayed}
 
 -- a replay tells the book, and nothing of the sites
-told-facts : {sites : ℕ} {p : Protocol} (b : List Fact) (c : Call) (a : Answer) (ws : List ℕ) → Booked sites (b ++ toldBy c a ws) p
-    → Booked sites (b ++ factsOf c a ws) p
+told-facts : {house : House} {p : Protocol} (b : List Fact) (c : Call) (a : Answer) (ws : List ℕ) → Booked house (b ++ toldBy c a ws) p
+    → Booked house (b ++ factsOf c a ws) p
 told-facts b (world.begin s d) a ws x = x
 told-facts b (world.enlist s out t n) a ws x = x
 told-facts b (world.read s t k) a ws x = x
@@ -35,28 +37,28 @@ told-facts b (world.install s out) a ws x = x
 told-facts b (world.report s out) a ws x = x
 told-facts b (world.merge m) a ws x = x
 told-facts b (world.emit out) a ws x = x
-told-facts {sites} {p} b (world.replay c m) a ws x =
-    on-replayed (λ l. Booked sites (b ++ l) p) x (λ n d. booked-replayed (rw append-nil at x) c n d) a
+told-facts {house} {p} b (world.replay c m) a ws x =
+    on-replayed (λ l. Booked house (b ++ l) p) x (λ n d. booked-replayed (rw append-nil at x) c n d) a
 told-facts b (world.value c k) a ws x = x
 
 -- The machine of a house after some calls, the book, and what more is said of both.
-pub record Stands (More : World → Stream → Type 0) (sites : ℕ) (w : World) (b : List Fact) : Type 0 where
+pub record Stands (More : World → Stream → Type 0) (house : House) (w : World) (b : List Fact) : Type 0 where
   pub stream : Stream
-  pub standing : Standing sites stream
-  pub is : StreamIs sites w stream
-  pub booked : Booked sites b (stream .protocol)
+  pub standing : Standing house stream
+  pub is : StreamIs house w stream
+  pub booked : Booked house b (stream .protocol)
   pub more : More w stream
 
 -- a call keeps it
-abbrev pub Keeps : (World → Stream → Type 0) → ℕ → Type 0
-Keeps More sites =
-    (w : World) (v u : Stream) (c : Call) → Handed w c → StreamIs sites w v → Standing sites v
-    → (ss : Steps sites v u) → toldSteps ss ≡ toldBy c (step w c .answer) (step w c .words) → StreamIs sites (step w c .world) u
+abbrev pub Keeps : (World → Stream → Type 0) → House → Type 0
+Keeps More house =
+    (w : World) (v u : Stream) (c : Call) → Handed w c → StreamIs house w v → Standing house v
+    → (ss : Steps house v u) → toldSteps ss ≡ toldBy c (step w c .answer) (step w c .words) → StreamIs house (step w c .world) u
     → More w v → More (step w c .world) u
 
-module _ (More : World → Stream → Type 0) {sites : ℕ} (few : sites ≤ 8) (keeps : Keeps More sites) where
-  pub call-stands : (c : Call) {w : World} {b : List Fact} → Handed w c → Stands More sites w b
-      → Stands More sites (step w c .world) (b ++ factsOf c (step w c .answer) (step w c .words))
+module _ (More : World → Stream → Type 0) {house : House} (few : house .sites ≤ 8) (keeps : Keeps More house) where
+  pub call-stands : (c : Call) {w : World} {b : List Fact} → Handed w c → Stands More house w b
+      → Stands More house (step w c .world) (b ++ factsOf c (step w c .answer) (step w c .words))
   call-stands c {w} {b} h x =
       let (u, ss, e, i) = call-onward (x .is) (x .standing) c h in
       record {
@@ -67,24 +69,24 @@ module _ (More : World → Stream → Type 0) {sites : ℕ} (few : sites ≤ 8) 
         more = keeps w (x .stream) u c h (x .is) (x .standing) ss e i (x .more);
       }
 
-  pub run-stands : (calls : List Call) (w : World) (b : List Fact) → Lawful w calls → Stands More sites w b
-      → Stands More sites (run w calls) (b ++ bookFrom w calls)
+  pub run-stands : (calls : List Call) (w : World) (b : List Fact) → Lawful w calls → Stands More house w b
+      → Stands More house (run w calls) (b ++ bookFrom w calls)
   unfolding run bookFrom
   run-stands [] w b h x = rw append-nil x
   run-stands (c ∷ calls) w b (h, hs) x =
-      regroup (Stands More sites (run (step w c .world) calls)) b (factsOf c (step w c .answer) (step w c .words))
+      regroup (Stands More house (run (step w c .world) calls)) b (factsOf c (step w c .answer) (step w c .words))
       (bookFrom (step w c .world) calls)
       (run-stands calls (step w c .world) (b ++ factsOf c (step w c .answer) (step w c .words)) hs (call-stands c h x))
 
-  pub list-stands : 1 ≤ sites → More (freshWorld sites) freshStream → (calls : List Call) → Lawful (freshWorld sites) calls
-      → Stands More sites (run (freshWorld sites) calls) (bookFrom (freshWorld sites) calls)
+  pub list-stands : GoodHouse house → More (freshWorld house) freshStream → (calls : List Call) → Lawful (freshWorld house) calls
+      → Stands More house (run (freshWorld house) calls) (bookFrom (freshWorld house) calls)
   unfolding freshStream
-  list-stands some m calls lawful =
-      run-stands calls (freshWorld sites) [] lawful
+  list-stands good m calls lawful =
+      run-stands calls (freshWorld house) [] lawful
       (record {
         stream = freshStream;
-        standing = standing-fresh sites;
-        is = stream-fresh sites some few;
-        booked = booked-fresh sites;
+        standing = standing-fresh house;
+        is = stream-fresh house good;
+        booked = booked-fresh house;
         more = m;
       })

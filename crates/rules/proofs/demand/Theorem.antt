@@ -6,6 +6,6 @@ use Rattle.rules.proofs.demand.Demand.{holds}
 
 pub demand3 : Demand3
 unfolding Demand3
-demand3 sites calls some few lawful =
-    let x = list-stands (λ w v. Unit {0}) few (λ w v u c h i z ss e j m. tt) some tt calls lawful in
-    holds some few (x .standing) (x .is) (x .booked) (book-replays sites calls)
+demand3 house calls good lawful =
+    let x = list-stands (λ w v. Unit {0}) (good .few) (λ w v u c h i z ss e j m. tt) good tt calls lawful in
+    holds good (x .standing) (x .is) (x .booked) (book-replays house calls)

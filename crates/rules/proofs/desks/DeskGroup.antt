@@ -6,6 +6,7 @@ use mathlib.Core.Bool.{true, false}
 use mathlib.Core.Logic.{inl, inr}
 use mathlib.Core.List.{List}
 use native.Mathlib.Omega.{arith}
+use Rattle.kinds.specs.declared.House.{House}
 use Rattle.laws.specs.Choice.{set-not}
 use Rattle.kinds.specs.Stage as stage
 use Rattle.kinds.specs.declared.Course.{Course}
@@ -71,18 +72,18 @@ carried p desk x a b (mCommit t n) f = tt
 carried p desk x a b (mAbort t) f = tt
 
 -- a JOIN of a transaction that began keeps its desk where another's is set
-set-apart : (sites : ℕ) (p : Protocol) (desk : ℕ → ℕ) (t d : ℕ) → ((j : ℕ) → p .has j t ≡ true → ⊥) → (a b : ℕ) (m : Msg)
-    → MsgOk sites p a b m × ForDesk desk m → ForDesk (upd desk t d) m
-set-apart sites p desk t d new a b (mJoin u k) (o, e) = e ∙ sym (upd-other desk t d u (λ z. new a (rw z at (o .1))))
-set-apart sites p desk t d new a b (mJoined u r) f = tt
-set-apart sites p desk t d new a b (mPrepare u n m) f = tt
-set-apart sites p desk t d new a b (mConc u es) f = tt
-set-apart sites p desk t d new a b (mCert u es) f = tt
-set-apart sites p desk t d new a b (mVote u n r) f = tt
-set-apart sites p desk t d new a b (mCommit u n) f = tt
-set-apart sites p desk t d new a b (mAbort u) f = tt
+set-apart : (house : House) (p : Protocol) (desk : ℕ → ℕ) (t d : ℕ) → ((j : ℕ) → p .has j t ≡ true → ⊥) → (a b : ℕ) (m : Msg)
+    → MsgOk house p a b m × ForDesk desk m → ForDesk (upd desk t d) m
+set-apart house p desk t d new a b (mJoin u k) (o, e) = e ∙ sym (upd-other desk t d u (λ z. new a (rw z at (o .1))))
+set-apart house p desk t d new a b (mJoined u r) f = tt
+set-apart house p desk t d new a b (mPrepare u n m) f = tt
+set-apart house p desk t d new a b (mConc u es) f = tt
+set-apart house p desk t d new a b (mCert u es) f = tt
+set-apart house p desk t d new a b (mVote u n r) f = tt
+set-apart house p desk t d new a b (mCommit u n) f = tt
+set-apart house p desk t d new a b (mAbort u) f = tt
 
-module _ {sites : ℕ} {p : Protocol} (i : Invariant sites p) {desk : ℕ → ℕ} (x : Desks desk p) where
+module _ {house : House} {p : Protocol} (i : Invariant house p) {desk : ℕ → ℕ} (x : Desks desk p) where
   -- a held part has its transaction's desk
   abbrev HeldFor : (ℕ → ℕ) → ℕ → Sub → Type 0
   HeldFor f t b = (b .course .stage ≡ stage.free → ⊥) → b .desk ≡ f t
@@ -156,7 +157,7 @@ module _ {sites : ℕ} {p : Protocol} (i : Invariant sites p) {desk : ℕ → �
             (upd₂-both (λ j u h c. h ≡ true → c .wrote ≤ writeLimit (set u)) (p .has) (p .keys) s t true noKeys (λ z. omega arith)
             (λ j u o z. rw (old j u z) (x .few j u z)));
         same = λ u z. old (coordinatorOf u) u z;
-        joins = rw m (λ f a b. all-map (set-apart sites p desk t d new a b) (all-both (i .posts .ok a b) (f a b)));
+        joins = rw m (λ f a b. all-map (set-apart house p desk t d new a b) (all-both (i .posts .ok a b) (f a b)));
       }
     where
       set : ℕ → ℕ
@@ -165,8 +166,8 @@ module _ {sites : ℕ} {p : Protocol} (i : Invariant sites p) {desk : ℕ → �
       old : (j u : ℕ) → p .has j u ≡ true → set u ≡ desk u
       old j u h = upd-other desk t d u (λ z. new j (rw z at h))
 
-  turned : (q : Protocol) → Move sites p q → Turned q
-  turned q (begin s t d l m n e) = begins q s t d _ _ (new-tx sites p s t (i .parts) n e) refl refl refl refl
+  turned : (q : Protocol) → Move house p q → Turned q
+  turned q (begin s t d l m n e) = begins q s t d _ _ (new-tx house p s t (i .parts) n e) refl refl refl refl
   turned q (enlist s t r c a l m n o) = course q s t _ (λ f. omega arith) refl refl refl
   turned q (access s t b fs a told w f m) = uses q s t b (λ z. omega arith) m refl refl refl
   turned q (request s t es c a l r v) = course q s t _ (λ f. omega arith) refl refl refl
@@ -189,15 +190,15 @@ module _ {sites : ℕ} {p : Protocol} (i : Invariant sites p) {desk : ℕ → �
   turned q (aborts a s t y d) = gone q s t refl refl refl
   turned q (passes a s n m y) = still q refl refl refl
 
-  grown : (q : Protocol) (a b : ℕ) (l : List Msg) → Grown (Fit sites p q a b) (p .post a b) l → All (ForDesk desk) l
+  grown : (q : Protocol) (a b : ℕ) (l : List Msg) → Grown (Fit house p q a b) (p .post a b) l → All (ForDesk desk) l
   grown q a b l (inl e) = rw e (x .joins a b)
   grown q a b l (inr (m, e, f)) = rw e (all-append (x .joins a b) (all-one (carried p desk (x .held) a b m (f .2))))
 
-  pub desks-step : (q : Protocol) → Move sites p q → DesksAfter desk p q
+  pub desks-step : (q : Protocol) → Move house p q → DesksAfter desk p q
   desks-step q m =
       let y = turned q m in
       record {
         after = y .after;
-        desks = record { joins = y .joins (λ a b. grown q a b _ (mail sites p i q m a b)); held = y .held; few = y .few };
-        same = λ t e. (y .same t e, later sites p i q m .has (coordinatorOf t) t e);
+        desks = record { joins = y .joins (λ a b. grown q a b _ (mail house p i q m a b)); held = y .held; few = y .few };
+        same = λ t e. (y .same t e, later house p i q m .has (coordinatorOf t) t e);
       }

@@ -11,12 +11,13 @@ use lib.ListN.{length, getD}
 use lib.Seq.{getD-set-same}
 use Rattle.laws.specs.Choice.{by-test}
 use Rattle.kinds.specs.Sizes as sizes
+use Rattle.kinds.specs.declared.House.{House}
 use Rattle.kinds.specs.declared.Answer.the-variants.{Refused, Begun as Answered}
 use Rattle.kinds.specs.declared.Keys.{Keys}
 use Rattle.kinds.specs.declared.Site.{Site}
 use Rattle.kinds.specs.declared.Sub.{Sub}
 use Rattle.kinds.specs.State.{pastSub, subAt}
-use Rattle.rules.specs.House.{homeOf, maskOf}
+use Rattle.rules.specs.House.{homeOf, maskOf, GoodHouse}
 use Rattle.rules.specs.Desk.{isDesk, writeLimit}
 use Rattle.rules.specs.MessageLaws.{site-clear}
 use Rattle.rules.specs.Keys.{keyPlace, wroteKey}
@@ -56,7 +57,8 @@ desks-on x y =
 desks-still : {desk : ℕ → ℕ} {p : Protocol} → Desks desk p → DesksAfter desk p p
 desks-still {desk} x = record { after = desk; desks = x; same = λ t e. (refl, e) }
 
-desks-steps : {sites : ℕ} {v u : Stream} → sites ≤ 8 → Standing sites v → Steps sites v u → {desk : ℕ → ℕ} → Desks desk (v .protocol)
+desks-steps : {house : House} {v u : Stream} → house .sites ≤ 8 → Standing house v → Steps house v u → {desk : ℕ → ℕ}
+    → Desks desk (v .protocol)
     → DesksAfter desk (v .protocol) (u .protocol)
 desks-steps few z stop x = desks-still x
 desks-steps few z (more ss (moves q m)) x =
@@ -76,14 +78,14 @@ record OneDesk (tx d : ℕ) (w : World) (v : Stream) : Type 0 where
   begun : Begun (v .protocol) tx
   is : desk tx ≡ d
 
-some-keeps : {sites : ℕ} → sites ≤ 8 → Keeps SomeDesks sites
+some-keeps : {house : House} → house .sites ≤ 8 → Keeps SomeDesks house
 some-keeps few w v u c h i z ss e j m = let y = desks-steps few z ss (m .desks) in record { desk = y .after; desks = y .desks }
 
-fresh-desks : (sites : ℕ) → SomeDesks (freshWorld sites) freshStream
+fresh-desks : (house : House) → SomeDesks (freshWorld house) freshStream
 unfolding freshStream
-fresh-desks sites = record { desk = λ t. 0; desks = desks-fresh }
+fresh-desks house = record { desk = λ t. 0; desks = desks-fresh }
 
-one-keeps : {sites : ℕ} → sites ≤ 8 → (tx d : ℕ) → Keeps (OneDesk tx d) sites
+one-keeps : {house : House} → house .sites ≤ 8 → (tx d : ℕ) → Keeps (OneDesk tx d) house
 one-keeps few tx d w v u c h i z ss e j m =
     let y = desks-steps few z ss (m .desks) in
     let (a, b) = y .same tx (m .begun) in
@@ -96,9 +98,9 @@ answered a b e = cc
 not-answered : (n b : ℕ) → Refused n ≡ Answered b → ⊥
 not-answered n b e = let z : _≡_ {A = ℕ} 0 1 = cc in omega arith
 
-record Began (sites : ℕ) (w : World) (s d tx : ℕ) : Type 0 where
+record Began (house : House) (w : World) (s d tx : ℕ) : Type 0 where
   low : 1 ≤ s
-  high : s ≤ sites
+  high : s ≤ house .sites
   known : isDesk d ≡ true
   place : ℕ
   within : place < sizes.live
@@ -106,7 +108,7 @@ record Began (sites : ℕ) (w : World) (s d tx : ℕ) : Type 0 where
   tx-is : subAt (w .site s) place .tx ≡ tx
   desk-is : subAt (w .site s) place .desk ≡ d
 
-module _ {sites : ℕ} {w : World} {p : Protocol} (r : Refines sites w p) (s d tx : ℕ) where
+module _ {house : House} {w : World} {p : Protocol} (r : Refines house w p) (s d tx : ℕ) where
   abbrev site : Site
   site = w .site s
 
@@ -117,7 +119,7 @@ module _ {sites : ℕ} {w : World} {p : Protocol} (r : Refines sites w p) (s d t
   code = beginCode (siteOk site) (isDesk d) (site .counters) free
 
   begins : code ≡ 0 → nextTx (site .counters) ≡ tx
-      → Began sites (siteStep w s (changed site free (begun site d) []) (w .base s) (w .lists s) .world) s d tx
+      → Began house (siteStep w s (changed site free (begun site d) []) (w .base s) (w .lists s) .world) s d tx
   unfolding siteStep begun settle newSub
   begins e t =
       let c = begin-clear (siteOk site) (isDesk d) (site .counters) free e in
@@ -138,7 +140,7 @@ module _ {sites : ℕ} {w : World} {p : Protocol} (r : Refines sites w p) (s d t
         desk-is = ap (λ (b : Sub). b .desk) part;
       }
 
-  began : step w (world.begin s d) .answer ≡ Answered tx → Began sites (step w (world.begin s d) .world) s d tx
+  began : step w (world.begin s d) .answer ≡ Answered tx → Began house (step w (world.begin s d) .world) s d tx
   unfolding step siteStep beginOf begun
   began =
       by-test (eqb code 0)
@@ -146,7 +148,8 @@ module _ {sites : ℕ} {w : World} {p : Protocol} (r : Refines sites w p) (s d t
       (λ z. rw z (λ e. absurd (not-answered code tx e)))
 
 -- The machine has the parts of the house.
-held-desk : {sites : ℕ} {w : World} {p : Protocol} {desk : ℕ → ℕ} → Refines sites w p → Desks desk p → (s i tx : ℕ) → 1 ≤ s → s ≤ sites
+held-desk : {house : House} {w : World} {p : Protocol} {desk : ℕ → ℕ} → Refines house w p → Desks desk p → (s i tx : ℕ) → 1 ≤ s
+    → s ≤ house .sites
     → i < sizes.live → (IsFree (subAt (w .site s) i) → ⊥) → subAt (w .site s) i .tx ≡ tx
     → Held p s tx × (subAt (w .site s) i .desk ≡ desk tx)
 held-desk {p = p} r x s i tx l h k f e =
@@ -154,8 +157,8 @@ held-desk {p = p} r x s i tx l h k f e =
     let held = rw part at f in
     (held, ap (λ (b : Sub). b .desk) part ∙ x .held s tx held)
 
-starts : {sites : ℕ} {w : World} {b : List Fact} (s d tx : ℕ) → Began sites w s d tx → Stands SomeDesks sites w b
-    → Stands (OneDesk tx d) sites w b
+starts : {house : House} {w : World} {b : List Fact} (s d tx : ℕ) → Began house w s d tx → Stands SomeDesks house w b
+    → Stands (OneDesk tx d) house w b
 starts s d tx y x =
     let (held, same) = held-desk (x .is .refines) (x .more .desks) s (y .place) tx (y .low) (y .high) (y .within) (y .held) (y .tx-is) in
     let parts = x .standing .invariant .parts in
@@ -173,12 +176,12 @@ starts s d tx y x =
           };
     }
 
-module _ {sites : ℕ} (few : sites ≤ 8) (tx d : ℕ) where
+module _ {house : House} (few : house .sites ≤ 8) (tx d : ℕ) where
   abbrev Ends : World → List Fact → Type 0
-  Ends w b = (isDesk d ≡ true) × Stands (OneDesk tx d) sites w b
+  Ends w b = (isDesk d ≡ true) × Stands (OneDesk tx d) house w b
 
   after-begin : (s : ℕ) (rest : List Call) (w : World) (b : List Fact) → Lawful (step w (world.begin s d) .world) rest
-      → step w (world.begin s d) .answer ≡ Answered tx → Stands SomeDesks sites w b
+      → step w (world.begin s d) .answer ≡ Answered tx → Stands SomeDesks house w b
       → (let c = world.begin s d in let x = step w c in
       Ends (run (x .world) rest) ((b ++ factsOf c (x .answer) (x .words)) ++ bookFrom (x .world) rest))
   after-begin s rest w b h a x =
@@ -188,7 +191,7 @@ module _ {sites : ℕ} (few : sites ≤ 8) (tx d : ℕ) where
       (y .known, run-stands (OneDesk tx d) few (one-keeps few tx d) rest (step w c .world) _ h z)
 
   through : (calls rest : List Call) (s : ℕ) (w : World) (b : List Fact) → (let l = calls ++ (world.begin s d ∷ rest) in
-      Lawful w l → step (run w calls) (world.begin s d) .answer ≡ Answered tx → Stands SomeDesks sites w b
+      Lawful w l → step (run w calls) (world.begin s d) .answer ≡ Answered tx → Stands SomeDesks house w b
       → Ends (run w l) (b ++ bookFrom w l))
   unfolding run bookFrom
   through [] rest s w b (h, hs) a x =
@@ -210,35 +213,36 @@ wrote-most b keys apart wrote =
     ∙ place-is (b .writes) (b .wrote) _ (place-low b _ (wrote j k))))
 
 -- what the book has of the writes
-writes-most : {sites : ℕ} {p : Protocol} {b : List Fact} {desk : ℕ → ℕ} → Booked sites b p → Desks desk p → (s tx : ℕ) (keys : List ℕ)
+writes-most : {house : House} {p : Protocol} {b : List Fact} {desk : ℕ → ℕ} → Booked house b p → Desks desk p → (s tx : ℕ) (keys : List ℕ)
     → Different keys
-    → ((i : ℕ) → i < length keys → (homeOf (record { sites = sites }) (getD keys i 0) ≡ s) × Wrote b tx (getD keys i 0))
+    → ((i : ℕ) → i < length keys → (homeOf house (getD keys i 0) ≡ s) × Wrote b tx (getD keys i 0))
     → length keys ≤ writeLimit (desk tx)
 writes-most x y s tx [] apart wrote = omega arith
-writes-most {sites} {p} x y s tx (k ∷ keys) apart wrote =
+writes-most {house} {p} x y s tx (k ∷ keys) apart wrote =
     let most = wrote-most (p .keys s tx) (k ∷ keys) apart (λ i h. told i h .1) in
     omega (arith, most, y .few s tx (told 0 (omega arith) .0))
   where
     told : (i : ℕ) → i < length (k ∷ keys) → (p .has s tx ≡ true) × (wroteKey (p .keys s tx) (getD (k ∷ keys) i 0) ≡ true)
     told i h = let (e, (v, w)) = wrote i h in rw e at (x .writes .wrote tx (getD (k ∷ keys) i 0) v w)
 
-fresh-stands : (sites : ℕ) → 1 ≤ sites → sites ≤ 8 → Stands SomeDesks sites (freshWorld sites) []
+fresh-stands : (house : House) → GoodHouse house → Stands SomeDesks house (freshWorld house) []
 unfolding run bookFrom
-fresh-stands sites some few = list-stands SomeDesks few (some-keeps few) some (fresh-desks sites) [] tt
+fresh-stands house good = list-stands SomeDesks (good .few) (some-keeps (good .few)) good (fresh-desks house) [] tt
 
 pub desks-kept : DesksKept
 unfolding DesksKept
-desks-kept sites list some few lawful tx d y =
+desks-kept house list good lawful tx d y =
+    let few = good .few in
     let l = y .calls ++ (world.begin (y .at) d ∷ y .more) in
-    let lawful′ : Lawful (freshWorld sites) l = rw (y .split) at lawful in
-    let fresh = fresh-stands sites some few in
-    let (known, x) = through few tx d (y .calls) (y .more) (y .at) (freshWorld sites) [] lawful′ (y .answers) fresh in
+    let lawful′ : Lawful (freshWorld house) l = rw (y .split) at lawful in
+    let fresh = fresh-stands house good in
+    let (known, x) = through few tx d (y .calls) (y .more) (y .at) (freshWorld house) [] lawful′ (y .answers) fresh in
     rw (y .split)
     (record {
       known = known;
       parts = λ s i t h e.
-          let o = site-clear (record { sites = sites }) s t in
-          let (f, g) = part-is (subAt (run (freshWorld sites) l .site s) i) tx e in
+          let o = site-clear house s t in
+          let (f, g) = part-is (subAt (run (freshWorld house) l .site s) i) tx e in
           held-desk (x .is .refines) (x .more .desks) s i tx (o .low) (o .high) h f g .1 ∙ x .more .is;
       writes = λ s keys apart wrote. rw (x .more .is) at (writes-most (x .booked) (x .more .desks) s tx keys apart wrote);
     })

@@ -11,6 +11,7 @@ use lib.ListN.{drop}
 use Rattle.laws.specs.Choice.{every, by-test, set-not}
 use Rattle.laws.specs.Cause.{other-code}
 use Rattle.kinds.specs.Sizes as sizes
+use Rattle.kinds.specs.declared.House.{House}
 use Rattle.kinds.specs.Stage as stage
 use Rattle.kinds.specs.Reason as reason
 use Rattle.kinds.specs.Kind as kind
@@ -117,8 +118,8 @@ gather-speaks x h place lists =
     (join-whole (drop (sizes.gathered * place) lists) (c .listed))))
     (λ e. rw e (quietly-speaks _))
 
-module _ {sites : ℕ} {p : Protocol} (i : Invariant sites p) (f : Phases p) (s a n : ℕ) {x : Site} {base lists : List ℕ}
-    (y : SiteIs sites s x base lists (sliceOf p s)) where
+module _ {house : House} {p : Protocol} (i : Invariant house p) (f : Phases p) (s a n : ℕ) {x : Site} {base lists : List ℕ}
+    (y : SiteIs house s x base lists (sliceOf p s)) where
   stage-is : {t place : ℕ} → AtPlace x p s t place → (g : ℕ) → AtStage p s t g → eqb (subAt x place .course .stage) g ≡ true
   stage-is A g e = eq-eqb _ g (ap (λ (c : Course). c .stage) (course-is A) ∙ e)
 

@@ -5,6 +5,7 @@ use mathlib.Core.Bool.{Bool, true}
 use mathlib.Core.Logic.{_⊎_, inl, inr}
 use mathlib.Core.List.{List, _∷_}
 use native.Mathlib.Omega.{arith}
+use Rattle.kinds.specs.declared.House.{House}
 use Rattle.laws.specs.Choice.{by-test, by-same}
 use Rattle.kinds.specs.Stage as stage
 use Rattle.kinds.specs.declared.Course.{Course}
@@ -42,7 +43,7 @@ module _ {t r : ℕ} {c : Course} {n : ℕ} {d h : Bool} {g : ℕ} where
   waits-back k z (overtaken m b e y) = absurd (z e)
   waits-back k z (aborted b e) = absurd (z e)
 
-module _ {sites : ℕ} {p : Protocol} (i : Invariant sites p) (f : Phases p) (a s : ℕ) where
+module _ {house : House} {p : Protocol} (i : Invariant house p) (f : Phases p) (a s : ℕ) where
   -- the next from a at s stands first
   first : (m : Msg) → Next p a s m → pending (p .post) (p .taken) (txIn m) a s ≡ m ∷ pending (p .post) (took p a s .taken) (txIn m) a s
   first m n = taken-first (p .post) (p .taken) (txIn m) a s m (n .some) (n .is) refl
@@ -65,7 +66,7 @@ module _ {sites : ℕ} {p : Protocol} (i : Invariant sites p) (f : Phases p) (a 
 
   pub join-turn : (t d : ℕ) → Next p a s (mJoin t d) → AtStage p s t stage.free
   join-turn t d n =
-      by-same (courseAt p s t .stage) stage.free (λ e. e) (λ h. absurd (new-join sites p a s t d (i .posts) n (i .parts .has s t h)))
+      by-same (courseAt p s t .stage) stage.free (λ e. e) (λ h. absurd (new-join house p a s t d (i .posts) n (i .parts .has s t h)))
 
   pub joined-turn : (t v : ℕ) → Next p a s (mJoined t v) → Held p s t
       → AtStage p s t stage.active × (isOutstanding (courseAt p s t) a ≡ true)

@@ -5,6 +5,7 @@ use mathlib.Core.Bool.{true, false}
 use mathlib.Core.List.{List, [], _∷_, _++_}
 use native.Mathlib.Omega.{arith}
 use lib.ListN.{length}
+use Rattle.kinds.specs.declared.House.{House}
 use Rattle.laws.specs.Choice.{by-test, set-not, by-same}
 use Rattle.kinds.specs.declared.Course.{Course}
 use Rattle.kinds.specs.declared.Sub.{Sub}
@@ -31,7 +32,7 @@ pub record Part (s t : ℕ) (p q : Protocol) : Type 0 where
 abbrev pub OtherMail : ℕ → Protocol → Protocol → Type 0
 OtherMail t p q = (u x y : ℕ) → (u ≡ t → ⊥) → pending (q .post) (q .taken) u x y ≡ pending (p .post) (p .taken) u x y
 
-module _ {sites : ℕ} {p : Protocol} (i : Invariant sites p) (f : Phases p) where
+module _ {house : House} {p : Protocol} (i : Invariant house p) (f : Phases p) where
   -- phases of other transactions stay
   pub by-tx : (q : Protocol) (s t : ℕ) → Part s t p q → OtherMail t p q
       → ((r : ℕ) → 1 ≤ r → (r ≡ coordinatorOf t → ⊥) → PhaseAt q (coordinatorOf t) t r) → Phases q

@@ -4,6 +4,7 @@ use Prim.Native.Nat.{ℕ, _-_, _≤_}
 use mathlib.Core.Path.{_≡_, refl}
 use mathlib.Core.List.{List}
 use lib.ListN.{length, getD}
+use Rattle.kinds.specs.declared.House.{House}
 use Rattle.kinds.specs.Reason as reason
 use Rattle.kinds.specs.State.{Value}
 use Rattle.kinds.specs.declared.MessageHead.{MessageHead}
@@ -43,7 +44,7 @@ ends-apart : (h : MessageHead) (a s n : ℕ) (m : Msg) → h ≡ headIn a s n m 
 unfolding headOf
 ends-apart h a s n m e f z = f (rw (e, z))
 
-module _ {sites : ℕ} {w : World} {p : Protocol} (r : Refines sites w p) (i : Invariant sites p) (f : Phases p) (s : ℕ)
+module _ {house : House} {w : World} {p : Protocol} (r : Refines house w p) (i : Invariant house p) (f : Phases p) (s : ℕ)
     (out m : List ℕ) where
   abbrev site : Site
   site = w .site s
@@ -85,7 +86,7 @@ known-sent : (w : World) (s : ℕ) (e : Effect) (base : List Value) (lent : List
 unfolding siteStep
 known-sent w s e base lent k n = all-append k (made-in n)
 
-call-known : {sites : ℕ} {w : World} {p : Protocol} → Refines sites w p → Invariant sites p → Phases p → (c : Call) → Handed w c
+call-known : {house : House} {w : World} {p : Protocol} → Refines house w p → Invariant house p → Phases p → (c : Call) → Handed w c
     → All Known (w .sent) → All Known (step w c .world .sent)
 unfolding step logStep mergeStep mergerStep replayStep copyStep
 call-known {w = w} r i f (world.begin s d) h k = known-sent w s _ _ _ k (begin-writes (w .site s) d .known)
@@ -108,18 +109,18 @@ record Goes (w : World) (v : Stream) : Type 0 where
   phases : Phases (v .protocol)
   known : All Known (w .sent)
 
-call-goes : {sites : ℕ} → sites ≤ 8 → Keeps Goes sites
+call-goes : {house : House} → house .sites ≤ 8 → Keeps Goes house
 call-goes few w v u c h i z ss e j m =
     record {
       phases = phases-steps few ss z (m .phases);
       known = call-known (i .refines) (z .invariant) (m .phases) c h (m .known);
     }
 
-fresh-goes : (sites : ℕ) → Goes (freshWorld sites) freshStream
+fresh-goes : (house : House) → Goes (freshWorld house) freshStream
 unfolding freshStream freshWorld
-fresh-goes sites = record { phases = phases-fresh; known = a-nil }
+fresh-goes house = record { phases = phases-fresh; known = a-nil }
 
-none-out-of-turn : {sites : ℕ} {w : World} {b : List Fact} → Stands Goes sites w b → NoneOutOfTurn w
+none-out-of-turn : {house : House} {w : World} {b : List Fact} → Stands Goes house w b → NoneOutOfTurn w
 unfolding step siteStep
 none-out-of-turn {w = w} x s out m h = (
   own-numbers .call w (world.message s out m) reason.notCoordinator refl,
@@ -128,6 +129,7 @@ none-out-of-turn {w = w} x s out m h = (
 
 pub messages-progress : MessagesProgress
 unfolding MessagesProgress
-messages-progress sites calls some few lawful =
-    let x = list-stands Goes few (call-goes few) some (fresh-goes sites) calls lawful in
+messages-progress house calls good lawful =
+    let few = good .few in
+    let x = list-stands Goes few (call-goes few) good (fresh-goes house) calls lawful in
     (none-out-of-turn x, λ m h. all-is (x .more .known) h)

@@ -6,6 +6,7 @@ use mathlib.Core.Logic.{_⊎_, inl, inr}
 use mathlib.Core.List.{List}
 use native.Mathlib.Omega.{arith}
 use lib.ListN.{length}
+use Rattle.kinds.specs.declared.House.{House}
 use Rattle.laws.specs.Choice.{set-not, by-same}
 use Rattle.kinds.specs.Stage as stage
 use Rattle.kinds.specs.declared.Course.{Course}
@@ -64,23 +65,23 @@ part-same : (p q : Protocol) (s t : ℕ) → q .live ≡ p .live → q .has ≡ 
 part-same p q s t live has num dead = record { live = λ j u n. rw live; has = λ j u n. rw has; num = λ u n. rw num; dead = λ u n. rw dead }
 
 -- each message is its transaction's coordinator's, or goes to it
-origin : (sites : ℕ) (p : Protocol) (a b : ℕ) (m : Msg) → MsgOk sites p a b m
+origin : (house : House) (p : Protocol) (a b : ℕ) (m : Msg) → MsgOk house p a b m
     → (coordinatorOf (txIn m) ≡ a) ⊎ ((coordinatorOf (txIn m) ≡ b) × (b ≡ a → ⊥))
-origin sites p a b (mJoin t d) o = inl (o .0)
-origin sites p a b (mJoined t v) o = inr (o .0, λ z. o .1 (sym z))
-origin sites p a b (mPrepare t n m) o = inl (o .0)
-origin sites p a b (mConc t es) o = inr (o .0, λ z. o .1 (sym z))
-origin sites p a b (mCert t es) o = inl (o .0)
-origin sites p a b (mVote t n v) o = inr (o .0, λ z. o .1 (sym z))
-origin sites p a b (mCommit t n) o = inl (o .0)
-origin sites p a b (mAbort t) o = inl (o .0)
+origin house p a b (mJoin t d) o = inl (o .0)
+origin house p a b (mJoined t v) o = inr (o .0, λ z. o .1 (sym z))
+origin house p a b (mPrepare t n m) o = inl (o .0)
+origin house p a b (mConc t es) o = inr (o .0, λ z. o .1 (sym z))
+origin house p a b (mCert t es) o = inl (o .0)
+origin house p a b (mVote t n v) o = inr (o .0, λ z. o .1 (sym z))
+origin house p a b (mCommit t n) o = inl (o .0)
+origin house p a b (mAbort t) o = inl (o .0)
 
 -- a yes under way is a queued part's
 yes-queued : (t n k g : ℕ) (h : Bool) → RepliedAt k h g (mVote t n 0) → g ≡ stage.queued
 yes-queued t n k g h (inl (e, z)) = z refl
 yes-queued t n k g h (inr (e, z)) = absurd (z refl)
 
-module _ {sites : ℕ} {p : Protocol} (i : Invariant sites p) (f : Phases p) where
+module _ {house : House} {p : Protocol} (i : Invariant house p) (f : Phases p) where
   -- t's coordinator s, in a round
   module _ (s t : ℕ) (c : coordinatorOf t ≡ s) (held : Held p s t) where
     number : (AtStage p s t stage.decided → ⊥) → p .num t ≡ 0
@@ -131,13 +132,13 @@ module _ {sites : ℕ} {p : Protocol} (i : Invariant sites p) (f : Phases p) whe
       go (inl h) = h
       go (inr e) = absurd (o e)
 
-  step : (q : Protocol) → Move sites p q → Phases q
+  step : (q : Protocol) → Move house p q → Phases q
   unfolding newSub withParticipant withReply withDecision withQueueMark withRequest withStage noSub
   step q (begin s t d l m n e) =
       let c : coordinatorOf t ≡ s = rw e (tx-coordinator s (p .serial s + 1) (omega arith)) in
       writes-none i f q s t c (part-begun p q s t _ refl refl refl refl) refl refl
       (λ r l fw bk x. own-now s t (newSub t d (maskOf s) (length (inst p s)))
-      (rests-on _ (λ k. new-tx sites p s t (i .parts) n e s (i .parts .has s t (λ z. omega arith))) (λ y. absurd (none-in r (y .1))) x))
+      (rests-on _ (λ k. new-tx house p s t (i .parts) n e s (i .parts .has s t (λ z. omega arith))) (λ y. absurd (none-in r (y .1))) x))
   step q (enlist s t r c a l m n o) =
       let held : Held p s t = λ z. omega arith in
       writes-one i f q s t c (part-now p q s t _ refl refl (λ u n. refl) (λ u n. refl)) refl r (mJoin t (p .live s t .desk)) refl n refl
@@ -193,7 +194,7 @@ module _ {sites : ℕ} {p : Protocol} (i : Invariant sites p) (f : Phases p) whe
   step q (full a s t d r n z) =
       let o = said i n in
       answers i f q a s t (mJoin t d) n refl (part-same p q s t refl refl refl refl) refl refl refl (mJoined t r) refl refl (o .0) (o .2)
-      (λ fw bk y. full-on r (new-join sites p a s t d (i .posts) n) y)
+      (λ fw bk y. full-on r (new-join house p a s t d (i .posts) n) y)
   step q (joined a s t r n x o) =
       let k = said i n in
       let b = withCourse (p .live s t) (withReply (courseAt p s t) a r 0) in
@@ -262,7 +263,7 @@ module _ {sites : ℕ} {p : Protocol} (i : Invariant sites p) (f : Phases p) whe
       (rests-on _ (λ z. omega (arith, rw (o .0 ∙ sym e) at (i .account .dead t (o .1) .1)))
       (λ z. no-round _ _ _ (λ y. omega arith)) y)))
       (λ e. takes i f q a s t (mAbort t) x refl part refl refl refl refl (o .0) e (λ fw bk y. there-now s t noSub (aborts-on _ y)))
-  step q (passes a s n m x) = passed (origin sites p a s m (said i x))
+  step q (passes a s n m x) = passed (origin house p a s m (said i x))
     where
       part : Part s (txIn m) p q
       part = part-same p q s (txIn m) refl refl refl refl
@@ -275,14 +276,15 @@ module _ {sites : ℕ} {p : Protocol} (i : Invariant sites p) (f : Phases p) whe
       passed (inr (c, o)) =
           hears i f q a s (txIn m) m x refl part refl refl refl refl c o (λ fw bk y. passes-back m y) (λ j l u v fw bk y. y)
 
-pub phases-step : {sites : ℕ} {p q : Protocol} → Invariant sites p → Phases p → Move sites p q → Phases q
+pub phases-step : {house : House} {p q : Protocol} → Invariant house p → Phases p → Move house p q → Phases q
 phases-step {q = q} i f m = step i f q m
 
 pub phases-fresh : Phases freshProtocol
 unfolding freshProtocol noSub pending about
 phases-fresh t r l n = idle (λ z. absurd (none-in r (z .1)))
 
-pub phases-steps : {sites : ℕ} {v w : Stream} → sites ≤ 8 → Steps sites v w → Standing sites v → Phases (v .protocol) → Phases (w .protocol)
+pub phases-steps : {house : House} {v w : Stream} → house .sites ≤ 8 → Steps house v w → Standing house v → Phases (v .protocol)
+    → Phases (w .protocol)
 phases-steps few stop z f = f
 phases-steps few (more ss (moves q m)) z f = phases-step (standing-steps few ss z .invariant) (phases-steps few ss z f) m
 phases-steps few (more ss (merges n m)) z f = phases-steps few ss z f

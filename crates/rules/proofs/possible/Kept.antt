@@ -13,7 +13,7 @@ use Rattle.kinds.specs.Desk as desk
 use Rattle.kinds.specs.State.{Value, subAt, noSub, pastSub, noEntry, pastEntry}
 use Rattle.kinds.specs.declared.House.{House}
 use Rattle.kinds.specs.declared.Site.{Site}
-use Rattle.rules.specs.House.{houseOk, isSite, inMask, coordinatorOf}
+use Rattle.rules.specs.House.{houseOk, isSite, inMask, coordinatorOf, GoodHouse}
 use Rattle.rules.specs.Desk.{isDesk}
 use Rattle.rules.specs.Message.{messageOk}
 use Rattle.rules.specs.Live.{placeOf, freePlace, stageAt}
@@ -100,50 +100,48 @@ module _ (s : Site) (no : siteOk s ≡ false) where
       (λ z. absurd (not-handed lists (arrival-clear _ _ _ z .valid))) refl
 
 -- What is kept.
-abbrev pub houseOf : ℕ → House
-houseOf sites = record { sites = sites }
-
-pub record Kept (sites : ℕ) (w : World) : Type 0 where
-  pub site : (s : ℕ) → 1 ≤ s → s ≤ sites → handedOk (w .site s) (w .lists s) ≡ true
-  pub pass : All (Passes (houseOf sites)) (w .sent)
+pub record Kept (house : House) (w : World) : Type 0 where
+  pub site : (s : ℕ) → 1 ≤ s → s ≤ house .sites → handedOk (w .site s) (w .lists s) ≡ true
+  pub pass : All (Passes house) (w .sent)
 
 -- s is a site of the house, or none
-pub by-site : {P : Type 0} (sites s : ℕ) → (1 ≤ s → s ≤ sites → P) → (((1 ≤ s) × (s ≤ sites) → ⊥) → P) → P
-by-site sites s f g =
+pub by-site : {P : Type 0} (house : House) (s : ℕ) → (1 ≤ s → s ≤ house .sites → P) → (((1 ≤ s) × (s ≤ house .sites) → ⊥) → P) → P
+by-site house s f g =
     by-test (leb 1 s)
-    (λ a. by-test (leb s sites)
-    (λ b. f (leb-true 1 s a) (leb-true s sites b))
-    (λ b. g (λ z. omega (arith, leb-false s sites b))))
+    (λ a. by-test (leb s (house .sites))
+    (λ b. f (leb-true 1 s a) (leb-true s (house .sites) b))
+    (λ b. g (λ z. omega (arith, leb-false s (house .sites) b))))
     (λ a. g (λ z. omega (arith, leb-false 1 s a)))
 
-module _ {sites : ℕ} {w : World} {p : Protocol} (r : Refines sites w p) (i : Invariant sites p) (k : Kept sites w) where
-  pub house-is : (s : ℕ) → 1 ≤ s → s ≤ sites → w .site s .house ≡ houseOf sites
-  house-is s a b = let e = r .site s a b .house in λ j. record { sites = e j }
+module _ {house : House} {w : World} {p : Protocol} (r : Refines house w p) (i : Invariant house p) (k : Kept house w) where
+  pub house-is : (s : ℕ) → 1 ≤ s → s ≤ house .sites → w .site s .house ≡ house
+  house-is s a b = r .site s a b .house-is
 
-  site-kept : (s : ℕ) (e : Effect) (base : List Value) (lists : List ℕ) → (1 ≤ s → s ≤ sites → EffectFits (w .site s) e lists)
-      → (siteOk (w .site s) ≡ false → e .words ≡ []) → Kept sites (siteStep w s e base lists .world)
+  site-kept : (s : ℕ) (e : Effect) (base : List Value) (lists : List ℕ) → (1 ≤ s → s ≤ house .sites → EffectFits (w .site s) e lists)
+      → (siteOk (w .site s) ≡ false → e .words ≡ []) → Kept house (siteStep w s e base lists .world)
   unfolding siteStep
   site-kept s e base lists f silent =
       record {
-        site = upd-both (λ j x y. 1 ≤ j → j ≤ sites → handedOk x y ≡ true) (w .site) (w .lists) s (e .site) lists (λ a b. f a b .handed)
+        site =
+            upd-both (λ j x y. 1 ≤ j → j ≤ house .sites → handedOk x y ≡ true) (w .site) (w .lists) s (e .site) lists (λ a b. f a b .handed)
             (λ j n. k .site j);
         pass = all-append (k .pass) (made-in words);
       }
     where
-      words : Made (Passes (houseOf sites)) (e .words)
-      words = by-site sites s (λ a b. rw (house-is s a b) at (f a b .words)) (λ n. rw (silent (r .outside s n)) none)
+      words : Made (Passes house) (e .words)
+      words = by-site house s (λ a b. rw (house-is s a b) at (f a b .words)) (λ n. rw (silent (r .outside s n)) none)
 
-  log-kept : (s : ℕ) (e : Effect) (base : List Value) → (1 ≤ s → s ≤ sites → handedOk (e .site) (w .lists s) ≡ true)
-      → Kept sites (logStep w s e base .world)
+  log-kept : (s : ℕ) (e : Effect) (base : List Value) → (1 ≤ s → s ≤ house .sites → handedOk (e .site) (w .lists s) ≡ true)
+      → Kept house (logStep w s e base .world)
   unfolding logStep
   log-kept s e base f =
       record {
-        site = upd-cases (λ j x. 1 ≤ j → j ≤ sites → handedOk x (w .lists j) ≡ true) (w .site) s (e .site) f (λ j n. k .site j);
+        site = upd-cases (λ j x. 1 ≤ j → j ≤ house .sites → handedOk x (w .lists j) ≡ true) (w .site) s (e .site) f (λ j n. k .site j);
         pass = k .pass;
       }
 
   -- a transaction's coordinator is in its mask
-  own-masked : (s t : ℕ) → 1 ≤ s → s ≤ sites → placeOf (w .site s .live) t < sizes.live → isMine (w .site s) t ≡ true
+  own-masked : (s t : ℕ) → 1 ≤ s → s ≤ house .sites → placeOf (w .site s .live) t < sizes.live → isMine (w .site s) t ≡ true
       → inMask (subAt (w .site s) (placeOf (w .site s .live) t) .course .mask) (w .site s .counters .own) ≡ true
   own-masked s t a b low mine =
       let y = r .site s a b in
@@ -151,12 +149,12 @@ module _ {sites : ℕ} {w : World} {p : Protocol} (r : Refines sites w p) (i : I
       let c : coordinatorOf t ≡ s = eqb-true _ _ mine ∙ y .counters .own-is in
       rw (course-is A, y .counters .own-is) ((rw c at (i .rounds .own t)) (A .held))
 
-  sound : (s : ℕ) → 1 ≤ s → s ≤ sites → Sound (w .site s) (w .lists s)
+  sound : (s : ℕ) → 1 ≤ s → s ≤ house .sites → Sound (w .site s) (w .lists s)
   sound s a b =
       let y = r .site s a b in
       record { handed = k .site s a b; row = p .live s; live = y .live; history = y .history .size }
 
-  pub call-keeps : (c : Call) → Kept sites (step w c .world)
+  pub call-keeps : (c : Call) → Kept house (step w c .world)
   unfolding step mergeStep mergerStep replayStep copyStep
   call-keeps (world.begin s d) = site-kept s _ _ _ (λ a b. begin-fits (sound s a b) d) (λ f. begin-silent (w .site s) f d)
   call-keeps (world.enlist s out t n) =
@@ -181,22 +179,22 @@ module _ {sites : ℕ} {w : World} {p : Protocol} (r : Refines sites w p) (i : I
   call-keeps (world.value c key) = k
 
 -- A fresh house.
-module _ (sites s : ℕ) (some : 1 ≤ sites) (few : sites ≤ sizes.sites) (low : 1 ≤ s) (high : s ≤ sites) where
+module _ (house : House) (s : ℕ) (good : GoodHouse house) (low : 1 ≤ s) (high : s ≤ house .sites) where
   abbrev fresh : Site
-  fresh = freshSite sites s
+  fresh = freshSite (house .sites) s
 
-  house-ok : houseOk (houseOf sites) ≡ true
+  house-ok : houseOk house ≡ true
   unfolding houseOk
-  house-ok = rw (le-leb 1 sites some, le-leb sites sizes.sites few)
+  house-ok = rw (le-leb 1 (house .sites) (good .some), le-leb (house .sites) sizes.sites (good .few))
 
-  here-ok : isSite (houseOf sites) s ≡ true
+  here-ok : isSite house s ≡ true
   unfolding isSite
-  here-ok = rw (le-leb 1 s low, le-leb s sites high)
+  here-ok = rw (le-leb 1 s low, le-leb s (house .sites) high)
 
   fresh-ok : siteOk fresh ≡ true
   unfolding freshSite countersOk noSub noEntry remembered
   fresh-ok =
-      let o = houseOf sites in
+      let o = house in
       let v = valid-house o s house-ok here-ok in
       let b = sub-made o s noSub (none-fits o s v) (no-keys o s) (new-desk desk.house house-desk) (λ n. absurd (n refl)) in
       site-made fresh (record {
@@ -212,14 +210,14 @@ module _ (sites s : ℕ) (some : 1 ≤ sites) (few : sites ≤ sizes.sites) (low
   unfolding freshSite noSub
   fresh-handed =
       handed-made fresh (replicate sizes.lists 0) (length-replicate {A = ℕ} sizes.lists 0) fresh-ok
-      (lists-made (houseOf sites) (replicate sizes.live noSub) (replicate sizes.lists 0)
-      (λ i h. rw (getD-replicate sizes.live i noSub pastSub h) (gathered-made (houseOf sites) noSub _ (λ f. absurd (f refl)))))
+      (lists-made house (replicate sizes.live noSub) (replicate sizes.lists 0)
+      (λ i h. rw (getD-replicate sizes.live i noSub pastSub h) (gathered-made house noSub _ (λ f. absurd (f refl)))))
 
-pub fresh-kept : (sites : ℕ) → 1 ≤ sites → sites ≤ sizes.sites → Kept sites (freshWorld sites)
+pub fresh-kept : (house : House) → GoodHouse house → Kept house (freshWorld house)
 unfolding freshWorld
-fresh-kept sites some few =
+fresh-kept house good =
     record {
-      site = λ s a b. rw (started sites s some few a b, fresh-table (startCode sites s sizes.keys sizes.lists) sizes.lists)
-          (fresh-handed sites s some few a b);
+      site = λ s a b. rw (started house s good a b, fresh-table (startCode (house .sites) s sizes.keys sizes.lists) sizes.lists)
+          (fresh-handed house s good a b);
       pass = a-nil;
     }

@@ -32,17 +32,17 @@ use Rattle.rules.proofs.possible.WhyRefused.{begin-why, enlist-why, rea
 use Rattle.rules.proofs.possible.WhyRefused.{report-why, search-why}
 use Rattle.rules.proofs.possible.WhyRefused.{merge-why, emit-why, replay-why, value-why}
 use Rattle.rules.proofs.possible.NextGoes.{message-why, next-stopped}
-use Rattle.rules.proofs.possible.Kept.{Kept, houseOf, house-is, call-keeps, fresh-kept}
+use Rattle.rules.proofs.possible.Kept.{Kept, house-is, call-keeps, fresh-kept}
 
-abbrev More : ℕ → World → Stream → Type 0
-More sites w v = Kept sites w
+abbrev More : House → World → Stream → Type 0
+More house w v = Kept house w
 
-calls-keep : {sites : ℕ} → Keeps (More sites) sites
+calls-keep : {house : House} → Keeps (More house) house
 calls-keep w v u c h i z ss e j k = call-keeps (i .refines) (z .invariant) k c
 
-module _ {sites : ℕ} {w : World} {b : List Fact} (x : Stands (More sites) sites w b) where
+module _ {house : House} {w : World} {b : List Fact} (x : Stands (More house) house w b) where
   abbrev o : House
-  o = houseOf sites
+  o = house
 
   site-ok : (s : ℕ) → isSite o s ≡ true → handedOk (w .site s) (w .lists s) ≡ true
   site-ok s t = let c = site-clear o s t in x .more .site s (c .low) (c .high)
@@ -54,7 +54,7 @@ module _ {sites : ℕ} {w : World} {b : List Fact} (x : Stands (More sites) site
   base-long s t = let c = site-clear o s t in x .is .refines .site s (c .low) (c .high) .base-size
 
   merger-house : w .merger .house ≡ o
-  merger-house = let e = x .is .merger .house in λ j. record { sites = e j }
+  merger-house = x .is .merger .house-is
 
   merger-ok : mergerOk (w .merger) (w .queues) ≡ true
   merger-ok = clear-merger (w .merger) (w .queues) (x .is .merger .holds .clear)
@@ -127,6 +127,6 @@ module _ {sites : ℕ} {w : World} {b : List Fact} (x : Stands (More sites) site
 
 pub possible : Possible
 unfolding Possible MessagesProgress
-possible sites calls some few lawful =
-    let x = list-stands (More sites) few calls-keep some (fresh-kept sites some few) calls lawful in
-    (states-possible x, messages-pass x, next-goes x (messages-progress sites calls some few lawful .0))
+possible house calls good lawful =
+    let x = list-stands (More house) (good .few) calls-keep good (fresh-kept house good) calls lawful in
+    (states-possible x, messages-pass x, next-goes x (messages-progress house calls good lawful .0))

@@ -8,6 +8,7 @@ use native.Mathlib.Omega.{arith}
 use native.Mathlib.Nat.{eq-or-lt-of-le}
 use lib.ListN.{length, getD, length-append, List·getD-append}
 use lib.Seq.{getD-append-seam}
+use Rattle.kinds.specs.declared.House.{House}
 use Rattle.laws.specs.Choice.{set-not}
 use Rattle.kinds.specs.Stage as stage
 use Rattle.kinds.specs.declared.Entry.{Entry}
@@ -24,23 +25,23 @@ use Rattle.rules.proofs.protocol.Turns.{l-state}
 use Rattle.rules.proofs.protocol.Turns.{turns, logs}
 use Rattle.rules.proofs.protocol.News.{News, news}
 
-pub record Change (sites : ℕ) (p q : Protocol) : Type 0 where
+pub record Change (house : House) (p q : Protocol) : Type 0 where
   pub later : Later p q
   pub news : News p q
   pub turns : (s t : ℕ) → Turn p q s t (q .live s t)
   pub logs : (s : ℕ) → Logged p s (q .log s)
-  pub parts : Parts sites q
+  pub parts : Parts house q
   pub courses : Courses q
 
-pub change : (sites : ℕ) (p q : Protocol) → sites ≤ 8 → Move sites p q → Invariant sites p → Change sites p q
-change sites p q h m i =
+pub change : (house : House) (p q : Protocol) → house .sites ≤ 8 → Move house p q → Invariant house p → Change house p q
+change house p q h m i =
     record {
-      later = later sites p i q m;
+      later = later house p i q m;
       news = news i q m;
       turns = turns i q m;
       logs = logs i q m;
-      parts = parts-step sites p q h m i;
-      courses = courses-step sites p q h m i;
+      parts = parts-step house p q h m i;
+      courses = courses-step house p q h m i;
     }
 
 -- t was installed in the move
@@ -77,7 +78,7 @@ Stays p q s t = (q .has s t ≡ p .has s t) × (q .snap s t ≡ p .snap s t) × 
 abbrev Begun : Protocol → Protocol → ℕ → ℕ → Type 0
 Begun p q s t = (p .has s t ≡ true → ⊥) × (q .has s t ≡ true) × Held q s t
 
-module _ {sites : ℕ} {p : Protocol} (i : Invariant sites p) {q : Protocol} (c : Change sites p q) where
+module _ {house : House} {p : Protocol} (i : Invariant house p) {q : Protocol} (c : Change house p q) where
   -- Logs.
   pub stands : (s j : ℕ) → j < length (inst p s) → (j < length (inst q s)) × (at q s j ≡ at p s j)
   stands s = kept-at p s (q .log s) (c .logs s)

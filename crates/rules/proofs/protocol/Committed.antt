@@ -5,6 +5,7 @@ use mathlib.Core.Path.{_≡_}
 use mathlib.Core.Bool.{true, false}
 use mathlib.Core.Logic.{_⊎_, inl, inr}
 use native.Mathlib.Omega.{arith}
+use Rattle.kinds.specs.declared.House.{House}
 use Rattle.laws.specs.Choice.{unset}
 use Rattle.kinds.specs.Stage as stage
 use Rattle.rules.specs.House.{coordinatorOf}
@@ -12,7 +13,7 @@ use Rattle.rules.proofs.protocol.ProtocolTables.{Protocol}
 use Rattle.rules.proofs.protocol.Protocol.{AtStage}
 use Rattle.rules.proofs.protocol.Invariants.{In, Installed, Parts, Account, Invariant}
 
-module _ {sites : ℕ} {p : Protocol} (k : Parts sites p) (a : Account p) (u : ℕ) (n : 0 < p .num u) where
+module _ {house : House} {p : Protocol} (k : Parts house p) (a : Account p) (u : ℕ) (n : 0 < p .num u) where
   pub committed-asked : p .asked u ≡ true
   committed-asked = a .certed-asked u (a .num-certed u n)
 
@@ -26,17 +27,18 @@ module _ {sites : ℕ} {p : Protocol} (k : Parts sites p) (a : Account p) (u : �
   committed-yes s h = a .voted u s n (committed-in s h)
 
 -- coordinators are sites
-pub low-coordinator : {sites : ℕ} {p : Protocol} → sites ≤ 8 → Parts sites p → (s t : ℕ) → p .has s t ≡ true → coordinatorOf t ≤ 8
+pub low-coordinator : {house : House} {p : Protocol} → house .sites ≤ 8 → Parts house p → (s t : ℕ) → p .has s t ≡ true
+    → coordinatorOf t ≤ 8
 low-coordinator h k s t x = let z = k .site _ t (k .coordinator s t x) in omega arith
 
 -- a committed transaction has a part at its coordinator
-pub coordinator-has : {sites : ℕ} {p : Protocol} → Invariant sites p → (t : ℕ) → 0 < p .num t → p .has (coordinatorOf t) t ≡ true
+pub coordinator-has : {house : House} {p : Protocol} → Invariant house p → (t : ℕ) → 0 < p .num t → p .has (coordinatorOf t) t ≡ true
 coordinator-has {p = p} i t n = go (i .order .held t n)
   where
     go : AtStage p (coordinatorOf t) t stage.decided ⊎ Installed p (coordinatorOf t) t → p .has (coordinatorOf t) t ≡ true
     go (inl x) = i .parts .has (coordinatorOf t) t (λ f. omega arith)
     go (inr (j, (l, e))) = rw e at (i .parts .entry-has (coordinatorOf t) j l)
 
-pub coordinator-site : {sites : ℕ} {p : Protocol} → Invariant sites p → (t : ℕ) → 0 < p .num t
-    → (1 ≤ coordinatorOf t) × (coordinatorOf t ≤ sites)
+pub coordinator-site : {house : House} {p : Protocol} → Invariant house p → (t : ℕ) → 0 < p .num t
+    → (1 ≤ coordinatorOf t) × (coordinatorOf t ≤ house .sites)
 coordinator-site i t n = i .parts .site (coordinatorOf t) t (coordinator-has i t n)

@@ -11,6 +11,7 @@ use lib.Dec.{eqb, leb}
 use lib.ListN.{length, getD}
 use Rattle.laws.specs.Choice.{every, every-at, by-test, unset}
 use Rattle.kinds.specs.Sizes as sizes
+use Rattle.kinds.specs.declared.House.{House}
 use Rattle.rules.specs.House.{coordinatorOf, serialOf, txOf, inMask}
 use Rattle.rules.specs.World.{upd}
 use Rattle.rules.proofs.lists.Tables.{upd₂, upd-cases, upd₂-cases, all-at}
@@ -47,20 +48,20 @@ in-range [] i d e h = absurd (omega arith)
 in-range (x ∷ l) zero d e h = refl
 in-range (x ∷ l) (suc i) d e h = in-range l i d e (omega arith)
 
-pub next-ok : (sites : ℕ) (p : Protocol) (a b : ℕ) (m : Msg) → Next p a b m → Posts sites p → MsgOk sites p a b m
-next-ok sites p a b m n i = rw (n .is) at (all-at (i .ok a b) m (p .taken a b) (n .some))
+pub next-ok : (house : House) (p : Protocol) (a b : ℕ) (m : Msg) → Next p a b m → Posts house p → MsgOk house p a b m
+next-ok house p a b m n i = rw (n .is) at (all-at (i .ok a b) m (p .taken a b) (n .some))
 
-pub next-sites : (sites : ℕ) (p : Protocol) (a b : ℕ) (m : Msg) → Next p a b m → Posts sites p
-    → ((1 ≤ a) × (a ≤ sites)) × ((1 ≤ b) × (b ≤ sites))
-next-sites sites p a b m n i = i .sender a b (omega (arith, n .some))
+pub next-sites : (house : House) (p : Protocol) (a b : ℕ) (m : Msg) → Next p a b m → Posts house p
+    → ((1 ≤ a) × (a ≤ house .sites)) × ((1 ≤ b) × (b ≤ house .sites))
+next-sites house p a b m n i = i .sender a b (omega (arith, n .some))
 
 -- the same of an invariant
-pub said : {sites : ℕ} {p : Protocol} {a b : ℕ} {m : Msg} → Invariant sites p → Next p a b m → MsgOk sites p a b m
-said {sites} {p} {a} {b} {m} i n = next-ok sites p a b m n (i .posts)
+pub said : {house : House} {p : Protocol} {a b : ℕ} {m : Msg} → Invariant house p → Next p a b m → MsgOk house p a b m
+said {house} {p} {a} {b} {m} i n = next-ok house p a b m n (i .posts)
 
-pub ends : {sites : ℕ} {p : Protocol} {a b : ℕ} {m : Msg} → Invariant sites p → Next p a b m
-    → ((1 ≤ a) × (a ≤ sites)) × ((1 ≤ b) × (b ≤ sites))
-ends {sites} {p} {a} {b} {m} i n = next-sites sites p a b m n (i .posts)
+pub ends : {house : House} {p : Protocol} {a b : ℕ} {m : Msg} → Invariant house p → Next p a b m
+    → ((1 ≤ a) × (a ≤ house .sites)) × ((1 ≤ b) × (b ≤ house .sites))
+ends {house} {p} {a} {b} {m} i n = next-sites house p a b m n (i .posts)
 
 -- No part yet: of the next serial anywhere, of the next JOIN at its site.
 pub tx-coordinator : (s n : ℕ) → n < sizes.serials → coordinatorOf (txOf s n) ≡ s
@@ -71,17 +72,18 @@ pub tx-serial : (s n : ℕ) → n < sizes.serials → serialOf (txOf s n) ≡ n
 unfolding serialOf txOf
 tx-serial s n h = omega arith
 
-pub new-tx : (sites : ℕ) (p : Protocol) (s t : ℕ) → Parts sites p → p .serial s < sizes.lastSerial → t ≡ txOf s (p .serial s + 1) → (j : ℕ)
+pub new-tx : (house : House) (p : Protocol) (s t : ℕ) → Parts house p → p .serial s < sizes.lastSerial → t ≡ txOf s (p .serial s + 1)
+    → (j : ℕ)
     → p .has j t ≡ true → ⊥
-new-tx sites p s t i l e j h =
+new-tx house p s t i l e j h =
     let q = i .serial j t h .1 in
     let c : coordinatorOf t ≡ s = rw e (tx-coordinator s (p .serial s + 1) (omega arith)) in
     let n : serialOf t ≡ p .serial s + 1 = rw e (tx-serial s (p .serial s + 1) (omega arith)) in
     omega (arith, q, n, ap (p .serial) c)
 
-pub new-join : (sites : ℕ) (p : Protocol) (a s t d : ℕ) → Posts sites p → Next p a s (mJoin t d) → p .has s t ≡ true → ⊥
-new-join sites p a s t d i n h =
-    let o = next-ok sites p a s (mJoin t d) n i in
+pub new-join : (house : House) (p : Protocol) (a s t d : ℕ) → Posts house p → Next p a s (mJoin t d) → p .has s t ≡ true → ⊥
+new-join house p a s t d i n h =
+    let o = next-ok house p a s (mJoin t d) n i in
     go (i .join-taken s t h (λ q. o .2 (q ∙ o .0))) (o .0)
   where
     go : (k : ℕ) × (k < p .taken (coordinatorOf t) s) × IsJoin t (getD (p .post (coordinatorOf t) s) k (mAbort 0))

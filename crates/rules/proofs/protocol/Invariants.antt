@@ -7,6 +7,7 @@ use mathlib.Core.List.{List, [], _∷_, _++_}
 use lib.ListN.{length, getD}
 use Rattle.laws.specs.Pair.{rank}
 use Rattle.kinds.specs.Sizes as sizes
+use Rattle.kinds.specs.declared.House.{House}
 use Rattle.kinds.specs.Stage as stage
 use Rattle.kinds.specs.declared.Entry.{Entry}
 use Rattle.kinds.specs.State.{pastEntry}
@@ -42,7 +43,7 @@ abbrev pub In : ℕ → ℕ → Type 0
 In mask r = (1 ≤ r) × (inMask mask r ≡ true)
 
 -- Parts: a part begins once at a site, and is held or installed, never both.
-pub record Parts (sites : ℕ) (p : Protocol) : Type 0 where
+pub record Parts (house : House) (p : Protocol) : Type 0 where
   pub tx : (s t : ℕ) → Held p s t → p .live s t .tx ≡ t
   pub has : (s t : ℕ) → Held p s t → p .has s t ≡ true
   pub snap : (s t : ℕ) → Held p s t → p .live s t .snapshot .installs ≡ p .snap s t
@@ -52,29 +53,29 @@ pub record Parts (sites : ℕ) (p : Protocol) : Type 0 where
   pub entry-keys : (s i : ℕ) → i < length (inst p s) → at p s i .keys ≡ p .keys s (at p s i .tx)
   pub entry-gone : (s i : ℕ) → i < length (inst p s) → AtStage p s (at p s i .tx) stage.free
   pub entry-once : (s i j : ℕ) → i < length (inst p s) → j < length (inst p s) → at p s i .tx ≡ at p s j .tx → i ≡ j
-  pub site : (s t : ℕ) → p .has s t ≡ true → (1 ≤ s) × (s ≤ sites)
+  pub site : (s t : ℕ) → p .has s t ≡ true → (1 ≤ s) × (s ≤ house .sites)
   pub coordinator : (s t : ℕ) → p .has s t ≡ true → p .has (coordinatorOf t) t ≡ true
   pub serial : (s t : ℕ) → p .has s t ≡ true → (1 ≤ serialOf t) × (serialOf t ≤ p .serial (coordinatorOf t))
 
 -- Posts: where messages come from.
-abbrev pub MsgOk : ℕ → Protocol → ℕ → ℕ → Msg → Type 0
-MsgOk sites p a b (mJoin t d) = (coordinatorOf t ≡ a) × (p .has a t ≡ true) × (b ≡ a → ⊥) × ((1 ≤ b) × (b ≤ sites))
+abbrev pub MsgOk : House → Protocol → ℕ → ℕ → Msg → Type 0
+MsgOk house p a b (mJoin t d) = (coordinatorOf t ≡ a) × (p .has a t ≡ true) × (b ≡ a → ⊥) × ((1 ≤ b) × (b ≤ house .sites))
     × (Held p a t → inMask (courseAt p a t .mask) b ≡ true) × (p .asked t ≡ true → inMask (p .mask t) b ≡ true)
-MsgOk sites p a b (mJoined t r) = (coordinatorOf t ≡ b) × (a ≡ b → ⊥) × (r ≡ 0 → p .has a t ≡ true)
-MsgOk sites p a b (mPrepare t n m) = (coordinatorOf t ≡ a) × (p .asked t ≡ true) × (m ≡ p .mask t) × (inMask (p .mask t) b ≡ true)
+MsgOk house p a b (mJoined t r) = (coordinatorOf t ≡ b) × (a ≡ b → ⊥) × (r ≡ 0 → p .has a t ≡ true)
+MsgOk house p a b (mPrepare t n m) = (coordinatorOf t ≡ a) × (p .asked t ≡ true) × (m ≡ p .mask t) × (inMask (p .mask t) b ≡ true)
     × (b ≡ a → ⊥)
-MsgOk sites p a b (mConc t es) = (coordinatorOf t ≡ b) × (a ≡ b → ⊥) × (p .made a t ≡ true) × (p .list a t ≡ es)
-MsgOk sites p a b (mCert t es) = (coordinatorOf t ≡ a) × (p .certed t ≡ true) × (p .cert t ≡ es) × (inMask (p .mask t) b ≡ true)
+MsgOk house p a b (mConc t es) = (coordinatorOf t ≡ b) × (a ≡ b → ⊥) × (p .made a t ≡ true) × (p .list a t ≡ es)
+MsgOk house p a b (mCert t es) = (coordinatorOf t ≡ a) × (p .certed t ≡ true) × (p .cert t ≡ es) × (inMask (p .mask t) b ≡ true)
     × (b ≡ a → ⊥)
-MsgOk sites p a b (mVote t n r) = (coordinatorOf t ≡ b) × (a ≡ b → ⊥) × (r ≡ 0 → (p .yes a t ≡ true) × (p .queueMark a t ≡ n))
-MsgOk sites p a b (mCommit t n) = (coordinatorOf t ≡ a) × (p .num t ≡ n) × (0 < n)
-MsgOk sites p a b (mAbort t) = (coordinatorOf t ≡ a) × (p .dead t ≡ true)
+MsgOk house p a b (mVote t n r) = (coordinatorOf t ≡ b) × (a ≡ b → ⊥) × (r ≡ 0 → (p .yes a t ≡ true) × (p .queueMark a t ≡ n))
+MsgOk house p a b (mCommit t n) = (coordinatorOf t ≡ a) × (p .num t ≡ n) × (0 < n)
+MsgOk house p a b (mAbort t) = (coordinatorOf t ≡ a) × (p .dead t ≡ true)
 
-pub record Posts (sites : ℕ) (p : Protocol) : Type 0 where
-  pub ok : (a b : ℕ) → All (MsgOk sites p a b) (p .post a b)
+pub record Posts (house : House) (p : Protocol) : Type 0 where
+  pub ok : (a b : ℕ) → All (MsgOk house p a b) (p .post a b)
   pub count : (a b : ℕ) → p .taken a b ≤ length (p .post a b)
-  pub sender : (a b : ℕ) → 0 < length (p .post a b) → ((1 ≤ a) × (a ≤ sites)) × ((1 ≤ b) × (b ≤ sites))
-  pub members : (t r : ℕ) → Held p (coordinatorOf t) t → In (courseAt p (coordinatorOf t) t .mask) r → r ≤ sites
+  pub sender : (a b : ℕ) → 0 < length (p .post a b) → ((1 ≤ a) × (a ≤ house .sites)) × ((1 ≤ b) × (b ≤ house .sites))
+  pub members : (t r : ℕ) → Held p (coordinatorOf t) t → In (courseAt p (coordinatorOf t) t .mask) r → r ≤ house .sites
   pub join-once : (a b t i j : ℕ) → i < length (p .post a b) → j < length (p .post a b)
       → IsJoin t (getD (p .post a b) i (mAbort 0)) → IsJoin t (getD (p .post a b) j (mAbort 0)) → i ≡ j
   pub join-taken : (s t : ℕ) → p .has s t ≡ true → (s ≡ coordinatorOf t → ⊥)
@@ -183,9 +184,9 @@ pub record Lists (p : Protocol) : Type 0 where
       → InstalledAs p s (entryTx (p .cert t) j) i → i < p .snap s t
       → (entryMark (p .cert t) j ≡ 1 → ⊥) × (dependent (p .keys s t) (p .keys s (entryTx (p .cert t) j)) ≡ false)
 
-pub record Invariant (sites : ℕ) (p : Protocol) : Type 0 where
-  pub parts : Parts sites p
-  pub posts : Posts sites p
+pub record Invariant (house : House) (p : Protocol) : Type 0 where
+  pub parts : Parts house p
+  pub posts : Posts house p
   pub rounds : Rounds p
   pub courses : Courses p
   pub account : Account p

@@ -6,6 +6,7 @@ use mathlib.Core.Bool.{Bool, true, false}
 use mathlib.Core.Logic.{_⊎_, inl, inr}
 use mathlib.Core.List.{List}
 use native.Mathlib.Omega.{arith}
+use Rattle.kinds.specs.declared.House.{House}
 use Rattle.laws.specs.Choice.{set-not}
 use Rattle.kinds.specs.Stage as stage
 use Rattle.kinds.specs.declared.Keys.{Keys}
@@ -130,8 +131,8 @@ module _ {p : Protocol} {clock serial : ℕ → ℕ} {live : ℕ → ℕ → Sub
       go j u (inl (x, y)) = rw (x, y) (inr o)
       go j u (inr h) = inl h
 
-module _ (sites : ℕ) (p : Protocol) (i : Invariant sites p) where
-  pub later : (q : Protocol) → Move sites p q → Later p q
+module _ (house : House) (p : Protocol) (i : Invariant house p) where
+  pub later : (q : Protocol) → Move house p q → Later p q
   later q (begin s t d l m n e) = begun (λ j. omega arith) s t (inl (rw e (tx-coordinator s (p .serial s + 1) (omega arith))))
   later q (enlist s t r c a l m n o) = quiet (λ j. omega arith)
   later q (access s t b fs a told w f m) = quiet (λ j. omega arith)

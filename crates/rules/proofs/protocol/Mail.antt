@@ -6,6 +6,7 @@ use mathlib.Core.Logic.{_⊎_, inl, inr}
 use mathlib.Core.List.{List, [], _∷_, _++_}
 use native.Mathlib.Omega.{arith}
 use lib.ListN.{length}
+use Rattle.kinds.specs.declared.House.{House}
 use Rattle.laws.specs.Choice.{set-not}
 use Rattle.kinds.specs.Stage as stage
 use Rattle.rules.specs.House.{coordinatorOf, inMask, maskOf}
@@ -22,8 +23,8 @@ use Rattle.rules.proofs.protocol.Invariants.{Held, MsgOk, Invariant}
 use Rattle.rules.proofs.protocol.Frames.{others-cases, said, ends}
 use Rattle.rules.proofs.lists.Masks.{in-or-right, own-mask}
 
-abbrev pub Site : ℕ → ℕ → Type 0
-Site sites a = (1 ≤ a) × (a ≤ sites)
+abbrev pub Site : House → ℕ → Type 0
+Site house a = (1 ≤ a) × (a ≤ house .sites)
 
 -- a JOIN goes to a site that was no participant before, for the desk of its sender's part
 abbrev pub FirstJoin : Protocol → ℕ → ℕ → Msg → Type 0
@@ -37,43 +38,43 @@ FirstJoin p a b (mCommit t n) = Unit {0}
 FirstJoin p a b (mAbort t) = Unit {0}
 
 -- a message that may be written from a to b in the move
-abbrev pub Fit : ℕ → Protocol → Protocol → ℕ → ℕ → Msg → Type 0
-Fit sites p q a b m = MsgOk sites q a b m × (Site sites a × Site sites b) × FirstJoin p a b m
+abbrev pub Fit : House → Protocol → Protocol → ℕ → ℕ → Msg → Type 0
+Fit house p q a b m = MsgOk house q a b m × (Site house a × Site house b) × FirstJoin p a b m
 
 abbrev pub Grown : (Msg → Type 0) → List Msg → List Msg → Type 0
 Grown P l k = (k ≡ l) ⊎ ((m : Msg) × (k ≡ l ++ (m ∷ [])) × P m)
 
-abbrev pub Mail : ℕ → Protocol → Protocol → Type 0
-Mail sites p q = (a b : ℕ) → Grown (Fit sites p q a b) (p .post a b) (q .post a b)
+abbrev pub Mail : House → Protocol → Protocol → Type 0
+Mail house p q = (a b : ℕ) → Grown (Fit house p q a b) (p .post a b) (q .post a b)
 
-module _ (sites : ℕ) (p : Protocol) (i : Invariant sites p) where
-  none : (q : Protocol) (a b : ℕ) → Grown (Fit sites p q a b) (p .post a b) (p .post a b)
+module _ (house : House) (p : Protocol) (i : Invariant house p) where
+  none : (q : Protocol) (a b : ℕ) → Grown (Fit house p q a b) (p .post a b) (p .post a b)
   none q a b = inl refl
 
-  one : (q : Protocol) (s r : ℕ) (m : Msg) → Fit sites p q s r m → (a b : ℕ)
-      → Grown (Fit sites p q a b) (p .post a b) (upd₂ (p .post) s r (p .post s r ++ (m ∷ [])) a b)
-  one q s r m f = upd₂-cases (λ a b l. Grown (Fit sites p q a b) (p .post a b) l) (p .post) s r _ (inr (m, refl, f)) (λ a b n. inl refl)
+  one : (q : Protocol) (s r : ℕ) (m : Msg) → Fit house p q s r m → (a b : ℕ)
+      → Grown (Fit house p q a b) (p .post a b) (upd₂ (p .post) s r (p .post s r ++ (m ∷ [])) a b)
+  one q s r m f = upd₂-cases (λ a b l. Grown (Fit house p q a b) (p .post a b) l) (p .post) s r _ (inr (m, refl, f)) (λ a b n. inl refl)
 
   -- the coordinator of a held part, and another participant
   coordinator-sites : (s t j : ℕ) → coordinatorOf t ≡ s → Held p s t → 1 ≤ j → inMask (courseAt p s t .mask) j ≡ true
-      → Site sites s × Site sites j
+      → Site house s × Site house j
   coordinator-sites s t j c h l e =
       (i .parts .site s t (i .parts .has s t h), (l, i .posts .members t j (rw c h) (rw c (l, e))))
 
   -- to all others
   every-other : (q : Protocol) (s t : ℕ) (m : Msg) → coordinatorOf t ≡ s → Held p s t
-      → ((j : ℕ) → inMask (courseAt p s t .mask) j ≡ true → (j ≡ s → ⊥) → MsgOk sites q s j m × FirstJoin p s j m)
-      → (a b : ℕ) → Grown (Fit sites p q a b) (p .post a b) (others (p .post) s (courseAt p s t .mask) m a b)
+      → ((j : ℕ) → inMask (courseAt p s t .mask) j ≡ true → (j ≡ s → ⊥) → MsgOk house q s j m × FirstJoin p s j m)
+      → (a b : ℕ) → Grown (Fit house p q a b) (p .post a b) (others (p .post) s (courseAt p s t .mask) m a b)
   every-other q s t m c h f =
-      others-cases (λ a b l. Grown (Fit sites p q a b) (p .post a b) l) (p .post) s (courseAt p s t .mask) m
+      others-cases (λ a b l. Grown (Fit house p q a b) (p .post a b) l) (p .post) s (courseAt p s t .mask) m
       (λ j l e n. let k = f j e n in inr (m, refl, (k .0, coordinator-sites s t j c h l e, k .1))) (λ a b. inl refl)
 
   -- back to the sender of the message taken
-  back : (q : Protocol) (a s : ℕ) {k : Msg} (m : Msg) → Next p a s k → MsgOk sites q s a m × FirstJoin p s a m
-      → (x y : ℕ) → Grown (Fit sites p q x y) (p .post x y) (upd₂ (p .post) s a (p .post s a ++ (m ∷ [])) x y)
+  back : (q : Protocol) (a s : ℕ) {k : Msg} (m : Msg) → Next p a s k → MsgOk house q s a m × FirstJoin p s a m
+      → (x y : ℕ) → Grown (Fit house p q x y) (p .post x y) (upd₂ (p .post) s a (p .post s a ++ (m ∷ [])) x y)
   back q a s m n f = let e = ends i n in one q s a m (f .0, (e .1, e .0), f .1)
 
-  pub mail : (q : Protocol) → Move sites p q → Mail sites p q
+  pub mail : (q : Protocol) → Move house p q → Mail house p q
   unfolding withParticipant
   mail q (begin s t d l m n e) = none q
   mail q (enlist s t r c a l m n o) =
@@ -154,7 +155,7 @@ module _ (sites : ℕ) (p : Protocol) (i : Invariant sites p) where
   next a s m n =
       upd₂-cases (λ x y k. (p .taken x y ≤ k) × (k ≤ length (p .post x y))) (p .taken) a s _ (omega (arith, n .some)) (λ x y z. idle x y)
 
-  pub takes : (q : Protocol) → Move sites p q → Took (q .taken)
+  pub takes : (q : Protocol) → Move house p q → Took (q .taken)
   takes q (begin s t d l m n e) = idle
   takes q (enlist s t r c a l m n o) = idle
   takes q (access s t b fs a told w f m) = idle

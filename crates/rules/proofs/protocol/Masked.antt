@@ -5,6 +5,7 @@ use mathlib.Core.Bool.{true}
 use mathlib.Core.Logic.{_⊎_, inl, inr}
 use native.Mathlib.Omega.{arith}
 use lib.Bits.{bitOr}
+use Rattle.kinds.specs.declared.House.{House}
 use Rattle.kinds.specs.Stage as stage
 use Rattle.kinds.specs.declared.Course.{Course}
 use Rattle.kinds.specs.declared.Sub.{Sub}
@@ -25,45 +26,45 @@ abbrev pub HeldSub : Sub → Type 0
 HeldSub b = b .course .stage ≡ stage.free → ⊥
 
 -- from b to c, the part of u at its coordinator j
-pub record Masked (sites : ℕ) (p : Protocol) (j u : ℕ) (b c : Sub) : Type 0 where
+pub record Masked (house : House) (p : Protocol) (j u : ℕ) (b c : Sub) : Type 0 where
   pub grows : p .has j u ≡ true → HeldSub c → HeldSub b × ((r : ℕ) → inMask (b .course .mask) r ≡ true → inMask (c .course .mask) r ≡ true)
-  pub within : HeldSub c → (r : ℕ) → In (c .course .mask) r → (HeldSub b × In (b .course .mask) r) ⊎ (r ≤ sites)
+  pub within : HeldSub c → (r : ℕ) → In (c .course .mask) r → (HeldSub b × In (b .course .mask) r) ⊎ (r ≤ house .sites)
 
-abbrev pub MaskedAll : ℕ → Protocol → Protocol → Type 0
-MaskedAll sites p q = (j u : ℕ) → coordinatorOf u ≡ j → Masked sites p j u (p .live j u) (q .live j u)
+abbrev pub MaskedAll : House → Protocol → Protocol → Type 0
+MaskedAll house p q = (j u : ℕ) → coordinatorOf u ≡ j → Masked house p j u (p .live j u) (q .live j u)
 
-module _ (sites : ℕ) (p : Protocol) (i : Invariant sites p) where
-  same : (j u : ℕ) (b c : Sub) → (HeldSub c → HeldSub b) → c .course .mask ≡ b .course .mask → Masked sites p j u b c
+module _ (house : House) (p : Protocol) (i : Invariant house p) where
+  same : (j u : ℕ) (b c : Sub) → (HeldSub c → HeldSub b) → c .course .mask ≡ b .course .mask → Masked house p j u b c
   same j u b c h e = record { grows = λ x y. (h y, λ r z. rw e z); within = λ y r z. inl (h y, rw e at z) }
 
-  gone : (j u : ℕ) (b : Sub) → Masked sites p j u b noSub
+  gone : (j u : ℕ) (b : Sub) → Masked house p j u b noSub
   unfolding noSub
   gone j u b = record { grows = λ x y. absurd (y refl); within = λ y r z. absurd (y refl) }
 
   -- one part changes, perhaps a coordinator's
-  one : (s t : ℕ) (b : Sub) → (coordinatorOf t ≡ s → Masked sites p s t (p .live s t) b) → (j u : ℕ) → coordinatorOf u ≡ j
-      → Masked sites p j u (p .live j u) (upd₂ (p .live) s t b j u)
+  one : (s t : ℕ) (b : Sub) → (coordinatorOf t ≡ s → Masked house p s t (p .live s t) b) → (j u : ℕ) → coordinatorOf u ≡ j
+      → Masked house p j u (p .live j u) (upd₂ (p .live) s t b j u)
   one s t b h =
-      upd₂-cases (λ j u c. coordinatorOf u ≡ j → Masked sites p j u (p .live j u) c) (p .live) s t b h
+      upd₂-cases (λ j u c. coordinatorOf u ≡ j → Masked house p j u (p .live j u) c) (p .live) s t b h
       (λ j u n e. same j u _ _ (λ x. x) refl)
 
   -- a held part's course changes, its mask does not
   course : (s t : ℕ) (c : Course) → Held p s t → c .mask ≡ courseAt p s t .mask → (j u : ℕ) → coordinatorOf u ≡ j
-      → Masked sites p j u (p .live j u) (upd₂ (p .live) s t (withCourse (p .live s t) c) j u)
+      → Masked house p j u (p .live j u) (upd₂ (p .live) s t (withCourse (p .live s t) c) j u)
   course s t c h e = one s t _ (λ o. same s t _ _ (λ x. h) e)
 
-  still : (j u : ℕ) → coordinatorOf u ≡ j → Masked sites p j u (p .live j u) (p .live j u)
+  still : (j u : ℕ) → coordinatorOf u ≡ j → Masked house p j u (p .live j u) (p .live j u)
   still j u e = same j u _ _ (λ x. x) refl
 
   -- PREPARE comes from the coordinator, to another
-  elsewhere : (a s t n m : ℕ) (b : Sub) → Next p a s (mPrepare t n m) → coordinatorOf t ≡ s → Masked sites p s t (p .live s t) b
+  elsewhere : (a s t n m : ℕ) (b : Sub) → Next p a s (mPrepare t n m) → coordinatorOf t ≡ s → Masked house p s t (p .live s t) b
   elsewhere a s t n m b x e = let o = said i x in absurd (o .4 (sym e ∙ o .0))
 
-  pub masked : (q : Protocol) → Move sites p q → MaskedAll sites p q
+  pub masked : (q : Protocol) → Move house p q → MaskedAll house p q
   unfolding newSub withParticipant withReply withDecision withQueueMark withRequest withStage
   masked q (begin s t d l m n e) =
       one s t _ (λ o. record {
-        grows = λ h x. absurd (new-tx sites p s t (i .parts) n e s h);
+        grows = λ h x. absurd (new-tx house p s t (i .parts) n e s h);
         within = λ x r z. inr (let q = only-own s r l (z .0) (z .1) in omega arith);
       })
   masked q (enlist s t r c a l m n o) =
@@ -73,7 +74,7 @@ module _ (sites : ℕ) (p : Protocol) (i : Invariant sites p) where
       })
     where
       more : (k : ℕ) → In (bitOr (courseAt p s t .mask) (maskOf r)) k → (inMask (courseAt p s t .mask) k ≡ true) ⊎ (k ≡ r)
-          → (Held p s t × In (courseAt p s t .mask) k) ⊎ (k ≤ sites)
+          → (Held p s t × In (courseAt p s t .mask) k) ⊎ (k ≤ house .sites)
       more k z (inl e) = inl ((λ f. omega arith), (z .0, e))
       more k z (inr e) = inr (omega arith)
   masked q (access s t b fs a told w f m) = one s t _ (λ o. same s t _ _ (λ x. x) refl)

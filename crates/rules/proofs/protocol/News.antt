@@ -5,6 +5,7 @@ use mathlib.Core.Bool.{true}
 use mathlib.Core.Logic.{_⊎_, inl, inr}
 use mathlib.Core.List.{List}
 use native.Mathlib.Omega.{arith}
+use Rattle.kinds.specs.declared.House.{House}
 use Rattle.kinds.specs.Stage as stage
 use Rattle.kinds.specs.declared.Sub.{Sub}
 use Rattle.kinds.specs.State.{noSub}
@@ -63,7 +64,7 @@ abbrev same : {A B C D E F : Type 0} {a : A} {b : B} {c : C} {d : D} {e : E} {f 
     → (a ≡ a) × (b ≡ b) × (c ≡ c) × (d ≡ d) × (e ≡ e) × (f ≡ f)
 same = (refl, refl, refl, refl, refl, refl)
 
-module _ {sites : ℕ} {p : Protocol} (i : Invariant sites p) where
+module _ {house : House} {p : Protocol} (i : Invariant house p) where
   quiet : (q : Protocol)
       → (q .asked ≡ p .asked) × (q .made ≡ p .made) × (q .certed ≡ p .certed) × (q .yes ≡ p .yes) × (q .num ≡ p .num)
       × (q .dead ≡ p .dead) → News p q
@@ -81,7 +82,7 @@ module _ {sites : ℕ} {p : Protocol} (i : Invariant sites p) where
   own-in : (s t : ℕ) → coordinatorOf t ≡ s → Held p s t → inMask (courseAt p s t .mask) s ≡ true
   own-in s t c h = rw c at (i .rounds .own t (rw c h))
 
-  pub news : (q : Protocol) → Move sites p q → News p q
+  pub news : (q : Protocol) → Move house p q → News p q
   unfolding withDecision noSub
   news q (begin s t d l m n e) = quiet q same
   news q (enlist s t r c a l m n o) = quiet q same

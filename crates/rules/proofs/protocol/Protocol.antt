@@ -10,6 +10,7 @@ use lib.Dec.{eqb, leb}
 use lib.ListN.{length, getD}
 use Rattle.laws.specs.Choice.{pick, every}
 use Rattle.kinds.specs.Sizes as sizes
+use Rattle.kinds.specs.declared.House.{House}
 use Rattle.kinds.specs.Stage as stage
 use Rattle.kinds.specs.declared.Keys.{Keys}
 use Rattle.kinds.specs.declared.Course.{Course}
@@ -127,38 +128,38 @@ beganAt p s t d mask =
     s t (newSub t d mask (length (inst p s)))
 
 -- What a read or a write tells the book. A read uses its key and leaves the writes; a write sets its value and leaves the others.
-pub data Accessed (sites s t : ℕ) (old new : Keys) : List Fact → Type 0 where
-  reads : (k : ℕ) → homeOf (record { sites = sites }) k ≡ s → (readKey new k ≡ true) ⊎ (wroteKey new k ≡ true)
+pub data Accessed (house : House) (s t : ℕ) (old new : Keys) : List Fact → Type 0 where
+  reads : (k : ℕ) → homeOf house k ≡ s → (readKey new k ≡ true) ⊎ (wroteKey new k ≡ true)
       → ((j : ℕ) → readKey old j ≡ true → readKey new j ≡ true)
       → ((j : ℕ) → (wroteKey new j ≡ wroteKey old j) × (wroteKey old j ≡ true → wroteValue new j ≡ wroteValue old j))
-      → Accessed sites s t old new (book.used t k ∷ [])
-  writes : (k : ℕ) (v : Value) → homeOf (record { sites = sites }) k ≡ s → wroteKey new k ≡ true → wroteValue new k ≡ v
+      → Accessed house s t old new (book.used t k ∷ [])
+  writes : (k : ℕ) (v : Value) → homeOf house k ≡ s → wroteKey new k ≡ true → wroteValue new k ≡ v
       → ((j : ℕ) → readKey old j ≡ true → readKey new j ≡ true)
       → ((j : ℕ) → (j ≡ k → ⊥) → (wroteKey new j ≡ wroteKey old j) × (wroteKey old j ≡ true → wroteValue new j ≡ wroteValue old j))
-      → Accessed sites s t old new (book.used t k ∷ book.wrote t k v ∷ [])
+      → Accessed house s t old new (book.used t k ∷ book.wrote t k v ∷ [])
 
 -- The moves. A call is some of them, one after the other.
-pub data Move (sites : ℕ) (p : Protocol) : Protocol → Type 0 where
+pub data Move (house : House) (p : Protocol) : Protocol → Type 0 where
   -- begin, at site s
-  begin : (s t d : ℕ) → 1 ≤ s → s ≤ sites → p .serial s < sizes.lastSerial → t ≡ txOf s (p .serial s + 1)
-      → Move sites p (beganAt (set-serial (upd (p .serial) s (p .serial s + 1)) p) s t d (maskOf s))
+  begin : (s t d : ℕ) → 1 ≤ s → s ≤ house .sites → p .serial s < sizes.lastSerial → t ≡ txOf s (p .serial s + 1)
+      → Move house p (beganAt (set-serial (upd (p .serial) s (p .serial s + 1)) p) s t d (maskOf s))
   -- enlist of site r
-  enlist : (s t r : ℕ) → coordinatorOf t ≡ s → AtStage p s t stage.active → 1 ≤ r → r ≤ sites → (r ≡ s → ⊥)
+  enlist : (s t r : ℕ) → coordinatorOf t ≡ s → AtStage p s t stage.active → 1 ≤ r → r ≤ house .sites → (r ≡ s → ⊥)
       → inMask (courseAt p s t .mask) r ≡ false
-      → Move sites p (posted (withCourseAt p s t (withParticipant (courseAt p s t) r)) s r (mJoin t (p .live s t .desk)))
+      → Move house p (posted (withCourseAt p s t (withParticipant (courseAt p s t) r)) s r (mJoin t (p .live s t .desk)))
   -- a read or a write of an active part: what it wrote more was written by no other live part, nor installed after the snapshot, and it
   -- wrote no more than its desk allows
-  access : (s t : ℕ) (b : Keys) (fs : List Fact) → AtStage p s t stage.active → Accessed sites s t (p .live s t .keys) b fs
+  access : (s t : ℕ) (b : Keys) (fs : List Fact) → AtStage p s t stage.active → Accessed house s t (p .live s t .keys) b fs
       → ((k : ℕ) → wroteKey (p .live s t .keys) k ≡ true → wroteKey b k ≡ true)
       → ((k : ℕ) → wroteKey b k ≡ true → wroteKey (p .live s t .keys) k ≡ false
       → ((u : ℕ) → (u ≡ t → ⊥) → (AtStage p s u stage.free → ⊥) → wroteKey (p .live s u .keys) k ≡ false)
       × ((i : ℕ) → p .live s t .snapshot .installs ≤ i → i < length (inst p s) → wroteKey (getD (inst p s) i pastEntry .keys) k ≡ false))
       → b .wrote ≤ writeLimit (p .live s t .desk)
-      → Move sites p (set-keys (upd₂ (p .keys) s t b) (withLive p s t (withKeys (p .live s t) b)))
+      → Move house p (set-keys (upd₂ (p .keys) s t b) (withLive p s t (withKeys (p .live s t) b)))
   -- the commit request: every other participant has answered its JOIN by 0
   request : (s t : ℕ) (es : List ℕ) → coordinatorOf t ≡ s → AtStage p s t stage.active
       → allHeard s (courseAt p s t .heard) (courseAt p s t .mask) ≡ true → courseAt p s t .reason ≡ 0 → Covers p s t es
-      → Move sites p
+      → Move house p
       (postedAll
       (withCourseAt
       (set-gathered (upd (p .gathered) t es)
@@ -169,11 +170,11 @@ pub data Move (sites : ℕ) (p : Protocol) : Protocol → Type 0 where
       s (courseAt p s t .mask) (mPrepare t (p .clock s) (courseAt p s t .mask)))
   -- an abort by the coordinator, before the decision
   abort : (s t : ℕ) → coordinatorOf t ≡ s → (AtStage p s t stage.free → ⊥) → (AtStage p s t stage.decided → ⊥)
-      → Move sites p (postedAll (withLive (set-dead (upd (p .dead) t true) p) s t noSub) s (courseAt p s t .mask) (mAbort t))
+      → Move house p (postedAll (withLive (set-dead (upd (p .dead) t true) p) s t noSub) s (courseAt p s t .mask) (mAbort t))
   -- all lists are gathered: the coordinator votes yes on their join
   cast : (s t : ℕ) (es : List ℕ) → coordinatorOf t ≡ s → AtStage p s t stage.prepared
       → allHeard s (courseAt p s t .heard) (courseAt p s t .mask) ≡ true → Within (p .gathered t) es → Certified p s t es
-      → Move sites p
+      → Move house p
       (postedAll
       (withCourseAt
       (set-certed (upd (p .certed) t true)
@@ -184,7 +185,7 @@ pub data Move (sites : ℕ) (p : Protocol) : Protocol → Type 0 where
   -- all have voted yes: the clock plus 1 is the commit number
   decide : (s t : ℕ) → coordinatorOf t ≡ s → AtStage p s t stage.queued
       → allHeard s (courseAt p s t .heard) (courseAt p s t .mask) ≡ true
-      → Move sites p
+      → Move house p
       (postedAll
       (withCourseAt
       (set-num (upd (p .num) t (p .clock s + 1)) (set-clock (upd (p .clock) s (p .clock s + 1)) p))
@@ -192,54 +193,54 @@ pub data Move (sites : ℕ) (p : Protocol) : Protocol → Type 0 where
       s (courseAt p s t .mask) (mCommit t (p .clock s + 1)))
   -- install of the queue's least
   install : (s t : ℕ) → AtStage p s t stage.decided → LeastQueued p s t
-      → Move sites p (withLive (set-log (upd (p .log) s (p .log s ++ (rPart (entryOf (p .live s t)) ∷ []))) p) s t noSub)
+      → Move house p (withLive (set-log (upd (p .log) s (p .log s ++ (rPart (entryOf (p .live s t)) ∷ []))) p) s t noSub)
   -- report
-  report : (s n : ℕ) → StateAt p s n → Move sites p (set-log (upd (p .log) s (p .log s ++ (rState n ∷ []))) p)
+  report : (s n : ℕ) → StateAt p s n → Move house p (set-log (upd (p .log) s (p .log s ++ (rState n ∷ []))) p)
   -- A message from a taken at s.
   joins : (a s t d : ℕ) → Next p a s (mJoin t d) → AtStage p s t stage.free
-      → Move sites p (posted (beganAt (took p a s) s t d 0) s a (mJoined t 0))
-  full : (a s t d r : ℕ) → Next p a s (mJoin t d) → (r ≡ 0 → ⊥) → Move sites p (posted (took p a s) s a (mJoined t r))
+      → Move house p (posted (beganAt (took p a s) s t d 0) s a (mJoined t 0))
+  full : (a s t d r : ℕ) → Next p a s (mJoin t d) → (r ≡ 0 → ⊥) → Move house p (posted (took p a s) s a (mJoined t r))
   joined : (a s t r : ℕ) → Next p a s (mJoined t r) → AtStage p s t stage.active → isOutstanding (courseAt p s t) a ≡ true
-      → Move sites p (withCourseAt (took p a s) s t (withReply (courseAt p s t) a r 0))
+      → Move house p (withCourseAt (took p a s) s t (withReply (courseAt p s t) a r 0))
   prepared : (a s t n mask : ℕ) (es : List ℕ) → Next p a s (mPrepare t n mask) → AtStage p s t stage.active → Covers p s t es
-      → Move sites p
+      → Move house p
       (posted
       (withCourseAt
       (set-made (upd₂ (p .made) s t true) (set-list (upd₂ (p .list) s t es) (raised (took p a s) s n)))
       s t (withStage (courseAt p s t) mask stage.prepared))
       s a (mConc t es))
   lost : (a s t n mask r : ℕ) → Next p a s (mPrepare t n mask) → AtStage p s t stage.active → (r ≡ 0 → ⊥)
-      → Move sites p
+      → Move house p
       (posted (withCourseAt (raised (took p a s) s n) s t (withStage (courseAt p s t) mask stage.rejected)) s a
       (mVote t (max (p .clock s) n) r))
   unknown : (a s t n mask r : ℕ) → Next p a s (mPrepare t n mask) → AtStage p s t stage.free → (r ≡ 0 → ⊥)
-      → Move sites p (posted (raised (took p a s) s n) s a (mVote t (max (p .clock s) n) r))
+      → Move house p (posted (raised (took p a s) s n) s a (mVote t (max (p .clock s) n) r))
   gathers : (a s t : ℕ) (es : List ℕ) → Next p a s (mConc t es) → AtStage p s t stage.prepared → isOutstanding (courseAt p s t) a ≡ true
-      → Move sites p
+      → Move house p
       (withCourseAt (set-gathered (upd (p .gathered) t (p .gathered t ++ es)) (took p a s)) s t
       (withReply (courseAt p s t) a 0 (entryCount es)))
   certified : (a s t : ℕ) (es : List ℕ) → Next p a s (mCert t es) → AtStage p s t stage.prepared → Certified p s t es
-      → Move sites p
+      → Move house p
       (posted
       (withCourseAt
       (set-yes (upd₂ (p .yes) s t true) (set-queue-mark (upd₂ (p .queueMark) s t (p .clock s)) (took p a s)))
       s t (withQueueMark (courseAt p s t) (p .clock s)))
       s a (mVote t (p .clock s) 0))
   rejects : (a s t r : ℕ) (es : List ℕ) → Next p a s (mCert t es) → AtStage p s t stage.prepared → (r ≡ 0 → ⊥)
-      → Move sites p
+      → Move house p
       (posted (withCourseAt (took p a s) s t (withStage (courseAt p s t) (courseAt p s t .mask) stage.rejected)) s a
       (mVote t (p .clock s) r))
   votes : (a s t n : ℕ) → Next p a s (mVote t n 0) → AtStage p s t stage.queued → isOutstanding (courseAt p s t) a ≡ true
-      → Move sites p (withCourseAt (raised (took p a s) s n) s t (withReply (courseAt p s t) a 0 0))
+      → Move house p (withCourseAt (raised (took p a s) s n) s t (withReply (courseAt p s t) a 0 0))
   commits : (a s t n : ℕ) → Next p a s (mCommit t n) → AtStage p s t stage.queued
-      → Move sites p (withCourseAt (raised (took p a s) s n) s t (withDecision (courseAt p s t) n))
-  aborts : (a s t : ℕ) → Next p a s (mAbort t) → (AtStage p s t stage.decided → ⊥) → Move sites p (withLive (took p a s) s t noSub)
+      → Move house p (withCourseAt (raised (took p a s) s n) s t (withDecision (courseAt p s t) n))
+  aborts : (a s t : ℕ) → Next p a s (mAbort t) → (AtStage p s t stage.decided → ⊥) → Move house p (withLive (took p a s) s t noSub)
   -- any message, with nothing but the count and at most the clock: for a transaction not held, or before an abort that it brings
-  passes : (a s n : ℕ) (m : Msg) → Next p a s m → Move sites p (raised (took p a s) s n)
+  passes : (a s n : ℕ) (m : Msg) → Next p a s m → Move house p (raised (took p a s) s n)
 
-pub data Moves (sites : ℕ) : Protocol → Protocol → Type 0 where
-  stop : {p : Protocol} → Moves sites p p
-  more : {p q r : Protocol} → Moves sites p q → Move sites q r → Moves sites p r
+pub data Moves (house : House) : Protocol → Protocol → Type 0 where
+  stop : {p : Protocol} → Moves house p p
+  more : {p q r : Protocol} → Moves house p q → Move house q r → Moves house p r
 
 unfoldable pub freshProtocol : Protocol
 freshProtocol =

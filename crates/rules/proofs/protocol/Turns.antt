@@ -6,6 +6,7 @@ use mathlib.Core.List.{List, [], _∷_, _++_}
 use native.Mathlib.Omega.{arith}
 use lib.ListN.{length, getD, length-append}
 use lib.Seq.{getD-append-seam}
+use Rattle.kinds.specs.declared.House.{House}
 use Rattle.kinds.specs.Stage as stage
 use Rattle.kinds.specs.declared.Keys.{Keys}
 use Rattle.kinds.specs.declared.Sub.{Sub}
@@ -70,7 +71,7 @@ installed-last p s t l x e =
       ),
     )
 
-module _ {sites : ℕ} {p : Protocol} (i : Invariant sites p) where
+module _ {house : House} {p : Protocol} (i : Invariant house p) where
   -- One part changes, to b.
   module _ (q : Protocol) (s t : ℕ) (b : Sub) where
     one : ((j u : ℕ) → Other₂ s t j u → Same p q j u) → Turn p q s t b → (j u : ℕ) → Turn p q j u (upd₂ (p .live) s t b j u)
@@ -105,9 +106,9 @@ module _ {sites : ℕ} {p : Protocol} (i : Invariant sites p) where
   none : (j u : ℕ) → Same p p j u
   none j u = (refl, refl, refl)
 
-  pub turns : (q : Protocol) → Move sites p q → (s t : ℕ) → Turn p q s t (q .live s t)
+  pub turns : (q : Protocol) → Move house p q → (s t : ℕ) → Turn p q s t (q .live s t)
   unfolding newSub withParticipant withReply withDecision withQueueMark withRequest withStage noSub
-  turns q (begin s t d l m n e) = began q s t _ refl refl refl (new-tx sites p s t (i .parts) n e s) refl
+  turns q (begin s t d l m n e) = began q s t _ refl refl refl (new-tx house p s t (i .parts) n e s) refl
   turns q (enlist s t r c a l m n o) = stayed q s t _ none refl refl
   turns q (access s t b fs a told w f m) =
       one q s t _ (λ j u x. (refl, refl, upd₂-other (p .keys) s t b j u x))
@@ -124,7 +125,7 @@ module _ {sites : ℕ} {p : Protocol} (i : Invariant sites p) where
       one q s t _ (λ j u x. none j u)
       (t-installs (none s t) a refl (installed-last p s t _ (i .parts .tx s t (λ f. omega arith)) (upd-same (p .log) s _)))
   turns q (report s n a) = still q none
-  turns q (joins a s t d n f) = began q s t _ refl refl refl (new-join sites p a s t d (i .posts) n) refl
+  turns q (joins a s t d n f) = began q s t _ refl refl refl (new-join house p a s t d (i .posts) n) refl
   turns q (full a s t d r n z) = still q none
   turns q (joined a s t r n x o) = stayed q s t _ none refl refl
   turns q (prepared a s t n m es x y v) = moved q s t _ none (omega arith) (omega arith) (omega arith)
@@ -143,7 +144,7 @@ module _ {sites : ℕ} {p : Protocol} (i : Invariant sites p) where
   quiet : (s : ℕ) → Logged p s (p .log s)
   quiet s = l-same refl
 
-  pub logs : (q : Protocol) → Move sites p q → (s : ℕ) → Logged p s (q .log s)
+  pub logs : (q : Protocol) → Move house p q → (s : ℕ) → Logged p s (q .log s)
   logs q (begin s t d l m n e) = quiet
   logs q (enlist s t r c a l m n o) = quiet
   logs q (access s t b fs a told w f m) = quiet

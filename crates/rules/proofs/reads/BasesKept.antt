@@ -8,6 +8,7 @@ use borrow.Author.Tests.{le-leb, lt-leb}
 use lib.ListN.{length, getD}
 use Rattle.laws.specs.Choice.{by-test, by-same}
 use Rattle.kinds.specs.Sizes as sizes
+use Rattle.kinds.specs.declared.House.{House}
 use Rattle.kinds.specs.declared.Entry.{Entry}
 use Rattle.kinds.specs.declared.Site.{Site}
 use Rattle.kinds.specs.State.{Value, fresh, pastEntry, entryAt}
@@ -24,9 +25,9 @@ use Rattle.rules.proofs.reads.KeysOnce.{EachOnce, forget-other, forget-
 use Rattle.rules.proofs.reads.Versions.{leftBelow, left-wrote, left-other, left-same}
 use Rattle.rules.proofs.reads.MovesTold.{WritesOnce}
 
-abbrev pub BasesAre : ℕ → World → Protocol → Type 0
-BasesAre sites w p =
-    (s k : ℕ) → 1 ≤ s → s ≤ sites → k < sizes.keys → getD (w .base s) k fresh ≡ leftBelow (at p s) k (forgotten (length (inst p s)))
+abbrev pub BasesAre : House → World → Protocol → Type 0
+BasesAre house w p =
+    (s k : ℕ) → 1 ≤ s → s ≤ house .sites → k < sizes.keys → getD (w .base s) k fresh ≡ leftBelow (at p s) k (forgotten (length (inst p s)))
 
 -- what is forgotten of one install more: nothing while fewer than 32 are remembered, else the oldest
 forgotten-same : (n : ℕ) → n < sizes.history → forgotten (n + 1) ≡ forgotten n
@@ -71,9 +72,9 @@ module _ (x : Site) (base : List Value) (es : List Entry) (k : ℕ) (h : History
       (forgets entry k (forgotten (length es)) base (o (forgotten (length es)) (forgotten-low (length es) l .1)) (omega arith) b))
 
 -- Where the installs and the base values stay.
-pub bases-kept : (sites : ℕ) (w x : World) (p q : Protocol) → ((s : ℕ) → x .base s ≡ w .base s) → ((s : ℕ) → inst q s ≡ inst p s)
-    → BasesAre sites w p → BasesAre sites x q
-bases-kept sites w x p q e f b s k l h low =
+pub bases-kept : (house : House) (w x : World) (p q : Protocol) → ((s : ℕ) → x .base s ≡ w .base s) → ((s : ℕ) → inst q s ≡ inst p s)
+    → BasesAre house w p → BasesAre house x q
+bases-kept house w x p q e f b s k l h low =
     rw (e s, f s) (b s k l h low ∙ left-same (at p s) (at q s) k (forgotten (length (inst p s))) (λ i n. sym (at-same p q f s i)))
 
 -- A site with one install more; the others stay.
@@ -82,8 +83,8 @@ pub record Installs (w x : World) (s : ℕ) : Type 0 where
   pub count : x .site s .counters .installs ≡ w .site s .counters .installs + 1
   pub others : (j : ℕ) → (j ≡ s → ⊥) → (x .base j ≡ w .base j) × (x .site j ≡ w .site j)
 
-module _ {sites : ℕ} {w x : World} {p q : Protocol} (r : Refines sites w p) (t : Refines sites x q) (o : WritesOnce p)
-    (kept : (s j : ℕ) → j < length (inst p s) → (j < length (inst q s)) × (at q s j ≡ at p s j)) (b : BasesAre sites w p) where
+module _ {house : House} {w x : World} {p q : Protocol} (r : Refines house w p) (t : Refines house x q) (o : WritesOnce p)
+    (kept : (s j : ℕ) → j < length (inst p s) → (j < length (inst q s)) × (at q s j ≡ at p s j)) (b : BasesAre house w p) where
   -- what they leave is told by the old ones
   left-kept : (s k n : ℕ) → n ≤ length (inst p s) → leftBelow (at p s) k n ≡ leftBelow (at q s) k n
   left-kept s k n h = left-same (at p s) (at q s) k n (λ i l. sym (kept s i (omega arith) .1))
@@ -92,7 +93,7 @@ module _ {sites : ℕ} {w x : World} {p q : Protocol} (r : Refines sites w p) (t
   unfolding forgotten
   few n = (omega arith, omega arith)
 
-  pub bases-installed : (s : ℕ) → Installs w x s → BasesAre sites x q
+  pub bases-installed : (s : ℕ) → Installs w x s → BasesAre house x q
   bases-installed s i j k l h low = by-same j s here there
     where
       here : j ≡ s → getD (x .base j) k fresh ≡ leftBelow (at q j) k (forgotten (length (inst q j)))

@@ -10,6 +10,7 @@ use lib.Dec.{eqb}
 use lib.ListN.{length, getD}
 use Rattle.laws.specs.Choice.{pick, every}
 use Rattle.kinds.specs.Sizes as sizes
+use Rattle.kinds.specs.declared.House.{House}
 use Rattle.kinds.specs.Kind as kind
 use Rattle.kinds.specs.Word as word
 use Rattle.kinds.specs.Reason as reason
@@ -37,15 +38,15 @@ use Rattle.rules.proofs.reads.BasesKept.{Installs}
 use Rattle.rules.proofs.reads.LiveOnce.{LiveOnce, read-once, write-once}
 
 -- no read or write is told, or no install is and each key of a live part stands once among its writes after the call
-abbrev pub KeysStay : ℕ → World → List Fact → Type 0
-KeysStay sites x fs = NoAccess fs ⊎ (NoInstall fs × ((s : ℕ) → 1 ≤ s → s ≤ sites → LiveOnce (x .site s .live)))
+abbrev pub KeysStay : House → World → List Fact → Type 0
+KeysStay house x fs = NoAccess fs ⊎ (NoInstall fs × ((s : ℕ) → 1 ≤ s → s ≤ house .sites → LiveOnce (x .site s .live)))
 
 -- no install is told and the base values stay, or one site has one install more
 abbrev pub BasesStay : World → World → List Fact → Type 0
 BasesStay w x fs = (NoInstall fs × ((s : ℕ) → x .base s ≡ w .base s)) ⊎ ((s : ℕ) × Installs w x s)
 
-pub record CallKeeps (sites : ℕ) (w x : World) (fs : List Fact) : Type 0 where
-  pub keys : KeysStay sites x fs
+pub record CallKeeps (house : House) (w x : World) (fs : List Fact) : Type 0 where
+  pub keys : KeysStay house x fs
   pub bases : BasesStay w x fs
 
 -- Facts that are neither of a read or write nor of an install.
@@ -84,19 +85,19 @@ installs : {l : List Fact} → OfKind 3 l → NoAccess l
 installs a f i e = let z = all-is a i in omega arith
 
 -- The base values as they were.
-module _ (sites : ℕ) (w : World) where
-  quietly : (x : World) {fs : List Fact} → Quiet fs → ((s : ℕ) → x .base s ≡ w .base s) → CallKeeps sites w x fs
+module _ (house : House) (w : World) where
+  quietly : (x : World) {fs : List Fact} → Quiet fs → ((s : ℕ) → x .base s ≡ w .base s) → CallKeeps house w x fs
   quietly x a e = record { keys = inl (λ f i. all-is a i .0); bases = inl ((λ f i. all-is a i .1), e) }
 
   -- a call of a site that leaves its base values
   at-site : {fs : List Fact} (s : ℕ) (e : Effect) (lists : List ℕ) → Quiet fs
-      → CallKeeps sites w (siteStep w s e (w .base s) lists .world) fs
+      → CallKeeps house w (siteStep w s e (w .base s) lists .world) fs
   unfolding siteStep
   at-site s e lists a = quietly _ a (upd-self (w .base) s)
 
   accessed : {fs : List Fact} (s : ℕ) (e : Effect) (lists : List ℕ) → OfKind 1 fs
-      → ((j : ℕ) → 1 ≤ j → j ≤ sites → LiveOnce (siteStep w s e (w .base s) lists .world .site j .live))
-      → CallKeeps sites w (siteStep w s e (w .base s) lists .world) fs
+      → ((j : ℕ) → 1 ≤ j → j ≤ house .sites → LiveOnce (siteStep w s e (w .base s) lists .world .site j .live))
+      → CallKeeps house w (siteStep w s e (w .base s) lists .world) fs
   unfolding siteStep
   accessed s e lists a o = record { keys = inr (accesses a, o); bases = inl (accesses a, upd-self (w .base) s) }
 
@@ -124,25 +125,25 @@ module _ (sites : ℕ) (w : World) where
         by-code (λ e. BasesStay w (logStep w s e (e .lent) .world) (book.installs s (e .answer))) code site (w .base s)
         (installedAt site (w .base s) due) (λ e. inr (s, one-more)) (inl ((λ f i. absurd (none-is i)), upd-self (w .base) s))
 
-pub call-kept : {sites : ℕ} {w : World} {p : Protocol} → Refines sites w p → Invariant sites p → WritesOnce p → (c : Call)
-    → CallKeeps sites w (step w c .world) (toldBy c (step w c .answer) (step w c .words))
+pub call-kept : {house : House} {w : World} {p : Protocol} → Refines house w p → Invariant house p → WritesOnce p → (c : Call)
+    → CallKeeps house w (step w c .world) (toldBy c (step w c .answer) (step w c .words))
 unfolding step logStep mergeStep mergerStep replayStep copyStep
-call-kept {sites} {w} r i o (world.begin s d) = at-site sites w s _ _ (begins-quiet s (step w (world.begin s d) .answer))
-call-kept {sites} {w} r i o (world.enlist s out t n) = at-site sites w s _ _ a-nil
-call-kept {sites} {w} r i o (world.read s t k) =
-    accessed sites w s _ _ (uses-told t k (step w (world.read s t k) .answer)) (read-once r i o s t k)
-call-kept {sites} {w} r i o (world.write s t k v) =
-    accessed sites w s _ _ (writes-told t k v (step w (world.write s t k v) .answer)) (write-once r i o s t k v)
-call-kept {sites} {w} r i o (world.search s q k) = quietly sites w _ a-nil (λ s. refl)
-call-kept {sites} {w} r i o (world.commit s out t) = at-site sites w s _ _ (commits-quiet t (step w (world.commit s out t) .answer))
-call-kept {sites} {w} r i o (world.abandon s out t) = at-site sites w s _ _ a-nil
-call-kept {sites} {w} r i o (world.message s out m) =
+call-kept {house} {w} r i o (world.begin s d) = at-site house w s _ _ (begins-quiet s (step w (world.begin s d) .answer))
+call-kept {house} {w} r i o (world.enlist s out t n) = at-site house w s _ _ a-nil
+call-kept {house} {w} r i o (world.read s t k) =
+    accessed house w s _ _ (uses-told t k (step w (world.read s t k) .answer)) (read-once r i o s t k)
+call-kept {house} {w} r i o (world.write s t k v) =
+    accessed house w s _ _ (writes-told t k v (step w (world.write s t k v) .answer)) (write-once r i o s t k v)
+call-kept {house} {w} r i o (world.search s q k) = quietly house w _ a-nil (λ s. refl)
+call-kept {house} {w} r i o (world.commit s out t) = at-site house w s _ _ (commits-quiet t (step w (world.commit s out t) .answer))
+call-kept {house} {w} r i o (world.abandon s out t) = at-site house w s _ _ a-nil
+call-kept {house} {w} r i o (world.message s out m) =
     let x = step w (world.message s out m) in
-    at-site sites w s _ _ (all-append (joins-quiet s m (x .words) (x .answer)) (commits-quiet (messageHead m .tx) (x .answer)))
-call-kept {sites} {w} r i o (world.install s out) =
-    record { keys = inl (installs (installs-told s (step w (world.install s out) .answer))); bases = install-bases sites w s out }
-call-kept {sites} {w} r i o (world.report s out) = quietly sites w _ a-nil (upd-self (w .base) s)
-call-kept {sites} {w} r i o (world.merge m) = quietly sites w _ a-nil (λ s. refl)
-call-kept {sites} {w} r i o (world.emit out) = quietly sites w _ a-nil (λ s. refl)
-call-kept {sites} {w} r i o (world.replay c m) = quietly sites w _ a-nil (λ s. refl)
-call-kept {sites} {w} r i o (world.value c k) = quietly sites w _ a-nil (λ s. refl)
+    at-site house w s _ _ (all-append (joins-quiet s m (x .words) (x .answer)) (commits-quiet (messageHead m .tx) (x .answer)))
+call-kept {house} {w} r i o (world.install s out) =
+    record { keys = inl (installs (installs-told s (step w (world.install s out) .answer))); bases = install-bases house w s out }
+call-kept {house} {w} r i o (world.report s out) = quietly house w _ a-nil (upd-self (w .base) s)
+call-kept {house} {w} r i o (world.merge m) = quietly house w _ a-nil (λ s. refl)
+call-kept {house} {w} r i o (world.emit out) = quietly house w _ a-nil (λ s. refl)
+call-kept {house} {w} r i o (world.replay c m) = quietly house w _ a-nil (λ s. refl)
+call-kept {house} {w} r i o (world.value c k) = quietly house w _ a-nil (λ s. refl)

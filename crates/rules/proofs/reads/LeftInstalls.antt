@@ -7,6 +7,7 @@ use mathlib.Core.List.{List}
 use native.Mathlib.Omega.{arith}
 use native.Mathlib.Nat.{eq-or-lt-of-le}
 use lib.ListN.{length}
+use Rattle.kinds.specs.declared.House.{House}
 use Rattle.laws.specs.Choice.{set-not}
 use Rattle.kinds.specs.State.{Value}
 use Rattle.rules.specs.House.{coordinatorOf}
@@ -36,12 +37,12 @@ last-wrote : {b : List Fact} {t k : ℕ} {v : Value} → LastWrite b t k v → W
 last-wrote {v = v} h = (v, rw (h .split) (is-behind (h .front) here))
 
 -- what a transaction wrote of a key, it wrote at the key's site
-pub wrote-here : {sites : ℕ} {p : Protocol} {b : List Fact} → Booked sites b p → (s k : ℕ) → home sites k ≡ s → (t : ℕ) → Wrote b t k
+pub wrote-here : {house : House} {p : Protocol} {b : List Fact} → Booked house b p → (s k : ℕ) → home house k ≡ s → (t : ℕ) → Wrote b t k
     → wroteKey (p .keys s t) k ≡ true
 wrote-here x s k e t (v, z) = rw e at (x .writes .wrote t k v z .1)
 
-module _ {sites : ℕ} {p : Protocol} {b : List Fact} (few : sites ≤ 8) (i : Invariant sites p) (x : Booked sites b p) (s k : ℕ)
-    (e : home sites k ≡ s) {n : ℕ} {Counts : ℕ → ℕ → Type 0} (counted : Counted b p s n Counts) where
+module _ {house : House} {p : Protocol} {b : List Fact} (few : house .sites ≤ 8) (i : Invariant house p) (x : Booked house b p) (s k : ℕ)
+    (e : home house k ≡ s) {n : ℕ} {Counts : ℕ → ℕ → Type 0} (counted : Counted b p s n Counts) where
   inside : (j : ℕ) → j < n → j < length (inst p s)
   inside j l = omega (arith, counted .few)
 

@@ -8,6 +8,7 @@ use lib.ListN.{length, set}
 use lib.Seq.{getD-set-same, getD-set-other}
 use Rattle.laws.specs.Choice.{by-test, by-same}
 use Rattle.kinds.specs.Sizes as sizes
+use Rattle.kinds.specs.declared.House.{House}
 use Rattle.kinds.specs.declared.Keys.{Keys}
 use Rattle.kinds.specs.declared.Sub.{Sub}
 use Rattle.kinds.specs.declared.Site.{Site}
@@ -36,7 +37,8 @@ abbrev pub LiveOnce : List Sub → Type 0
 LiveOnce live = (i : ℕ) → i < sizes.live → (IsFree (partAt live i) → ⊥) → EachOnce (partAt live i .keys)
 
 -- The tables against the protocol's.
-pub live-once : {sites : ℕ} {w : World} {p : Protocol} → Refines sites w p → Invariant sites p → WritesOnce p → (s : ℕ) → 1 ≤ s → s ≤ sites
+pub live-once : {house : House} {w : World} {p : Protocol} → Refines house w p → Invariant house p → WritesOnce p → (s : ℕ) → 1 ≤ s
+    → s ≤ house .sites
     → LiveOnce (w .site s .live)
 live-once {w = w} {p = p} r i o s l h j m f =
     let q = r .site s l h .live .holds j m f in
@@ -44,8 +46,8 @@ live-once {w = w} {p = p} r i o s l h j m f =
     let g : Held p s t = rw q at f in
     rw (q, i .parts .keys s t g) (o .held s t g)
 
-pub once-held : {sites : ℕ} {w : World} {p : Protocol} → Refines sites w p → Invariant sites p
-    → ((s : ℕ) → 1 ≤ s → s ≤ sites → LiveOnce (w .site s .live))
+pub once-held : {house : House} {w : World} {p : Protocol} → Refines house w p → Invariant house p
+    → ((s : ℕ) → 1 ≤ s → s ≤ house .sites → LiveOnce (w .site s .live))
     → (s t : ℕ) → Held p s t → EachOnce (p .keys s t)
 once-held r i o s t g =
     let (l, h) = i .parts .site s t (i .parts .has s t g) in
@@ -59,14 +61,14 @@ put-once live i b h e o j m f =
     (λ q. let z : partAt (set live i b) j ≡ b = rw q (getD-set-same live i b pastSub h) in rw z e)
     (λ n. let z = getD-set-other live i j b pastSub n in rw z (o j m (rw z at f)))
 
-module _ {sites : ℕ} {w : World} {p : Protocol} (r : Refines sites w p) (i : Invariant sites p) (o : WritesOnce p) (s t k : ℕ) where
+module _ {house : House} {w : World} {p : Protocol} (r : Refines house w p) (i : Invariant house p) (o : WritesOnce p) (s t k : ℕ) where
   abbrev site : Site
   site = w .site s
 
   abbrev spot : ℕ
   spot = placeOf (site .live) t
 
-  old : (j : ℕ) → 1 ≤ j → j ≤ sites → LiveOnce (w .site j .live)
+  old : (j : ℕ) → 1 ≤ j → j ≤ house .sites → LiveOnce (w .site j .live)
   old = live-once r i o
 
   -- the part has other keys
@@ -78,19 +80,19 @@ module _ {sites : ℕ} {w : World} {p : Protocol} (r : Refines sites w p) (i : I
   own a = let h : Held p s t = λ f. omega (arith, a .active) in rw (i .parts .keys s t h) (o .held s t h)
 
   abbrev Goal : Effect → Type 0
-  Goal e = 1 ≤ s → s ≤ sites → LiveOnce (e .site .live)
+  Goal e = 1 ≤ s → s ≤ house .sites → LiveOnce (e .site .live)
 
   reads : (a : Reaches r s t k) → Goal (readVersion site (w .base s) spot k)
   unfolding readVersion settle turnAt
   reads a l h = keeps a (withRead (subAt site spot .keys) k) (rw (a .part) (once-read (p .live s t .keys) k (own a)))
 
-  pub read-once : (j : ℕ) → 1 ≤ j → j ≤ sites → LiveOnce (step w (world.read s t k) .world .site j .live)
+  pub read-once : (j : ℕ) → 1 ≤ j → j ≤ house .sites → LiveOnce (step w (world.read s t k) .world .site j .live)
   unfolding step siteStep readOf readAt
   read-once =
       let b = subAt site spot in
       let code = accessCode (siteOk site) (length (w .base s)) (site .house) (site .counters .own) k spot (stageAt (site .live) spot) in
       let late = readCode (isForgotten (site .counters .installs) (b .snapshot)) (readKey (b .keys) k) (b .keys .read) in
-      upd-cases (λ j x. 1 ≤ j → j ≤ sites → LiveOnce (x .live)) (w .site) s (readOf site (w .base s) t k .site)
+      upd-cases (λ j x. 1 ≤ j → j ≤ house .sites → LiveOnce (x .live)) (w .site) s (readOf site (w .base s) t k .site)
       (by-code Goal code site [] (readAt site (w .base s) spot k)
       (λ e. let a = reaches r s t k (length (w .base s)) e in
       by-test (wroteKey (b .keys) k)
@@ -118,12 +120,12 @@ module _ {sites : ℕ} {w : World} {p : Protocol} (r : Refines sites w p) (i : I
       let room : p .live s t .keys .wrote < sizes.writes = omega (arith, limit-most (p .live s t .desk)) in
       writes v a (once-first (p .live s t .keys) k (a .sized) room (rw (a .part) at f) v (own a))
 
-  pub write-once : (v : Value) (j : ℕ) → 1 ≤ j → j ≤ sites → LiveOnce (step w (world.write s t k v) .world .site j .live)
+  pub write-once : (v : Value) (j : ℕ) → 1 ≤ j → j ≤ house .sites → LiveOnce (step w (world.write s t k v) .world .site j .live)
   unfolding step siteStep writeOf writeAt
   write-once v =
       let code = accessCode (siteOk site) sizes.keys (site .house) (site .counters .own) k spot (stageAt (site .live) spot) in
       let late = writeCodeAt site spot k in
-      upd-cases (λ j x. 1 ≤ j → j ≤ sites → LiveOnce (x .live)) (w .site) s (writeOf site t k v .site)
+      upd-cases (λ j x. 1 ≤ j → j ≤ house .sites → LiveOnce (x .live)) (w .site) s (writeOf site t k v .site)
       (by-code Goal code site [] (writeAt site spot k v)
       (λ e. let a = reaches r s t k sizes.keys e in
       by-test (wroteKey (subAt site spot .keys) k)

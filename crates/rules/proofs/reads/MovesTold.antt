@@ -7,6 +7,7 @@ use mathlib.Core.Logic.{_⊎_, inl, inr}
 use mathlib.Core.List.{List}
 use native.Mathlib.Omega.{arith}
 use lib.ListN.{length}
+use Rattle.kinds.specs.declared.House.{House}
 use Rattle.kinds.specs.declared.Keys.{Keys}
 use Rattle.kinds.specs.declared.Sub.{Sub}
 use Rattle.kinds.specs.State.{noKeys}
@@ -46,7 +47,7 @@ record Leaves (p q : Protocol) (fs : List Fact) : Type 0 where
   installs : NoInstall fs → (s : ℕ) → inst q s ≡ inst p s
 
 -- a read or a write is told
-access-told : {sites s t : ℕ} {a b : Keys} {fs : List Fact} → Accessed sites s t a b fs → NoAccess fs → ⊥
+access-told : {house : House} {s t : ℕ} {a b : Keys} {fs : List Fact} → Accessed house s t a b fs → NoAccess fs → ⊥
 access-told (reads k h u r w) n = n _ here refl
 access-told (writes k v h w e r o) n = n _ here refl
 
@@ -55,13 +56,13 @@ new-keys : (p : Protocol) (s t : ℕ) (b : Keys) → (p .has s t ≡ true → �
     → upd₂ (p .keys) s t b j u ≡ p .keys j u
 new-keys p s t b n = upd₂-cases (λ j u c. p .has j u ≡ true → c ≡ p .keys j u) (p .keys) s t b (λ h. absurd (n h)) (λ j u o h. refl)
 
-module _ {sites : ℕ} {p : Protocol} (i : Invariant sites p) where
+module _ {house : House} {p : Protocol} (i : Invariant house p) where
   still : {fs : List Fact} (q : Protocol) → q .keys ≡ p .keys → ((s : ℕ) → inst q s ≡ inst p s) → Leaves p q fs
   still q e f = record { keys = λ n s t h. rw e; installs = λ n. f }
 
-  leaves : (q : Protocol) (m : Move sites p q) → Leaves p q (told m)
+  leaves : (q : Protocol) (m : Move house p q) → Leaves p q (told m)
   leaves q (begin s t d l m n e) =
-      record { keys = λ x. new-keys p s t noKeys (new-tx sites p s t (i .parts) n e s); installs = λ x j. refl }
+      record { keys = λ x. new-keys p s t noKeys (new-tx house p s t (i .parts) n e s); installs = λ x j. refl }
   leaves q (enlist s t r c a l m n o) = still q refl (λ j. refl)
   leaves q (access s t b fs a v w f m) = record { keys = λ x. absurd (access-told v x); installs = λ x j. refl }
   leaves q (request s t es c a l r v) = still q refl (λ j. refl)
@@ -71,7 +72,7 @@ module _ {sites : ℕ} {p : Protocol} (i : Invariant sites p) where
   leaves q (install s t a l) = record { keys = λ x j u h. refl; installs = λ x. absurd (x _ here refl) }
   leaves q (report s n a) = record { keys = λ x j u h. refl; installs = λ x. inst-report p s n }
   leaves q (joins a s t d n f) =
-      record { keys = λ x. new-keys p s t noKeys (new-join sites p a s t d (i .posts) n); installs = λ x j. refl }
+      record { keys = λ x. new-keys p s t noKeys (new-join house p a s t d (i .posts) n); installs = λ x j. refl }
   leaves q (full a s t d r n z) = still q refl (λ j. refl)
   leaves q (joined a s t r n y o) = still q refl (λ j. refl)
   leaves q (prepared a s t n m es y z v) = still q refl (λ j. refl)
@@ -99,10 +100,10 @@ entry-keys : (b : Sub) → entryOf b .keys ≡ b .keys
 unfolding entryOf
 entry-keys b = refl
 
-module _ {sites : ℕ} {p q : Protocol} (few : sites ≤ 8) (i : Invariant sites p) (m : Move sites p q) (n : NoAccess (told m))
+module _ {house : House} {p q : Protocol} (few : house .sites ≤ 8) (i : Invariant house p) (m : Move house p q) (n : NoAccess (told m))
     (o : WritesOnce p) where
-  c : Change sites p q
-  c = change sites p q few m i
+  c : Change house p q
+  c = change house p q few m i
 
   stays : (s t : ℕ) → Held p s t → EachOnce (q .keys s t)
   stays s t h = rw (leaves i q m .keys n s t (i .parts .has s t h)) (o .held s t h)
@@ -131,26 +132,28 @@ module _ {sites : ℕ} {p q : Protocol} (few : sites ≤ 8) (i : Invariant sites
   writes-move = record { held = held-once; entry = entry-once }
 
 -- Over some steps.
-writes-step : {sites : ℕ} {v u : Stream} → sites ≤ 8 → Invariant sites (v .protocol) → (s : Step sites v u) → NoAccess (toldStep s)
+writes-step : {house : House} {v u : Stream} → house .sites ≤ 8 → Invariant house (v .protocol) → (s : Step house v u)
+    → NoAccess (toldStep s)
     → WritesOnce (v .protocol) → WritesOnce (u .protocol)
 writes-step few i (stream.moves q m) n o = writes-move few i m n o
 writes-step few i (stream.merges g m) n o = o
 writes-step few i (stream.replays c l) n o = o
 
-pub writes-steps : {sites : ℕ} {v u : Stream} → sites ≤ 8 → Standing sites v → (ss : Steps sites v u) → NoAccess (toldSteps ss)
+pub writes-steps : {house : House} {v u : Stream} → house .sites ≤ 8 → Standing house v → (ss : Steps house v u) → NoAccess (toldSteps ss)
     → WritesOnce (v .protocol) → WritesOnce (u .protocol)
 writes-steps few z stream.stop n o = o
 writes-steps few z (stream.more ss s) n o =
     writes-step few (standing-steps few ss z .invariant) s (λ f h. n f (is-behind (toldSteps ss) h))
     (writes-steps few z ss (λ f h. n f (is-kept (toldStep s) h)) o)
 
-installs-step : {sites : ℕ} {v u : Stream} → Invariant sites (v .protocol) → (s : Step sites v u) → NoInstall (toldStep s)
+installs-step : {house : House} {v u : Stream} → Invariant house (v .protocol) → (s : Step house v u) → NoInstall (toldStep s)
     → (j : ℕ) → inst (u .protocol) j ≡ inst (v .protocol) j
 installs-step i (stream.moves q m) n j = leaves i q m .installs n j
 installs-step i (stream.merges g m) n j = refl
 installs-step i (stream.replays c l) n j = refl
 
-pub installs-steps : {sites : ℕ} {v u : Stream} → sites ≤ 8 → Standing sites v → (ss : Steps sites v u) → NoInstall (toldSteps ss)
+pub installs-steps : {house : House} {v u : Stream} → house .sites ≤ 8 → Standing house v → (ss : Steps house v u)
+    → NoInstall (toldSteps ss)
     → (j : ℕ) → inst (u .protocol) j ≡ inst (v .protocol) j
 installs-steps few z stream.stop n j = refl
 installs-steps few z (stream.more ss s) n j =
@@ -162,12 +165,12 @@ abbrev pub Stays : Stream → Stream → Type 0
 Stays v u = (s j : ℕ) → j < length (inst (v .protocol) s)
     → (j < length (inst (u .protocol) s)) × (at (u .protocol) s j ≡ at (v .protocol) s j)
 
-stays-step : {sites : ℕ} {v u : Stream} → sites ≤ 8 → Invariant sites (v .protocol) → Step sites v u → Stays v u
-stays-step {sites} {v} few i (stream.moves q m) s j h = stands i (change sites (v .protocol) q few m i) s j h
+stays-step : {house : House} {v u : Stream} → house .sites ≤ 8 → Invariant house (v .protocol) → Step house v u → Stays v u
+stays-step {house} {v} few i (stream.moves q m) s j h = stands i (change house (v .protocol) q few m i) s j h
 stays-step few i (stream.merges g m) s j h = (h, refl)
 stays-step few i (stream.replays c l) s j h = (h, refl)
 
-pub stays-steps : {sites : ℕ} {v u : Stream} → sites ≤ 8 → Standing sites v → Steps sites v u → Stays v u
+pub stays-steps : {house : House} {v u : Stream} → house .sites ≤ 8 → Standing house v → Steps house v u → Stays v u
 stays-steps few z stream.stop s j h = (h, refl)
 stays-steps few z (stream.more ss x) s j h =
     let (l, e) = stays-steps few z ss s j h in

@@ -9,6 +9,7 @@ use native.Mathlib.Omega.{arith}
 use lib.ListN.{length}
 use Rattle.laws.specs.Choice.{by-test, set-not}
 use Rattle.kinds.specs.Sizes as sizes
+use Rattle.kinds.specs.declared.House.{House}
 use Rattle.kinds.specs.declared.Sub.{Sub}
 use Rattle.kinds.specs.declared.Site.{Site}
 use Rattle.kinds.specs.declared.Answer.the-variants.{Refused, Found}
@@ -38,9 +39,9 @@ use Rattle.rules.proofs.reads.Versions.{leftBelow, LastSince, left-sinc
 use Rattle.rules.proofs.reads.BasesKept.{BasesAre}
 use Rattle.rules.proofs.reads.LeftInstalls.{Counted, wrote-here, left-of}
 
-pub record ReadIs (sites : ℕ) (p : Protocol) (s t k : ℕ) (v : Value) : Type 0 where
+pub record ReadIs (house : House) (p : Protocol) (s t k : ℕ) (v : Value) : Type 0 where
   pub has : p .has s t ≡ true
-  pub lives : home sites k ≡ s
+  pub lives : home house k ≡ s
   pub value : ((wroteKey (p .keys s t) k ≡ true) × (wroteValue (p .keys s t) k ≡ v))
       ⊎ ((wroteKey (p .keys s t) k ≡ false) × LastSince (at p s) k 0 (p .snap s t) v)
 
@@ -51,11 +52,11 @@ found a v e = ap (onFound 0 (λ n. n)) e
 pub not-found : (n : ℕ) (v : Value) → Refused n ≡ Found v → ⊥
 not-found n v e = let z : _≡_ {A = ℕ} 0 1 = ap (onFound 0 (λ n. 1)) e in omega arith
 
-pub low-key : (sites k s : ℕ) → home sites k ≡ s → s ≤ sizes.sites → k < sizes.keys
+pub low-key : (house : House) (k s : ℕ) → home house k ≡ s → s ≤ sizes.sites → k < sizes.keys
 unfolding homeOf
-low-key sites k s e h = omega arith
+low-key house k s e h = omega arith
 
-module _ {sites : ℕ} {w : World} {p : Protocol} (r : Refines sites w p) (i : Invariant sites p) (b : BasesAre sites w p) (s t k : ℕ)
+module _ {house : House} {w : World} {p : Protocol} (r : Refines house w p) (i : Invariant house p) (b : BasesAre house w p) (s t k : ℕ)
     (v : Value) where
   abbrev site : Site
   site = w .site s
@@ -71,7 +72,7 @@ module _ {sites : ℕ} {w : World} {p : Protocol} (r : Refines sites w p) (i : I
   own a = ap (λ (b : Sub). b .keys) (a .part) ∙ i .parts .keys s t (held a)
 
   reads-own : Reaches r s t k → wroteKey (subAt site spot .keys) k ≡ true → wroteValue (subAt site spot .keys) k ≡ v
-      → ReadIs sites p s t k v
+      → ReadIs house p s t k v
   reads-own a f e = record { has = i .parts .has s t (held a); lives = a .home; value = inl (rw (← own a) f, rw (← own a) e) }
 
   -- the version is what the installs within the snapshot leave
@@ -84,12 +85,12 @@ module _ {sites : ℕ} {w : World} {p : Protocol} (r : Refines sites w p) (i : I
       let size : p .live s t .snapshot .installs ≤ length (inst p s) = omega (arith, i .parts .low s t (i .parts .has s t h)) in
       rw (a .part, a .installs, ← e)
       (version-left (site .history) (inst p s) (w .base s) (p .live s t .snapshot) k (a .history) size kept
-      (b s k (a .low) (a .high) (low-key sites k s (a .home) (omega (arith, r .few, a .high)))))
+      (b s k (a .low) (a .high) (low-key house k s (a .home) (omega (arith, r .few, a .high)))))
 
   reads-seen : Reaches r s t k → wroteKey (subAt site spot .keys) k ≡ false
       → readCode (isForgotten (site .counters .installs) (subAt site spot .snapshot)) (readKey (subAt site spot .keys) k)
       (subAt site spot .keys .read) ≡ 0
-      → readVersion site (w .base s) spot k .answer ≡ Found v → ReadIs sites p s t k v
+      → readVersion site (w .base s) spot k .answer ≡ Found v → ReadIs house p s t k v
   unfolding readVersion
   reads-seen a f c e =
       let d = subAt site spot in
@@ -102,9 +103,9 @@ module _ {sites : ℕ} {w : World} {p : Protocol} (r : Refines sites w p) (i : I
       }
 
   abbrev Goal : Effect → Type 0
-  Goal e = e .answer ≡ Found v → ReadIs sites p s t k v
+  Goal e = e .answer ≡ Found v → ReadIs house p s t k v
 
-  pub read-is : step w (world.read s t k) .answer ≡ Found v → ReadIs sites p s t k v
+  pub read-is : step w (world.read s t k) .answer ≡ Found v → ReadIs house p s t k v
   unfolding step siteStep readOf readAt
   read-is =
       let d = subAt site spot in
@@ -118,9 +119,10 @@ module _ {sites : ℕ} {w : World} {p : Protocol} (r : Refines sites w p) (i : I
       (λ q. absurd (not-found code v q))
 
 -- By the book.
-pub read-left : {sites : ℕ} {p : Protocol} {b : List Fact} → sites ≤ 8 → Invariant sites p → Booked sites b p → (s t k : ℕ) (v : Value)
-    → ReadIs sites p s t k v → ReadLeft b s t k v
-read-left {sites} {p} {b} few i x s t k v r = go (r .value)
+pub read-left : {house : House} {p : Protocol} {b : List Fact} → house .sites ≤ 8 → Invariant house p → Booked house b p
+    → (s t k : ℕ) (v : Value)
+    → ReadIs house p s t k v → ReadLeft b s t k v
+read-left {house} {p} {b} few i x s t k v r = go (r .value)
   where
     inside : (j : ℕ) → j < p .snap s t → j < length (inst p s)
     inside j l = omega (arith, i .parts .low s t (r .has))

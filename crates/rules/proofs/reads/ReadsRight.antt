@@ -5,6 +5,7 @@ use mathlib.Core.Path.{sym, _∙_}
 use mathlib.Core.Logic.{inl, inr}
 use lib.ListN.{getD-replicate}
 use Rattle.kinds.specs.Sizes as sizes
+use Rattle.kinds.specs.declared.House.{House}
 use Rattle.rules.specs.History.{forgotten}
 use Rattle.rules.specs.Install.{startCode}
 use Rattle.rules.specs.World.{World, freshWorld}
@@ -25,15 +26,16 @@ use Rattle.rules.proofs.reads.CallsKept.{KeysStay, BasesStay, call-kept
 use Rattle.rules.proofs.reads.ReadAnswers.{read-is, read-left}
 
 -- A house whose reads are right.
-pub record Reads (sites : ℕ) (w : World) (v : Stream) : Type 0 where
+pub record Reads (house : House) (w : World) (v : Stream) : Type 0 where
   pub once : WritesOnce (v .protocol)
-  pub bases : BasesAre sites w (v .protocol)
+  pub bases : BasesAre house w (v .protocol)
 
 -- After some steps that lead to the world x.
-module _ {sites : ℕ} {w x : World} {v u : Stream} (few : sites ≤ 8) (i : StreamIs sites w v) (z : Standing sites v) (r : Reads sites w v)
-    (ss : Steps sites v u)
-    (y : StreamIs sites x u) where
-  once-after : KeysStay sites x (toldSteps ss) → WritesOnce (u .protocol)
+module _ {house : House} {w x : World} {v u : Stream} (few : house .sites ≤ 8) (i : StreamIs house w v) (z : Standing house v)
+    (r : Reads house w v)
+    (ss : Steps house v u)
+    (y : StreamIs house x u) where
+  once-after : KeysStay house x (toldSteps ss) → WritesOnce (u .protocol)
   once-after (inl n) = writes-steps few z ss n (r .once)
   once-after (inr (n, o)) =
       let same = installs-steps few z ss n in
@@ -42,29 +44,30 @@ module _ {sites : ℕ} {w x : World} {v u : Stream} (few : sites ≤ 8) (i : Str
         entry = λ s j h. rw (at-same (v .protocol) (u .protocol) same s j) (r .once .entry s j (rw (same s) at h));
       }
 
-  bases-after : BasesStay w x (toldSteps ss) → BasesAre sites x (u .protocol)
-  bases-after (inl (n, e)) = bases-kept sites w x (v .protocol) (u .protocol) e (installs-steps few z ss n) (r .bases)
+  bases-after : BasesStay w x (toldSteps ss) → BasesAre house x (u .protocol)
+  bases-after (inl (n, e)) = bases-kept house w x (v .protocol) (u .protocol) e (installs-steps few z ss n) (r .bases)
   bases-after (inr (s, k)) = bases-installed (i .refines) (y .refines) (r .once) (stays-steps few z ss) (r .bases) s k
 
-pub call-reads : {sites : ℕ} → sites ≤ 8 → Keeps (Reads sites) sites
+pub call-reads : {house : House} → house .sites ≤ 8 → Keeps (Reads house) house
 call-reads few w v u c h i z ss e j m =
     let k = call-kept (i .refines) (z .invariant) (m .once) c in
     record { once = once-after few i z m ss j (rw e (k .keys)); bases = bases-after few i z m ss j (rw e (k .bases)) }
 
 -- nothing is forgotten of no installs
-bases-fresh : (sites : ℕ) → BasesAre sites (freshWorld sites) freshProtocol
+bases-fresh : (house : House) → BasesAre house (freshWorld house) freshProtocol
 unfolding freshWorld freshProtocol forgotten
-bases-fresh sites s k l h low =
-    rw (fresh-table (startCode sites s sizes.keys sizes.lists) sizes.keys)
+bases-fresh house s k l h low =
+    rw (fresh-table (startCode (house .sites) s sizes.keys sizes.lists) sizes.keys)
     (getD-replicate {A = ℕ} sizes.keys k 0 0 low ∙ sym (left-none _ k))
 
-pub fresh-reads : (sites : ℕ) → Reads sites (freshWorld sites) freshStream
+pub fresh-reads : (house : House) → Reads house (freshWorld house) freshStream
 unfolding freshStream
-fresh-reads sites = record { once = writes-fresh; bases = bases-fresh sites }
+fresh-reads house = record { once = writes-fresh; bases = bases-fresh house }
 
 pub reads-right : ReadsRight
 unfolding ReadsRight
-reads-right sites calls some few lawful s t k v e =
-    let x = list-stands (Reads sites) few (call-reads few) some (fresh-reads sites) calls lawful in
+reads-right house calls good lawful s t k v e =
+    let few = good .few in
+    let x = list-stands (Reads house) few (call-reads few) good (fresh-reads house) calls lawful in
     read-left few (x .standing .invariant) (x .booked) s t k v
     (read-is (x .is .refines) (x .standing .invariant) (x .more .bases) s t k v e)

@@ -10,6 +10,7 @@ use lib.Dec.{eqb}
 use lib.ListN.{length}
 use Rattle.laws.specs.Choice.{by-test}
 use Rattle.kinds.specs.Sizes as sizes
+use Rattle.kinds.specs.declared.House.{House}
 use Rattle.kinds.specs.declared.Site.{Site}
 use Rattle.kinds.specs.declared.Snapshot.{Snapshot}
 use Rattle.kinds.specs.declared.Answer.the-variants.{Refused, Searched}
@@ -49,11 +50,11 @@ searched a v n m e = cc
 not-searched : (n m : ℕ) (v : Value) → Refused n ≡ Searched v m → ⊥
 not-searched n m v e = let z : _≡_ {A = ℕ} 0 1 = cc in omega arith
 
-record SearchIs (sites : ℕ) (p : Protocol) (s n k : ℕ) (v : Value) : Type 0 where
-  lives : home sites k ≡ s
+record SearchIs (house : House) (p : Protocol) (s n k : ℕ) (v : Value) : Type 0 where
+  lives : home house k ≡ s
   value : n ≤ length (inst p s) → v ≡ leftBelow (at p s) k n
 
-module _ {sites : ℕ} {w : World} {p : Protocol} (r : Refines sites w p) (b : BasesAre sites w p) (s n k looked : ℕ) (v : Value)
+module _ {house : House} {w : World} {p : Protocol} (r : Refines house w p) (b : BasesAre house w p) (s n k looked : ℕ) (v : Value)
     (kept : isForgotten (length (inst p s)) (record { installs = n }) ≡ false) where
   abbrev site : Site
   site = w .site s
@@ -64,14 +65,14 @@ module _ {sites : ℕ} {w : World} {p : Protocol} (r : Refines sites w p) (b : B
   abbrev code : ℕ
   code = keyCode (siteOk site) (length (w .base s)) (site .house) (site .counters .own) k
 
-  finds : code ≡ 0 → searchIn (site .history) (site .counters .installs) (w .base s) snapshot k .value ≡ v → SearchIs sites p s n k v
+  finds : code ≡ 0 → searchIn (site .history) (site .counters .installs) (w .base s) snapshot k .value ≡ v → SearchIs house p s n k v
   finds z e =
       let c = key-clear (siteOk site) (length (w .base s)) (site .house) (site .counters .own) k z in
       let (l, h) = inside r s (c .valid) in
       let y = r .site s l h in
-      let lives = ap (λ (n : ℕ). homeOf (record { sites = n }) k) (sym (y .house)) ∙ c .here ∙ y .counters .own-is in
+      let lives = ap (λ (h : House). homeOf h k) (sym (y .house-is)) ∙ c .here ∙ y .counters .own-is in
       let many = y .counters .installs-are in
-      let base = b s k l h (low-key sites k s lives (omega (arith, r .few))) in
+      let base = b s k l h (low-key house k s lives (omega (arith, r .few))) in
       record {
         lives = lives;
         value = λ few.
@@ -79,7 +80,7 @@ module _ {sites : ℕ} {w : World} {p : Protocol} (r : Refines sites w p) (b : B
             ∙ rw many (version-left (site .history) (inst p s) (w .base s) snapshot k (y .history) few kept base);
       }
 
-  search-is : step w (world.search s n k) .answer ≡ Searched v looked → SearchIs sites p s n k v
+  search-is : step w (world.search s n k) .answer ≡ Searched v looked → SearchIs house p s n k v
   unfolding step searchOf
   search-is =
       by-test (eqb code 0)
@@ -92,11 +93,11 @@ unfolding isForgotten forgotten
 not-lost n m h = le-ltb n (m - sizes.history) (omega arith)
 
 -- After more calls.
-record Since (sites : ℕ) (v : Stream) (w : World) (u : Stream) : Type 0 where
-  reads : Reads sites w u
+record Since (house : House) (v : Stream) (w : World) (u : Stream) : Type 0 where
+  reads : Reads house w u
   stays : Stays v u
 
-call-since : {sites : ℕ} → sites ≤ 8 → (v : Stream) → Keeps (Since sites v) sites
+call-since : {house : House} → house .sites ≤ 8 → (v : Stream) → Keeps (Since house v) house
 call-since few v w u t c h i z ss e j m =
     record {
       reads = call-reads few w u t c h i z ss e j (m .reads);
@@ -104,7 +105,7 @@ call-since few v w u t c h i z ss e j m =
     }
 
 -- the pairs installed at s are those of all installs there
-all-counted : {sites : ℕ} {b : List Fact} {p : Protocol} → sites ≤ 8 → Invariant sites p → Booked sites b p → (s : ℕ)
+all-counted : {house : House} {b : List Fact} {p : Protocol} → house .sites ≤ 8 → Invariant house p → Booked house b p → (s : ℕ)
     → Counted b p s (length (inst p s)) (InstalledAt b s)
 all-counted few i x s =
     record {
@@ -114,8 +115,8 @@ all-counted few i x s =
     }
 
 -- After the first calls, and after more of them.
-module _ {sites : ℕ} (few : sites ≤ 8) {w x : World} {b c : List Fact} (first : Stands (Reads sites) sites w b)
-    (end : Stands (Since sites (first .stream)) sites x c) (s k : ℕ) (v : Value) where
+module _ {house : House} (few : house .sites ≤ 8) {w x : World} {b c : List Fact} (first : Stands (Reads house) house w b)
+    (end : Stands (Since house (first .stream)) house x c) (s k : ℕ) (v : Value) where
   abbrev p : Protocol
   p = first .stream .protocol
 
@@ -128,7 +129,7 @@ module _ {sites : ℕ} (few : sites ≤ 8) {w x : World} {b c : List Fact} (firs
       (λ z. absurd (omega (arith, end .more .stays s (length (inst q s)) z .0)))
       (λ z. z)
 
-  left-then : SearchIs sites q s (installsIn s b) k v → LeftOf b (InstalledAt b s) k v
+  left-then : SearchIs house q s (installsIn s b) k v → LeftOf b (InstalledAt b s) k v
   left-then found =
       let i = first .standing .invariant in
       let many = first .booked .installs .many s in
@@ -138,7 +139,8 @@ module _ {sites : ℕ} (few : sites ≤ 8) {w x : World} {b c : List Fact} (firs
       (rw value (left-since (at p s) k 0 (length (inst p s)) (omega arith)))
 
 -- the first calls leave what they leave, and nothing is installed since
-begun : {sites : ℕ} {w : World} {b : List Fact} (first : Stands (Reads sites) sites w b) → Stands (Since sites (first .stream)) sites w b
+begun : {house : House} {w : World} {b : List Fact} (first : Stands (Reads house) house w b)
+    → Stands (Since house (first .stream)) house w b
 begun first =
     record {
       stream = first .stream;
@@ -150,12 +152,13 @@ begun first =
 
 pub snapshots-stay : SnapshotsStay
 unfolding SnapshotsStay
-snapshots-stay sites calls more some few lawful then s k looked v late e =
-    let w = run (freshWorld sites) calls in
-    let b = bookFrom (freshWorld sites) calls in
-    let first = list-stands (Reads sites) few (call-reads few) some (fresh-reads sites) calls lawful in
+snapshots-stay house calls more good lawful then s k looked v late e =
+    let few = good .few in
+    let w = run (freshWorld house) calls in
+    let b = bookFrom (freshWorld house) calls in
+    let first = list-stands (Reads house) few (call-reads few) good (fresh-reads house) calls lawful in
     let v₀ = first .stream in
-    let end = run-stands (Since sites v₀) few (call-since few v₀) more w b then (begun first) in
+    let end = run-stands (Since house v₀) few (call-since few v₀) more w b then (begun first) in
     let kept = not-lost (installsIn s b) (length (inst (end .stream .protocol) s))
     (omega (arith, end .booked .installs .many s, installs-append s b (bookFrom w more))) in
     left-then few first end s k v (search-is (end .is .refines) (end .more .reads .bases) s (installsIn s b) k looked v kept e)

@@ -7,6 +7,7 @@ use mathlib.Core.List.{List, [], _∷_}
 use native.Mathlib.Omega.{arith}
 use lib.Dec.{eqb}
 use lib.ListN.{length}
+use Rattle.kinds.specs.declared.House.{House}
 use Rattle.laws.specs.Cause.{other-code}
 use Rattle.laws.specs.Choice.{by-test, unset, set-not}
 use Rattle.kinds.specs.Reason as reason
@@ -18,7 +19,7 @@ use Rattle.rules.specs.Merger.{headsOf, headIn, hasPart, isDue, isWhole,
 use Rattle.rules.specs.MergerLaws.{LeastOf, IsDue, WholeAt, has-part, part-had, least-is, is-due, parts-whole}
 use Rattle.rules.specs.World.{World, step, mergerStep}
 use Rattle.rules.specs.Progress.{DueIsWhole}
-use Rattle.rules.proofs.refine.Refines.{partHeadOf}
+use Rattle.rules.proofs.refine.Refines.{partHeadOf, count-is}
 use Rattle.rules.proofs.stream.Stream as stream
 use Rattle.rules.proofs.stream.Stream.{Stream}
 use Rattle.rules.proofs.stream.StreamReached.{Standing}
@@ -39,7 +40,7 @@ due-other g heads least f =
     (λ d. rw (d, f d) (λ e. omega arith))
     (λ d. rw d (λ e. omega arith))
 
-module _ {sites : ℕ} {w : World} {v : Stream} (x : StreamIs sites w v) (z : Standing sites v) where
+module _ {house : House} {w : World} {v : Stream} (x : StreamIs house w v) (z : Standing house v) where
   abbrev m : stream.Merger
   m = v .merger
 
@@ -50,7 +51,7 @@ module _ {sites : ℕ} {w : World} {v : Stream} (x : StreamIs sites w v) (z : St
   heads = headsOf (w .queues) (g .house .sites)
 
   module _ (k : ℕ) (l : LeastOf g heads (g .house .sites) k) (G : Entry) (r : List Entry) (q : m .queue (k + 1) ≡ G ∷ r) where
-    whole-at : IsDue g heads k → (i : ℕ) → i < sites → WholeAt g heads (headIn heads k) i
+    whole-at : IsDue g heads k → (i : ℕ) → i < house .sites → WholeAt g heads (headIn heads k) i
     unfolding partHeadOf
     whole-at d i b =
         go (m .queue (i + 1)) refl
@@ -81,13 +82,13 @@ module _ {sites : ℕ} {w : World} {v : Stream} (x : StreamIs sites w v) (z : St
       let k = leastSite g (w .queues) in
       let d = is-due g heads k e in
       let l = least-is g heads (g .house .sites) (x .merger .holds .clear .few) (d .some) in
-      let b : k < sites = omega (arith, l .below, x .merger .house) in
+      let b : k < house .sites = omega (arith, l .below, count-is (x .merger .house-is)) in
       go k d l b (m .queue (k + 1)) refl
     where
-      go : (k : ℕ) → IsDue g heads k → LeastOf g heads (g .house .sites) k → k < sites → (u : List Entry) → m .queue (k + 1) ≡ u
+      go : (k : ℕ) → IsDue g heads k → LeastOf g heads (g .house .sites) k → k < house .sites → (u : List Entry) → m .queue (k + 1) ≡ u
           → isWhole g heads (headIn heads k) ≡ true
       go k d l b [] f = absurd (omega (arith, l .queued, x .merger .source k b .queued, ap length f))
-      go k d l b (G ∷ r) f = parts-whole g heads (headIn heads k) (λ i h. whole-at k l G r f d i (rw (x .merger .house) at h))
+      go k d l b (G ∷ r) f = parts-whole g heads (headIn heads k) (λ i h. whole-at k l G r f d i (rw (x .merger .house-is) at h))
 
   pub due-is-whole : DueIsWhole w
   unfolding step mergerStep emitOf emitDue

@@ -9,6 +9,7 @@ use native.Mathlib.Omega.{arith}
 use borrow.Author.Tests.{le-ltb}
 use lib.ListN.{length, length-append}
 use Rattle.kinds.specs.Sizes as sizes
+use Rattle.kinds.specs.declared.House.{House}
 use Rattle.kinds.specs.declared.Entry.{Entry}
 use Rattle.kinds.specs.declared.RecordHead.{RecordHead}
 use Rattle.kinds.specs.declared.Merger.{Merger}
@@ -21,7 +22,7 @@ use Rattle.rules.specs.MergerLaws.{LeastOf, least-is, least-some}
 use Rattle.rules.specs.World.{World, step, mergerStep, recordIn}
 use Rattle.rules.specs.World as world
 use Rattle.rules.proofs.protocol.ProtocolTables.{Protocol}
-use Rattle.rules.proofs.refine.Refines.{partHeadOf}
+use Rattle.rules.proofs.refine.Refines.{partHeadOf, count-is}
 use Rattle.rules.proofs.stream.Stream as stream
 use Rattle.rules.proofs.stream.Stream.{Stream}
 use Rattle.rules.proofs.stream.StreamInv.{Out}
@@ -48,7 +49,7 @@ one-written : (g : Merger) (queues : List ℕ) (room : ℕ) → emitCode g queue
 unfolding emitOf emitDue mergedWords recordWords
 one-written g queues room c d = rw (c, d)
 
-module _ {sites : ℕ} {w : World} {v : Stream} (x : StreamIs sites w v) (z : Standing sites v) where
+module _ {house : House} {w : World} {v : Stream} (x : StreamIs house w v) (z : Standing house v) where
   abbrev p : Protocol
   p = v .protocol
 
@@ -64,7 +65,7 @@ module _ {sites : ℕ} {w : World} {v : Stream} (x : StreamIs sites w v) (z : St
   abbrev k : ℕ
   k = leastSite g (w .queues)
 
-  module _ (n : ℕ) (d : (s : ℕ) → 1 ≤ s → s ≤ sites → DrainedAt p m n s) where
+  module _ (n : ℕ) (d : (s : ℕ) → 1 ≤ s → s ≤ house .sites → DrainedAt p m n s) where
     -- where the least head is up to n
     least-due : LeastOf g heads (g .house .sites) k → (G : Entry) (r : List Entry) → m .queue (k + 1) ≡ G ∷ r → G .number ≤ n
         → isDue g heads k ≡ true
@@ -74,7 +75,7 @@ module _ {sites : ℕ} {w : World} {v : Stream} (x : StreamIs sites w v) (z : St
         laws.due-is g heads k
         (record {
           some = omega (arith, l .below, c .few);
-          every = λ i b. inr (let y : i < sites = rw (x .merger .house) at b in
+          every = λ i b. inr (let y : i < house .sites = rw (x .merger .house-is) at b in
               let e = ap (λ (f : RecordHead). f .number) (due-is x z k l G r q) in
               omega (arith, x .merger .source i y .state-is, d (i + 1) (omega arith) (omega arith) .1));
         })
@@ -87,7 +88,7 @@ module _ {sites : ℕ} {w : World} {v : Stream} (x : StreamIs sites w v) (z : St
           let o : i + 1 ≡ coordinatorOf t = omega arith in
           go i (omega arith) (rw o q) (omega (arith, x .refines .few))
         where
-          go : (i : ℕ) → i < sites → m .queue (i + 1) ≡ e ∷ u → coordinatorOf t ≤ 8 → isDue g heads k ≡ true
+          go : (i : ℕ) → i < house .sites → m .queue (i + 1) ≡ e ∷ u → coordinatorOf t ≤ 8 → isDue g heads k ≡ true
           go i y f low = some (m .queue (k + 1)) refl
             where
               few : g .house .sites ≤ sizes.sites
@@ -99,7 +100,7 @@ module _ {sites : ℕ} {w : World} {v : Stream} (x : StreamIs sites w v) (z : St
 
               some : (r : List Entry) → m .queue (k + 1) ≡ r → isDue g heads k ≡ true
               some [] j =
-                  let b : k < sites = omega (arith, least .below, x .merger .house) in
+                  let b : k < house .sites = omega (arith, least .below, count-is (x .merger .house-is)) in
                   absurd (omega (arith, least .queued, x .merger .source k b .queued, ap length j))
               some (G ∷ r) j = least-due least G r j (omega (arith, least-rank x z k least G r j i y e u f))
 

@@ -12,6 +12,7 @@ use lib.Seq.{getD-take, length-take-le}
 use Rattle.laws.specs.Choice.{pick, by-test}
 use Rattle.laws.specs.Pair.{precedes, rank-precedes}
 use Rattle.kinds.specs.Sizes as sizes
+use Rattle.kinds.specs.declared.House.{House}
 use Rattle.kinds.specs.Kind as kind
 use Rattle.kinds.specs.Reason as reason
 use Rattle.kinds.specs.declared.Entry.{Entry}
@@ -32,17 +33,18 @@ use Rattle.rules.proofs.lists.Tables.{all-at, All}
 use Rattle.rules.proofs.protocol.ProtocolTables.{Protocol, Rec, rPart, rState}
 use Rattle.rules.proofs.protocol.Invariants.{Invariant, StandsBefore}
 use Rattle.rules.proofs.protocol.Committed.{low-coordinator}
-use Rattle.rules.proofs.refine.Refines.{recWords, partHeadOf}
+use Rattle.rules.proofs.refine.Refines.{recWords, partHeadOf, count-is}
 use Rattle.rules.proofs.stream.Stream as stream
 use Rattle.rules.proofs.stream.Stream.{Stream}
 use Rattle.rules.proofs.stream.StreamReached.{Standing}
 use Rattle.rules.proofs.records.StreamNext.{Lasts, stands-before, part-real, next-part, next-state}
 use Rattle.rules.proofs.refine.RefineMerger.{SourceIs, StreamIs, part-head, state-head}
 use Rattle.rules.proofs.refine.RefineMerge.{logged}
-use Rattle.rules.proofs.records.Written.{RecordOk, house-is}
+use Rattle.rules.proofs.records.Written.{RecordOk}
 
 -- Two records of a log, by their heads.
-module _ {sites : ℕ} {p : Protocol} (few : sites ≤ 8) (inv : Invariant sites p) (s i j : ℕ) (l : i < j) (h : j < length (p .log s)) where
+module _ {house : House} {p : Protocol} (few : house .sites ≤ 8) (inv : Invariant house p) (s i j : ℕ) (l : i < j)
+    (h : j < length (p .log s)) where
   abbrev recAt : ℕ → Rec
   recAt k = getD (p .log s) k (rState 0)
 
@@ -105,8 +107,8 @@ unfolding mergeState mergeStateCode
 state-answer g queues m a = rw (le-ltb (recordHead m .number) (sourceAt g (recordHead m .site - 1) .state) a) (inl refl)
 
 -- The logs of a house.
-module _ {sites : ℕ} {w : World} {v : Stream} (x : StreamIs sites w v) (z : Standing sites v) (l : Lasts (v .protocol) (v .merger))
-    (f : (s : ℕ) → All (RecordOk sites) (w .log s)) where
+module _ {house : House} {w : World} {v : Stream} (x : StreamIs house w v) (z : Standing house v) (l : Lasts (v .protocol) (v .merger))
+    (f : (s : ℕ) → All (RecordOk house) (w .log s)) where
   abbrev p : Protocol
   p = v .protocol
 
@@ -128,16 +130,17 @@ module _ {sites : ℕ} {w : World} {v : Stream} (x : StreamIs sites w v) (z : St
     g = w .merger
 
     passes : (partOk (g .house) ws ≡ true) ⊎ (stateOk (g .house) ws ≡ true)
-    passes = rw (house-is (g .house) sites (x .merger .house)) (all-at (f s) [] (w .merged s) h)
+    passes = rw (x .merger .house-is) (all-at (f s) [] (w .merged s) h)
 
     -- its site is one of the house
-    inside : (1 ≤ recordHead ws .site) × (recordHead ws .site ≤ sites)
+    inside : (1 ≤ recordHead ws .site) × (recordHead ws .site ≤ house .sites)
     inside = go passes
       where
-        of : isSite (g .house) (recordHead ws .site) ≡ true → (1 ≤ recordHead ws .site) × (recordHead ws .site ≤ sites)
-        of e = let c = site-clear (g .house) (recordHead ws .site) e in (c .low, omega (arith, c .high, x .merger .house))
+        of : isSite (g .house) (recordHead ws .site) ≡ true → (1 ≤ recordHead ws .site) × (recordHead ws .site ≤ house .sites)
+        of e = let c = site-clear (g .house) (recordHead ws .site) e in (c .low, omega (arith, c .high, count-is (x .merger .house-is)))
 
-        go : (partOk (g .house) ws ≡ true) ⊎ (stateOk (g .house) ws ≡ true) → (1 ≤ recordHead ws .site) × (recordHead ws .site ≤ sites)
+        go : (partOk (g .house) ws ≡ true) ⊎ (stateOk (g .house) ws ≡ true)
+            → (1 ≤ recordHead ws .site) × (recordHead ws .site ≤ house .sites)
         go (inl e) = of (part-clear (g .house) (recordHead ws) (part-passed-good (g .house) ws e .head) .site)
         go (inr e) = of (state-clear (g .house) (recordHead ws) (state-passed-good (g .house) ws e .head) .site)
 
@@ -146,7 +149,7 @@ module _ {sites : ℕ} {w : World} {v : Stream} (x : StreamIs sites w v) (z : St
     next = let (b, q) = logged x s (w .merged s) h in
         (rw (x .merged s) at b, q ∙ ap (λ (i : ℕ). recWords s (getD (p .log s) i (rState 0))) (x .merged s))
 
-    source : 1 ≤ s → s ≤ sites → SourceIs (sourceAt g (s - 1)) (w .queues) (s - 1) (m .queue s) (m .state s) (m .last s)
+    source : 1 ≤ s → s ≤ house .sites → SourceIs (sourceAt g (s - 1)) (w .queues) (s - 1) (m .queue s) (m .state s) (m .last s)
     source b c = let e : s - 1 + 1 ≡ s = omega arith in rw e at (x .merger .source (s - 1) (omega arith))
 
     taken : (r : Rec) → getD (p .log s) (m .took s) (rState 0) ≡ r

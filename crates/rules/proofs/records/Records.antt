@@ -9,6 +9,7 @@ use lib.ListN.{length, getD, replicate, length-map}
 use lib.Seq.{getD-take, length-take-le}
 use Rattle.laws.specs.Pair.{rank}
 use Rattle.kinds.specs.Sizes as sizes
+use Rattle.kinds.specs.declared.House.{House}
 use Rattle.kinds.specs.Kind as kind
 use Rattle.kinds.specs.declared.RecordHead.{RecordHead}
 use Rattle.rules.specs.House.{coordinatorOf}
@@ -36,23 +37,23 @@ use Rattle.rules.proofs.records.DueWhole.{due-is-whole}
 use Rattle.rules.proofs.records.EmitDrains.{emit-drains}
 
 -- A house whose logs ascend.
-record Climbs (sites : ℕ) (w : World) (v : Stream) : Type 0 where
+record Climbs (house : House) (w : World) (v : Stream) : Type 0 where
   lasts : Lasts (v .protocol) (v .merger)
-  written : (s : ℕ) → All (RecordOk sites) (w .log s)
+  written : (s : ℕ) → All (RecordOk house) (w .log s)
 
-call-climbs : {sites : ℕ} → sites ≤ 8 → Keeps (Climbs sites) sites
+call-climbs : {house : House} → house .sites ≤ 8 → Keeps (Climbs house) house
 call-climbs few w v u c h i z ss e j m =
     record {
       lasts = lasts-steps few ss z (m .lasts);
       written = call-written (i .refines) (z .invariant) (m .written) c;
     }
 
-fresh-climbs : (sites : ℕ) → Climbs sites (freshWorld sites) freshStream
+fresh-climbs : (house : House) → Climbs house (freshWorld house) freshStream
 unfolding freshWorld freshStream
-fresh-climbs sites = record { lasts = lasts-fresh freshProtocol; written = λ s. a-nil }
+fresh-climbs house = record { lasts = lasts-fresh freshProtocol; written = λ s. a-nil }
 
 -- A drained house, at the machine's tables.
-module _ {sites : ℕ} {w : World} {b : List Fact} (x : Stands (Climbs sites) sites w b) where
+module _ {house : House} {w : World} {b : List Fact} (x : Stands (Climbs house) house w b) where
   abbrev p : Protocol
   p = x .stream .protocol
 
@@ -72,7 +73,7 @@ module _ {sites : ℕ} {w : World} {b : List Fact} (x : Stands (Climbs sites) si
       go (rPart e) q = absurd (let z : kind.state ≡ kind.part = sym k ∙ ap (λ (h : RecordHead). h .kind) (q ∙ part-head s e) in omega arith)
       go (rState n) q = ap rState (sym (ap (λ (h : RecordHead). h .number) (q ∙ state-head s n)))
 
-  drained-at : (n : ℕ) → Drained sites w n → (s : ℕ) → 1 ≤ s → s ≤ sites → DrainedAt p m n s
+  drained-at : (n : ℕ) → Drained house w n → (s : ℕ) → 1 ≤ s → s ≤ house .sites → DrainedAt p m n s
   drained-at n d s l h =
       let (e, (i, k, u, v)) = d s l h in
       let (c, q) = state-in s i k u in
@@ -86,39 +87,40 @@ module _ {sites : ℕ} {w : World} {b : List Fact} (x : Stands (Climbs sites) si
 
   in-stream : (t : ℕ) → Out m t → InStream w t
   in-stream t (j, l, e) =
-      let c : j < length (map (itemWords sites) (m .out)) = omega (arith, length-map (m .out) (itemWords sites)) in
-      let q = map-at (itemWords sites) (m .out) pastItem j c .1 in
+      let c : j < length (map (itemWords (house .sites)) (m .out)) = omega (arith, length-map (m .out) (itemWords (house .sites))) in
+      let q = map-at (itemWords (house .sites)) (m .out) pastItem j c .1 in
       rw (x .is .emitted) (
         j,
         c,
         ap (λ (ws : List ℕ). recordHead ws .tx) q
-            ∙ ap (λ (h : RecordHead). h .tx) (item-head sites (getD (m .out) j pastItem)) ∙ e,
+            ∙ ap (λ (h : RecordHead). h .tx) (item-head (house .sites) (getD (m .out) j pastItem)) ∙ e,
       )
 
   -- more items than ranks up to t's: it is one of them
   many-out : (t : ℕ) → 0 < p .num t → rank (p .num t) (coordinatorOf t) < length (w .stream) → Out m t
   many-out t n h =
-      let o : length (w .stream) ≡ length (m .out) = ap length (x .is .emitted) ∙ length-map (m .out) (itemWords sites) in
+      let o : length (w .stream) ≡ length (m .out) = ap length (x .is .emitted) ∙ length-map (m .out) (itemWords (house .sites)) in
       let j = length (m .out) - 1 in
       x .standing .streamed .whole t j n (omega arith)
       (omega (arith, rank-index (x .standing .invariant) (x .standing .streamed) j (omega arith)))
 
 -- an emit leaves the logs, and what was taken of them
-emit-drained : (sites : ℕ) (w : World) (n : ℕ) (out : List ℕ) → Drained sites w n → Drained sites (step w (world.emit out) .world) n
+emit-drained : (house : House) (w : World) (n : ℕ) (out : List ℕ) → Drained house w n → Drained house (step w (world.emit out) .world) n
 unfolding step mergerStep
-emit-drained sites w n out d = d
+emit-drained house w n out d = d
 
 -- emits, until t is out: the stream grows by each of them, and has at most as many items below t as t's rank
-drain : {sites : ℕ} → sites ≤ 8 → (f : ℕ) {w : World} {b : List Fact} (n t k c : ℕ) (out : List ℕ) → Stands (Climbs sites) sites w b
-    → Drained sites w n → Committed b t k c → k ≤ n
+drain : {house : House} → house .sites ≤ 8 → (f : ℕ) {w : World} {b : List Fact} (n t k c : ℕ) (out : List ℕ)
+    → Stands (Climbs house) house w b
+    → Drained house w n → Committed b t k c → k ≤ n
     → sizes.merged ≤ length out → rank k c < length (w .stream) + f → (j : ℕ) × InStream (run w (replicate j (world.emit out))) t
 unfolding run
 drain few zero n t k c out x d h u room l =
     let (y, q, e) = x .booked .commits .commit t k c h in
     (0, in-stream x t (many-out x t y (omega arith)))
-drain {sites} few (suc f) {w} n t k c out x d h u room l =
+drain {house} few (suc f) {w} n t k c out x d h u room l =
     let (y, q, e) = x .booked .commits .commit t k c h in
-    go (λ g. drain few f n t k c out (call-stands (Climbs sites) few (call-climbs few) (world.emit out) tt x) (emit-drained sites w n out d)
+    go (λ g. drain few f n t k c out (call-stands (Climbs house) few (call-climbs few) (world.emit out) tt x) (emit-drained house w n out d)
     (is-kept _ h) u room (omega arith))
     (emit-drains (x .is) (x .standing) n (drained-at x n d) t y (omega arith) out room)
   where
@@ -131,8 +133,9 @@ drain {sites} few (suc f) {w} n t k c out x d h u room l =
 
 pub records-progress : RecordsProgress
 unfolding RecordsProgress
-records-progress sites calls some few lawful =
-    let x = list-stands (Climbs sites) few (call-climbs few) some (fresh-climbs sites) calls lawful in
+records-progress house calls good lawful =
+    let few = good .few in
+    let x = list-stands (Climbs house) few (call-climbs few) good (fresh-climbs house) calls lawful in
     let z = x .standing in
     let y = x .more in (
       logs-ascend (x .is) z (y .lasts) (y .written),

@@ -7,6 +7,7 @@ use mathlib.Core.List.{List, [], _∷_, _++_}
 use native.Mathlib.Nat.{eq-or-lt-of-le}
 use native.Mathlib.Omega.{arith}
 use lib.ListN.{length, drop, length-append, drop-of-length-le}
+use Rattle.kinds.specs.declared.House.{House}
 use Rattle.laws.specs.Pair.{rank}
 use Rattle.kinds.specs.Stage as stage
 use Rattle.kinds.specs.declared.Entry.{Entry}
@@ -27,7 +28,7 @@ DrainedAt p m n s = (m .took s ≡ length (p .log s)) × (n ≤ m .state s)
 abbrev pub HeadUpTo : Protocol → Merger → ℕ → ℕ → Type 0
 HeadUpTo p m t s = (e : Entry) × (l : List Entry) × (m .queue s ≡ e ∷ l) × (rankOf e ≤ rank (p .num t) (coordinatorOf t))
 
-module _ {sites : ℕ} {p : Protocol} {m : Merger} (inv : Invariant sites p) (i : Streamed sites p m) where
+module _ {house : House} {p : Protocol} {m : Merger} (inv : Invariant house p) (i : Streamed house p m) where
   -- n items have n ranks
   pub rank-index : (j : ℕ) → j < length (m .out) → j ≤ itemRank (itemAt m j)
   rank-index zero h = omega arith

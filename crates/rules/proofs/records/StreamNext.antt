@@ -7,6 +7,7 @@ use borrow.Author.Tests.{eqb-true}
 use lib.Dec.{eqb}
 use lib.ListN.{length, getD, take}
 use lib.Seq.{take-append-le}
+use Rattle.kinds.specs.declared.House.{House}
 use Rattle.laws.specs.Choice.{by-test}
 use Rattle.laws.specs.Pair.{rank}
 use Rattle.kinds.specs.declared.Entry.{Entry}
@@ -39,7 +40,7 @@ part-index (rState n ∷ l) zero e h q = absurd (let z : _≡_ {A = ℕ} 0 1 = c
 part-index (rPart x ∷ l) (suc i) e h q = let (j, b, k) = part-index l i e (omega arith) q in (suc j, omega arith, k)
 part-index (rState n ∷ l) (suc i) e h q = part-index l i e (omega arith) q
 
-pub part-real : {sites : ℕ} {p : Protocol} → Invariant sites p → (s i : ℕ) (e : Entry) → i < length (p .log s)
+pub part-real : {house : House} {p : Protocol} → Invariant house p → (s i : ℕ) (e : Entry) → i < length (p .log s)
     → getD (p .log s) i (rState 0) ≡ rPart e → Real p s e
 part-real {p = p} inv s i e h q = let (j, b, k) = part-index (p .log s) i e h q in rw k at (real-at inv s j b)
 
@@ -62,7 +63,7 @@ rank-below k a-nil h = h
 rank-below k (a-cons {x = rPart e} p ps) h = rank-below (rankOf e) ps p
 rank-below k (a-cons {x = rState i} p ps) h = rank-below k ps h
 
-lasts-merged : {sites : ℕ} {p : Protocol} {m n : Merger} → Streamed sites p m → Merging sites p m n → Lasts p m → Lasts p n
+lasts-merged : {house : House} {p : Protocol} {m n : Merger} → Streamed house p m → Merging house p m n → Lasts p m → Lasts p n
 unfolding upd
 lasts-merged {p = p} {m = m} i (takePart s e r l k) f =
     λ j. by-test (eqb j s)
@@ -76,12 +77,12 @@ lasts-merged {p = p} {m = m} i (takeState s n r l) f =
     (λ t. rw t (f j))
 lasts-merged i (emit g d) f = f
 
-pub lasts-steps : {sites : ℕ} {v w : Stream} → sites ≤ 8 → Steps sites v w → Standing sites v → Lasts (v .protocol) (v .merger)
+pub lasts-steps : {house : House} {v w : Stream} → house .sites ≤ 8 → Steps house v w → Standing house v → Lasts (v .protocol) (v .merger)
     → Lasts (w .protocol) (w .merger)
 lasts-steps few stop z f = f
-lasts-steps {sites} few (more {v = u} ss (moves q m)) z f =
+lasts-steps {house} few (more {v = u} ss (moves q m)) z f =
     let y = standing-steps few ss z in
-    λ s. let (r, e) = grown (u .protocol) s (q .log s) (change sites (u .protocol) q few m (y .invariant) .logs s) in
+    λ s. let (r, e) = grown (u .protocol) s (q .log s) (change house (u .protocol) q few m (y .invariant) .logs s) in
     rw (e, take-append-le (u .merger .took s) (u .protocol .log s) r (y .streamed .source s .count)) (lasts-steps few ss z f s)
 lasts-steps few (more ss (merges n m)) z f = lasts-merged (standing-steps few ss z .streamed) m (lasts-steps few ss z f)
 lasts-steps few (more ss (replays c l)) z f = lasts-steps few ss z f
@@ -96,7 +97,7 @@ state-upto n k (a-cons {x = rPart e} p ps) h = state-upto n k ps h
 state-upto n k (a-cons {x = rState i} p ps) h = state-upto n i ps p
 
 -- The next: where it is a part, above the last part and beyond the last state, where it is a state, not below the last.
-module _ {sites : ℕ} {p : Protocol} {m : Merger} (inv : Invariant sites p) (i : Streamed sites p m) (s : ℕ)
+module _ {house : House} {p : Protocol} {m : Merger} (inv : Invariant house p) (i : Streamed house p m) (s : ℕ)
     (h : m .took s < length (p .log s)) where
   pub next-part : Lasts p m → (e : Entry) → getD (p .log s) (m .took s) (rState 0) ≡ rPart e
       → (m .last s < rankOf e) × (m .state s < e .number)

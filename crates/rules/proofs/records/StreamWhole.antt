@@ -7,6 +7,7 @@ use mathlib.Core.Logic.{_⊎_, inl, inr, ⊎-elim}
 use mathlib.Core.List.{List, [], _∷_}
 use native.Mathlib.Omega.{arith}
 use lib.ListN.{length}
+use Rattle.kinds.specs.declared.House.{House}
 use Rattle.laws.specs.Choice.{by-test, set-not}
 use Rattle.kinds.specs.Stage as stage
 use Rattle.kinds.specs.declared.Entry.{Entry}
@@ -20,7 +21,7 @@ use Rattle.rules.proofs.stream.Stream.{Merger, rankOf, DueAt, WholeAt}
 use Rattle.rules.proofs.stream.StreamInv.{Out, Streamed, Real, gone, head-real, not-gone}
 use Rattle.rules.proofs.stream.StreamDue.{head-low, head-not-out, due-low, due-below, due-behind}
 
-module _ {sites : ℕ} (few : sites ≤ 8) {p : Protocol} {m : Merger} (inv : Invariant sites p) (i : Streamed sites p m) where
+module _ {house : House} (few : house .sites ≤ 8) {p : Protocol} {m : Merger} (inv : Invariant house p) (i : Streamed house p m) where
   -- g, a part that some site installed, and a site s at which it is due
   module _ {k : ℕ} (g : Entry) (real : Real p k g) (low : coordinatorOf (g .tx) ≤ 8) (s : ℕ) (site : 1 ≤ s)
       (due : DueAt g (m .state s) (m .queue s)) where

@@ -29,33 +29,30 @@ use Rattle.rules.proofs.lists.Tables.{upd-cases, All, all-append, all-o
 use Rattle.rules.proofs.protocol.ProtocolTables.{Protocol}
 use Rattle.rules.proofs.protocol.Protocol.{AtStage}
 use Rattle.rules.proofs.protocol.Invariants.{Invariant}
-use Rattle.rules.proofs.refine.Refines.{Refines}
+use Rattle.rules.proofs.refine.Refines.{Refines, count-is}
 use Rattle.rules.proofs.refine.RefineTurn.{part-place}
 use Rattle.rules.proofs.refine.RefineStep.{by-code, inside}
 
-abbrev pub RecordOk : ℕ → List ℕ → Type 0
-RecordOk sites m = (partOk (record { sites = sites }) m ≡ true) ⊎ (stateOk (record { sites = sites }) m ≡ true)
+abbrev pub RecordOk : House → List ℕ → Type 0
+RecordOk house m = (partOk house m ≡ true) ⊎ (stateOk house m ≡ true)
 
 record-written : (r : RecordHead) (ws : List ℕ) → recordIn (recordWords r ws) ≡ recordWords r ws ∷ []
 unfolding recordWords
 record-written r ws = refl
 
-pub house-is : (o : House) (n : ℕ) → o .sites ≡ n → o ≡ record { sites = n }
-house-is o n e = λ i. record { sites = e i }
-
-module _ {sites : ℕ} {w : World} {p : Protocol} (r : Refines sites w p) (inv : Invariant sites p)
-    (f : (s : ℕ) → All (RecordOk sites) (w .log s)) where
+module _ {house : House} {w : World} {p : Protocol} (r : Refines house w p) (inv : Invariant house p)
+    (f : (s : ℕ) → All (RecordOk house) (w .log s)) where
   -- a call that writes nothing, or one record, into the log of s
-  same-log : (s : ℕ) (e : Effect) (base : List Value) → e .words ≡ [] → (j : ℕ) → All (RecordOk sites) (logStep w s e base .world .log j)
+  same-log : (s : ℕ) (e : Effect) (base : List Value) → e .words ≡ [] → (j : ℕ) → All (RecordOk house) (logStep w s e base .world .log j)
   unfolding logStep
-  same-log s e base n = upd-cases (λ j l. All (RecordOk sites) l) (w .log) s _ (rw (n, append-nil) (f s)) (λ j k. f j)
+  same-log s e base n = upd-cases (λ j l. All (RecordOk house) l) (w .log) s _ (rw (n, append-nil) (f s)) (λ j k. f j)
 
   more-log : (s : ℕ) (e : Effect) (base : List Value) (h : RecordHead) (ws : List ℕ) → e .words ≡ recordWords h ws
-      → RecordOk sites (recordWords h ws)
-      → (j : ℕ) → All (RecordOk sites) (logStep w s e base .world .log j)
+      → RecordOk house (recordWords h ws)
+      → (j : ℕ) → All (RecordOk house) (logStep w s e base .world .log j)
   unfolding logStep
   more-log s e base h ws n o =
-      upd-cases (λ j l. All (RecordOk sites) l) (w .log) s _ (rw (n, record-written h ws) (all-append (f s) (all-one o))) (λ j k. f j)
+      upd-cases (λ j l. All (RecordOk house) l) (w .log) s _ (rw (n, record-written h ws) (all-append (f s) (all-one o))) (λ j k. f j)
 
   module _ (s : ℕ) (out : List ℕ) where
     abbrev site : Site
@@ -67,18 +64,18 @@ module _ {sites : ℕ} {w : World} {p : Protocol} (r : Refines sites w p) (inv :
     abbrev reported : Effect
     reported = record { answer = Reported number; words = stateWords (site .counters .own) number; site = site; lent = [] }
 
-    reports : reportCode (siteOk site) (length out) ≡ 0 → (j : ℕ) → All (RecordOk sites) (logStep w s reported (w .base s) .world .log j)
+    reports : reportCode (siteOk site) (length out) ≡ 0 → (j : ℕ) → All (RecordOk house) (logStep w s reported (w .base s) .world .log j)
     unfolding stateWords
     reports e =
         let v = report-clear (siteOk site) (length out) e .valid in
         let (l, h) = inside r s v in
         let y = r .site s l h in
-        more-log s reported (w .base s) _ [] refl (inr (rw (house-is (site .house) sites (y .house)) at (state-good site number v)))
+        more-log s reported (w .base s) _ [] refl (inr (rw (y .house-is) at (state-good site number v)))
 
-    report-written : (j : ℕ) → All (RecordOk sites) (step w (world.report s out) .world .log j)
+    report-written : (j : ℕ) → All (RecordOk house) (step w (world.report s out) .world .log j)
     unfolding step reportOf
     report-written =
-        by-code (λ e. (j : ℕ) → All (RecordOk sites) (logStep w s e (w .base s) .world .log j)) (reportCode (siteOk site) (length out)) site
+        by-code (λ e. (j : ℕ) → All (RecordOk house) (logStep w s e (w .base s) .world .log j)) (reportCode (siteOk site) (length out)) site
         [] reported
         reports (same-log s (refused (reportCode (siteOk site) (length out)) site []) (w .base s) refl)
 
@@ -87,7 +84,7 @@ module _ {sites : ℕ} {w : World} {p : Protocol} (r : Refines sites w p) (inv :
 
     -- what is installed is a part of the house's, at a participant
     part-passes : siteOk site ≡ true → isInstallable (site .live) due ≡ true
-        → partOk (record { sites = sites }) (partWords (site .counters .own) (subAt site due)) ≡ true
+        → partOk house (partWords (site .counters .own) (subAt site due)) ≡ true
     unfolding isTx isSite
     part-passes v d =
         let (l, h) = inside r s v in
@@ -102,33 +99,33 @@ module _ {sites : ℕ} {w : World} {p : Protocol} (r : Refines sites w p) (inv :
         let tx : isTx (site .house) t ≡ true =
         rw (
           le-leb 1 (coordinatorOf t) c,
-          le-leb (coordinatorOf t) (site .house .sites) (omega (arith, y .house)),
+          le-leb (coordinatorOf t) (site .house .sites) (omega (arith, count-is (y .house-is))),
           le-leb 1 (serialOf t) (inv .parts .serial s t has .0),
         ) in
         let m = ap (λ (b : Sub). b .course .mask) (at .part) ∙ inv .courses .mask s t (λ f. omega arith) (λ f. omega arith) .1 in
         let among : inMask (subAt site due .course .mask) (site .counters .own) ≡ true =
         rw (m, y .counters .own-is) (inv .account .yes s t (inv .courses .decided s t x .0) .1) in
-        rw (house-is (site .house) sites (y .house)) at (part-good site due v low tx among)
+        rw (y .house-is) at (part-good site due v low tx among)
 
     abbrev code : ℕ
     code = installCode (siteOk site) (length out) (length (w .base s)) (isInstallable (site .live) due) (site .counters .installs)
 
     installs : code ≡ 0 → (j : ℕ)
-        → All (RecordOk sites) (logStep w s (installedAt site (w .base s) due) (installedAt site (w .base s) due .lent) .world .log j)
+        → All (RecordOk house) (logStep w s (installedAt site (w .base s) due) (installedAt site (w .base s) due .lent) .world .log j)
     unfolding installedAt partWords partHead
     installs e =
         let c = install-clear (siteOk site) (length out) (length (w .base s)) (isInstallable (site .live) due)
         (site .counters .installs) e in
         more-log s (installedAt site (w .base s) due) _ _ _ refl (inl (part-passes (c .valid) (c .least)))
 
-    install-written : (j : ℕ) → All (RecordOk sites) (step w (world.install s out) .world .log j)
+    install-written : (j : ℕ) → All (RecordOk house) (step w (world.install s out) .world .log j)
     unfolding step installOf
     install-written =
-        by-code (λ e. (j : ℕ) → All (RecordOk sites) (logStep w s e (e .lent) .world .log j)) code site (w .base s)
+        by-code (λ e. (j : ℕ) → All (RecordOk house) (logStep w s e (e .lent) .world .log j)) code site (w .base s)
         (installedAt site (w .base s) due)
         installs (same-log s (refused code site (w .base s)) (w .base s) refl)
 
-  pub call-written : (c : Call) (s : ℕ) → All (RecordOk sites) (step w c .world .log s)
+  pub call-written : (c : Call) (s : ℕ) → All (RecordOk house) (step w c .world .log s)
   unfolding step siteStep mergeStep mergerStep replayStep copyStep
   call-written (world.begin s d) = f
   call-written (world.enlist s out t n) = f

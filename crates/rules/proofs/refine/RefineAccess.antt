@@ -12,6 +12,7 @@ use lib.Seq.{set-getD}
 use Rattle.laws.specs.Choice.{pick, pick-self, every, by-test, set-not}
 use Rattle.laws.specs.Scan.{any-below-none}
 use Rattle.kinds.specs.Sizes as sizes
+use Rattle.kinds.specs.declared.House.{House}
 use Rattle.kinds.specs.Stage as stage
 use Rattle.kinds.specs.declared.Keys.{Keys}
 use Rattle.kinds.specs.declared.Sub.{Sub}
@@ -79,16 +80,16 @@ key-latest history es p k x f e i l h =
     d
 
 -- The part with other keys.
-module _ {sites : ℕ} {w : World} {p : Protocol} (r : Refines sites w p) (s t : ℕ) (l : 1 ≤ s) (h : s ≤ sites) where
+module _ {house : House} {w : World} {p : Protocol} (r : Refines house w p) (s t : ℕ) (l : 1 ≤ s) (h : s ≤ house .sites) where
   accesses : placeOf (w .site s .live) t < sizes.live → p .live s t .course .stage ≡ stage.active → (b : Keys) (fs : List Fact) → Sized b
-      → Accessed sites s t (p .live s t .keys) b fs
+      → Accessed house s t (p .live s t .keys) b fs
       → ((k : ℕ) → wroteKey (p .live s t .keys) k ≡ true → wroteKey b k ≡ true)
       → ((k : ℕ) → wroteKey b k ≡ true → wroteKey (p .live s t .keys) k ≡ false
       → ((u : ℕ) → (u ≡ t → ⊥) → (IsFree (p .live s u) → ⊥) → wroteKey (p .live s u .keys) k ≡ false)
       × ((i : ℕ) → p .live s t .snapshot .installs ≤ i → i < length (inst p s) → wroteKey (at p s i .keys) k ≡ false))
       → b .wrote ≤ writeLimit (p .live s t .desk)
       → (e : Effect) → e .site ≡ withSub (w .site s) (placeOf (w .site s .live) t) (withKeys (p .live s t) b) → e .words ≡ []
-      → Follows sites p (siteStep w s e (w .base s) (w .lists s) .world) fs
+      → Follows house p (siteStep w s e (w .base s) (w .lists s) .world) fs
   unfolding messagesIn splitWords
   accesses held active b fs z told kept new limit e es ws =
       let x = w .site s in
@@ -115,7 +116,7 @@ module _ {sites : ℕ} {w : World} {p : Protocol} (r : Refines sites w p) (s t :
             (grows-none (p .post)) (λ j. refl) (rw ws a-nil),
       )
 
-module _ {sites : ℕ} {w : World} {p : Protocol} (r : Refines sites w p) (s t k : ℕ) where
+module _ {house : House} {w : World} {p : Protocol} (r : Refines house w p) (s t k : ℕ) where
   abbrev here : Site
   here = w .site s
 
@@ -125,14 +126,14 @@ module _ {sites : ℕ} {w : World} {p : Protocol} (r : Refines sites w p) (s t k
   -- past the causes that both have
   pub record Reaches : Type 0 where
     pub low : 1 ≤ s
-    pub high : s ≤ sites
+    pub high : s ≤ house .sites
     pub held : spot < sizes.live
     pub part : subAt here spot ≡ p .live s t
     pub active : p .live s t .course .stage ≡ stage.active
     pub sized : Sized (p .live s t .keys)
     pub few : p .live s t .keys .wrote ≤ sizes.writes
     pub limit : p .live s t .keys .wrote ≤ writeLimit (p .live s t .desk)
-    pub home : homeOf (record { sites = sites }) k ≡ s
+    pub home : homeOf house k ≡ s
     pub installs : here .counters .installs ≡ length (inst p s)
     pub history : HistoryIs (here .history) (inst p s)
     pub live : LiveIs (here .live) (p .live s)
@@ -153,14 +154,14 @@ module _ {sites : ℕ} {w : World} {p : Protocol} (r : Refines sites w p) (s t k
         sized = y .live .sized t f;
         few = rw q at (live-wrote here (c .key .valid) spot (c .held));
         limit = rw q at (live-few here (c .key .valid) spot (c .held));
-        home = ap (λ (n : ℕ). homeOf (record { sites = n }) k) (sym (y .house)) ∙ c .key .here ∙ y .counters .own-is;
+        home = ap (λ (h : House). homeOf h k) (sym (y .house-is)) ∙ c .key .here ∙ y .counters .own-is;
         installs = y .counters .installs-are;
         history = y .history;
         live = y .live;
       }
 
   abbrev Goal : (Answer → List Fact) → Effect → Type 0
-  Goal f e = Follows sites p (siteStep w s e (w .base s) (w .lists s) .world) (f (e .answer))
+  Goal f e = Follows house p (siteStep w s e (w .base s) (w .lists s) .world) (f (e .answer))
 
   -- Read: of an own write nothing changes; else the key enters the set.
   abbrev owned : Effect
@@ -195,7 +196,7 @@ module _ {sites : ℕ} {w : World} {p : Protocol} (r : Refines sites w p) (s t k
       (λ j e. same j ∙ e) (λ j e f. absurd (set-not _ e (same j ∙ f))) (rw (wrote-read own k) (a .limit))
       (readVersion here (w .base s) spot k) (rw (a .part)) refl
 
-  pub read-moves : let x = step w (world.read s t k) in Follows sites p (x .world) (toldBy (world.read s t k) (x .answer) (x .words))
+  pub read-moves : let x = step w (world.read s t k) in Follows house p (x .world) (toldBy (world.read s t k) (x .answer) (x .words))
   unfolding step siteStep readOf readAt
   read-moves =
       let b = subAt here spot in
@@ -253,7 +254,7 @@ module _ {sites : ℕ} {w : World} {p : Protocol} (r : Refines sites w p) (s t k
       (first-new own k v (a .sized) room f′ j e)) (rw (wrote-first own k v f′) (omega arith))
 
   pub write-moves : (v : Value)
-      → (let x = step w (world.write s t k v) in Follows sites p (x .world) (toldBy (world.write s t k v) (x .answer) (x .words)))
+      → (let x = step w (world.write s t k v) in Follows house p (x .world) (toldBy (world.write s t k v) (x .answer) (x .words)))
   unfolding step siteStep writeOf writeAt
   write-moves v =
       let code = accessCode (siteOk here) sizes.keys (here .house) (here .counters .own) k spot (stageAt (here .live) spot) in

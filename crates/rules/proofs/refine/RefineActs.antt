@@ -6,6 +6,7 @@ use borrow.Author.Tests.{ne-eqb}
 use lib.ListN.{length}
 use lib.Seq.{getD-set-same, set-set}
 use Rattle.kinds.specs.Sizes as sizes
+use Rattle.kinds.specs.declared.House.{House}
 use Rattle.kinds.specs.declared.Turn.{Turn}
 use Rattle.kinds.specs.declared.Site.{Site}
 use Rattle.kinds.specs.declared.Answer.{Answer}
@@ -25,35 +26,36 @@ use Rattle.rules.proofs.refine.RefineSite.{post-in, site-channels, chan
 use Rattle.rules.proofs.refine.RefineStep.{Follows, Grows, Elsewhere, site-step}
 use Rattle.rules.proofs.refine.RefineMail.{Made, made-in, made-all, send-all-words}
 
-pub record Acts (sites s : ℕ) (p q : Protocol) (x : Site) (base lists words : List ℕ) (facts : List Fact) : Type 0 where
-  pub moves : Moves sites p q
+pub record Acts (house : House) (s : ℕ) (p q : Protocol) (x : Site) (base lists words : List ℕ) (facts : List Fact) : Type 0 where
+  pub moves : Moves house p q
   pub tells : toldAll moves ≡ facts
   pub elsewhere : Elsewhere s p q
   pub grows : Grows (p .post) (q .post)
   pub log : (j : ℕ) → q .log j ≡ p .log j
-  pub site : SiteIs sites s x base lists (sliceOf q s)
+  pub site : SiteIs house s x base lists (sliceOf q s)
   pub made : Made (Posted (q .post)) words
 
 -- the call
-pub acts-follow : {sites : ℕ} {w : World} {p q : Protocol} {base lists : List ℕ} {facts : List Fact} (r : Refines sites w p) (s : ℕ) → 1 ≤ s
-    → s ≤ sites → (e : Effect)
-    → Acts sites s p q (e .site) base lists (e .words) facts → Follows sites p (siteStep w s e base lists .world) facts
+pub acts-follow : {house : House} {w : World} {p q : Protocol} {base lists : List ℕ} {facts : List Fact} (r : Refines house w p) (s : ℕ)
+    → 1 ≤ s
+    → s ≤ house .sites → (e : Effect)
+    → Acts house s p q (e .site) base lists (e .words) facts → Follows house p (siteStep w s e base lists .world) facts
 acts-follow {q = q} {base = base} {lists = lists} r s l h e a =
     (q, a .moves, a .tells, site-step r s l h (a .elsewhere) e base lists (a .site) (a .grows) (a .log) (made-in (a .made)))
 
 -- One step after another: the first sends nothing.
-pub moves-append : {sites : ℕ} {p q r : Protocol} → Moves sites p q → Moves sites q r → Moves sites p r
+pub moves-append : {house : House} {p q r : Protocol} → Moves house p q → Moves house q r → Moves house p r
 moves-append m stop = m
 moves-append m (more n k) = more (moves-append m n) k
 
-told-append : {sites : ℕ} {p q r : Protocol} (m : Moves sites p q) (n : Moves sites q r)
+told-append : {house : House} {p q r : Protocol} (m : Moves house p q) (n : Moves house q r)
     → toldAll (moves-append m n) ≡ toldAll m ++ toldAll n
 unfolding moves-append
 told-append m stop = sym (append-nil (toldAll m))
 told-append m (more n k) = ap (λ (l : List Fact). l ++ told k) (told-append m n) ∙ append-assoc (toldAll m) (toldAll n) (told k)
 
-pub acts-then : {sites s : ℕ} {p q r : Protocol} {x y : Site} {base base′ lists lists′ words : List ℕ} {fs gs : List Fact}
-    → Acts sites s p q x base lists [] fs → Acts sites s q r y base′ lists′ words gs → Acts sites s p r y base′ lists′ words (fs ++ gs)
+pub acts-then : {house : House} {s : ℕ} {p q r : Protocol} {x y : Site} {base base′ lists lists′ words : List ℕ} {fs gs : List Fact}
+    → Acts house s p q x base lists [] fs → Acts house s q r y base′ lists′ words gs → Acts house s p r y base′ lists′ words (fs ++ gs)
 acts-then {p = p} a b =
     record {
       moves = moves-append (a .moves) (b .moves);
@@ -91,20 +93,20 @@ pub others-elsewhere : (post : ℕ → ℕ → List Msg) (s mask : ℕ) (m : Msg
 unfolding others
 others-elsewhere post s mask m j k n = rw (ne-eqb j s n)
 
-pub members : {sites : ℕ} {p : Protocol} (s t : ℕ) → Invariant sites p → coordinatorOf t ≡ s → Held p s t → (r : ℕ)
-    → In (courseAt p s t .mask) r → r ≤ sites
+pub members : {house : House} {p : Protocol} (s t : ℕ) → Invariant house p → coordinatorOf t ≡ s → Held p s t → (r : ℕ)
+    → In (courseAt p s t .mask) r → r ≤ house .sites
 members s t i e h r k = i .posts .members t r (rw e h) (rw e k)
 
-module _ {sites : ℕ} (post : ℕ → ℕ → List Msg) (u : Turn) (answer : Answer) (s mask : ℕ) (m : Msg) {taken : ℕ → ℕ}
-    (few : sites ≤ sizes.sites)
-    (own : u .counters .own ≡ s) (part : u .sub .course .mask ≡ mask) (c : ChannelsAre sites (u .channels) (post s) taken) where
-  pub send-all-site : {x : Site} {base lists : List ℕ} {v : Slice} → v .taken ≡ taken → SiteIs sites s x base lists v
-      → SiteIs sites s (withChannels x (sendAll u answer (kindOf m) (clockIn m) (argumentIn m) (entriesIn m) .turn .channels)) base lists
+module _ {house : House} (post : ℕ → ℕ → List Msg) (u : Turn) (answer : Answer) (s mask : ℕ) (m : Msg) {taken : ℕ → ℕ}
+    (few : house .sites ≤ sizes.sites)
+    (own : u .counters .own ≡ s) (part : u .sub .course .mask ≡ mask) (c : ChannelsAre house (u .channels) (post s) taken) where
+  pub send-all-site : {x : Site} {base lists : List ℕ} {v : Slice} → v .taken ≡ taken → SiteIs house s x base lists v
+      → SiteIs house s (withChannels x (sendAll u answer (kindOf m) (clockIn m) (argumentIn m) (entriesIn m) .turn .channels)) base lists
       (post-in v (others post s mask m s))
   unfolding sendAll
   send-all-site {v = v} e y =
       rw (own, part) (site-channels y _ (others post s mask m s) (v .taken) (rw e (channels-all post s mask m few c)))
 
-  pub send-all-made : Whole (entriesIn m) → ((r : ℕ) → In mask r → r ≤ sites) → u .sub .tx ≡ txIn m
+  pub send-all-made : Whole (entriesIn m) → ((r : ℕ) → In mask r → r ≤ house .sites) → u .sub .tx ≡ txIn m
       → Made (Posted (others post s mask m)) (sendAll u answer (kindOf m) (clockIn m) (argumentIn m) (entriesIn m) .words)
   send-all-made whole in-house tx = rw (send-all-words u answer m s mask own tx part) (made-all post s mask m whole in-house c sizes.sites)

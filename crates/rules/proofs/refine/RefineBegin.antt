@@ -5,6 +5,7 @@ use mathlib.Core.List.{[]}
 use native.Mathlib.Omega.{arith}
 use lib.ListN.{length}
 use Rattle.kinds.specs.Sizes as sizes
+use Rattle.kinds.specs.declared.House.{House}
 use Rattle.rules.specs.House.{txOf, maskOf}
 use Rattle.rules.specs.Desk.{isDesk}
 use Rattle.rules.specs.Live.{freePlace}
@@ -25,9 +26,9 @@ use Rattle.rules.proofs.refine.RefineLive.{by-free, free-spot}
 use Rattle.rules.proofs.refine.RefineSite.{new-sub, new-stage, site-sub, site-serial}
 use Rattle.rules.proofs.refine.RefineStep.{Follows, toldBy, by-code, grows-none, inside, stays, site-step}
 
-module _ {sites : ℕ} {w : World} {p : Protocol} (r : Refines sites w p) (i : Invariant sites p) (s d : ℕ) where
+module _ {house : House} {w : World} {p : Protocol} (r : Refines house w p) (i : Invariant house p) (s d : ℕ) where
   abbrev Goal : Effect → Type 0
-  Goal e = Follows sites p (siteStep w s e (w .base s) (w .lists s) .world) (book.begins s (e .answer))
+  Goal e = Follows house p (siteStep w s e (w .base s) (w .lists s) .world) (book.begins s (e .answer))
 
   begins : beginCode (siteOk (w .site s)) (isDesk d) (w .site s .counters) (freePlace (w .site s .live)) ≡ 0
       → Goal (changed (w .site s) (freePlace (w .site s .live)) (begun (w .site s) d) [])
@@ -42,7 +43,7 @@ module _ {sites : ℕ} {w : World} {p : Protocol} (r : Refines sites w p) (i : I
       let t = txOf s (p .serial s + 1) in
       let u : p .serial s < sizes.lastSerial = omega (arith, k .serial-is, c .unspent) in
       let f : IsFree (p .live s t) =
-      by-free (p .live s t) (λ z. z) (λ z. absurd (new-tx sites p s t (i .parts) u refl s (i .parts .has s t z))) in
+      by-free (p .live s t) (λ z. z) (λ z. absurd (new-tx house p s t (i .parts) u refl s (i .parts .has s t z))) in
       let b = newSub t d (maskOf s) (length (inst p s)) in
       let q = beganAt (set-serial (upd (p .serial) s (p .serial s + 1)) p) s t d (maskOf s) in
       let spot = free-spot (y .live) t (c .free) f in
@@ -69,7 +70,7 @@ module _ {sites : ℕ} {w : World} {p : Protocol} (r : Refines sites w p) (i : I
             (grows-none (p .post)) (λ j. refl) a-nil,
       )
 
-  pub begin-moves : let x = step w (world.begin s d) in Follows sites p (x .world) (toldBy (world.begin s d) (x .answer) (x .words))
+  pub begin-moves : let x = step w (world.begin s d) in Follows house p (x .world) (toldBy (world.begin s d) (x .answer) (x .words))
   unfolding step siteStep beginOf
   begin-moves =
       let x = w .site s in

@@ -3,6 +3,7 @@
 use Prim.Native.Nat.{ℕ}
 use mathlib.Core.Path.{refl}
 use mathlib.Core.List.{List}
+use Rattle.kinds.specs.declared.House.{House}
 use Rattle.kinds.specs.State.{Value}
 use Rattle.rules.specs.Effect.{Effect}
 use Rattle.rules.specs.World.{World, Call, Handed, step, siteStep, logStep}
@@ -22,19 +23,19 @@ use Rattle.rules.proofs.refine.RefineMerge.{merge-onward}
 use Rattle.rules.proofs.refine.RefineEmit.{emit-onward}
 use Rattle.rules.proofs.refine.RefineReplay.{replay-onward, stays-onward}
 
-module _ {sites : ℕ} {w : World} {v : Stream} (x : StreamIs sites w v) (z : Standing sites v) where
+module _ {house : House} {w : World} {v : Stream} (x : StreamIs house w v) (z : Standing house v) where
   site-call : {fs : List Fact} (s : ℕ) (e : Effect) (base : List Value) (lists : List ℕ)
-      → Follows sites (v .protocol) (siteStep w s e base lists .world) fs
-      → Onward sites v (siteStep w s e base lists .world) fs
+      → Follows house (v .protocol) (siteStep w s e base lists .world) fs
+      → Onward house v (siteStep w s e base lists .world) fs
   unfolding siteStep
   site-call s e base lists f = site-onward x f refl refl refl refl refl refl
 
-  log-call : {fs : List Fact} (s : ℕ) (e : Effect) (base : List Value) → Follows sites (v .protocol) (logStep w s e base .world) fs
-      → Onward sites v (logStep w s e base .world) fs
+  log-call : {fs : List Fact} (s : ℕ) (e : Effect) (base : List Value) → Follows house (v .protocol) (logStep w s e base .world) fs
+      → Onward house v (logStep w s e base .world) fs
   unfolding logStep
   log-call s e base f = site-onward x f refl refl refl refl refl refl
 
-  pub call-onward : (c : Call) → Handed w c → Onward sites v (step w c .world) (toldBy c (step w c .answer) (step w c .words))
+  pub call-onward : (c : Call) → Handed w c → Onward house v (step w c .world) (toldBy c (step w c .answer) (step w c .words))
   unfolding step
   call-onward (world.begin s d) h = site-call s _ _ _ (begin-moves (x .refines) (z .invariant) s d)
   call-onward (world.enlist s out t n) h = site-call s _ _ _ (enlist-moves (x .refines) s out t n)

@@ -8,6 +8,7 @@ use native.Mathlib.Omega.{arith}
 use borrow.Author.Tests.{ltb-false, leb-true}
 use lib.ListN.{length, getD, List·getD-eq-default}
 use Rattle.kinds.specs.Sizes as sizes
+use Rattle.kinds.specs.declared.House.{House}
 use Rattle.kinds.specs.Stage as stage
 use Rattle.kinds.specs.declared.Sub.{Sub}
 use Rattle.kinds.specs.declared.Entry.{Entry}
@@ -83,8 +84,8 @@ pub recalled : (history es : List Entry) (n : ℕ) (p : Snapshot) (i : ℕ) → 
     → Recalled history es n p i
 recalled history es n p i e x f l = rw e (recalled-at history es p i x (rw e at f) l)
 
-module _ {sites s t place : ℕ} {x : Site} {base words : List ℕ} {p : Protocol} (y : SiteIs sites s x base words (sliceOf p s))
-    (i : Parts sites p) (a : AtPlace x p s t place) where
+module _ {house : House} {s t place : ℕ} {x : Site} {base words : List ℕ} {p : Protocol} (y : SiteIs house s x base words (sliceOf p s))
+    (i : Parts house p) (a : AtPlace x p s t place) where
   -- a part's transaction is not 0
   positive : (u : ℕ) → p .has s u ≡ true → 0 < u
   unfolding serialOf

@@ -6,6 +6,7 @@ use mathlib.Core.List.{List, []}
 use native.Mathlib.Omega.{arith}
 use borrow.Author.Tests.{eqb-true, eqb-false, not-false}
 use lib.ListN.{length}
+use Rattle.kinds.specs.declared.House.{House}
 use Rattle.laws.specs.Choice.{by-test}
 use Rattle.kinds.specs.Stage as stage
 use Rattle.kinds.specs.Reason as reason
@@ -41,7 +42,7 @@ use Rattle.rules.proofs.refine.RefineCourse.{heard-here, abort-acts}
 use Rattle.rules.proofs.refine.RefineRequest.{Ready, prepare-acts, lone-commit-acts}
 
 -- Abandon: an abort before the decision.
-module _ {sites : ℕ} {w : World} {p : Protocol} (r : Refines sites w p) (i : Invariant sites p) (s : ℕ) (out : List ℕ) (t : ℕ) where
+module _ {house : House} {w : World} {p : Protocol} (r : Refines house w p) (i : Invariant house p) (s : ℕ) (out : List ℕ) (t : ℕ) where
   abbrev here : Site
   here = w .site s
 
@@ -53,7 +54,7 @@ module _ {sites : ℕ} {w : World} {p : Protocol} (r : Refines sites w p) (i : I
 
   abandons : requestCode (siteOk here) (length out) spot (isMine here t) ≡ 0
       → abandonCode (course .stage) (countsLow (here .channels .sent) (course .mask) (here .counters .own)) ≡ 0
-      → Follows sites p
+      → Follows house p
       (siteStep w s (changed here spot (abortStep (turnAt here spot) reason.abandoned) []) (w .base s) (w .lists s) .world) []
   unfolding abortStep sendAll
   abandons e f =
@@ -66,18 +67,18 @@ module _ {sites : ℕ} {w : World} {p : Protocol} (r : Refines sites w p) (i : I
       (λ z. eqb-false (course .stage) stage.decided (d .undecided) (ap (λ (c : Course). c .stage) (course-is a) ∙ z)) in
       acts-follow r s l h (changed here spot (abortStep (turnAt here spot) reason.abandoned) []) k
 
-  pub abandon-moves : Follows sites p (step w (world.abandon s out t) .world) []
+  pub abandon-moves : Follows house p (step w (world.abandon s out t) .world) []
   unfolding step abandonOf
   abandon-moves =
-      by-code (λ e. Follows sites p (siteStep w s e (w .base s) (w .lists s) .world) [])
+      by-code (λ e. Follows house p (siteStep w s e (w .base s) (w .lists s) .world) [])
       (requestCode (siteOk here) (length out) spot (isMine here t)) here [] _
-      (λ e. by-code (λ e. Follows sites p (siteStep w s e (w .base s) (w .lists s) .world) [])
+      (λ e. by-code (λ e. Follows house p (siteStep w s e (w .base s) (w .lists s) .world) [])
       (abandonCode (course .stage) (countsLow (here .channels .sent) (course .mask) (here .counters .own))) here []
       (changed here spot (abortStep (turnAt here spot) reason.abandoned) []) (abandons e) (stays r s _ refl refl))
       (stays r s _ refl refl)
 
 -- Commit.
-module _ {sites : ℕ} {w : World} {p : Protocol} (r : Refines sites w p) (i : Invariant sites p) (s : ℕ) (out : List ℕ) (t : ℕ) where
+module _ {house : House} {w : World} {p : Protocol} (r : Refines house w p) (i : Invariant house p) (s : ℕ) (out : List ℕ) (t : ℕ) where
   abbrev site : Site
   site = w .site s
 
@@ -88,7 +89,7 @@ module _ {sites : ℕ} {w : World} {p : Protocol} (r : Refines sites w p) (i : I
   stood = subAt site place .course
 
   abbrev Goal : Effect → Type 0
-  Goal e = Follows sites p (siteStep w s e (w .base s) (e .lent) .world) (book.commits t (e .answer))
+  Goal e = Follows house p (siteStep w s e (w .base s) (e .lent) .world) (book.commits t (e .answer))
 
   not-full : isFull site place ≡ false → stood .reason ≡ 0
   unfolding isFull
@@ -137,7 +138,7 @@ module _ {sites : ℕ} {w : World} {p : Protocol} (r : Refines sites w p) (i : I
       (acts-follow r s l h (changed site place _ _) (prepare-acts (r .few) i mine y a valid ready))))))
 
   pub commit-moves : let x = step w (world.commit s out t) in
-      Follows sites p (x .world) (toldBy (world.commit s out t) (x .answer) (x .words))
+      Follows house p (x .world) (toldBy (world.commit s out t) (x .answer) (x .words))
   unfolding step siteStep commitOf
   commit-moves =
       let code = requestCode (handedOk site (w .lists s)) (length out) place (isMine site t) in

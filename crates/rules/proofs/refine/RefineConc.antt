@@ -8,6 +8,7 @@ use lib.ListN.{length, take, drop}
 use Rattle.laws.specs.Choice.{pick, by-test}
 use Rattle.laws.specs.Overlay.{putAt}
 use Rattle.kinds.specs.Sizes as sizes
+use Rattle.kinds.specs.declared.House.{House}
 use Rattle.kinds.specs.Stage as stage
 use Rattle.kinds.specs.declared.Course.{Course}
 use Rattle.kinds.specs.declared.Sub.{Sub}
@@ -60,9 +61,9 @@ gatherAt p s a t es =
     withCourseAt (set-gathered (upd (p .gathered) t (p .gathered t ++ es)) (took p a s)) s t
     (withReply (courseAt p s t) a 0 (entryCount es))
 
-module _ {sites : ℕ} (p : Protocol) (s a : ℕ) {t : ℕ} {x : Site} {base lists : List ℕ} (few : sites ≤ sizes.sites) (from : 1 ≤ s)
-    (to : s ≤ sites) (low : 1 ≤ a) (high : a ≤ sites)
-    (i : Invariant sites p) (y : SiteIs sites s x base lists (sliceOf p s)) (place : ℕ) (A : AtPlace x p s t place)
+module _ {house : House} (p : Protocol) (s a : ℕ) {t : ℕ} {x : Site} {base lists : List ℕ} (few : house .sites ≤ sizes.sites) (from : 1 ≤ s)
+    (to : s ≤ house .sites) (low : 1 ≤ a) (high : a ≤ house .sites)
+    (i : Invariant house p) (y : SiteIs house s x base lists (sliceOf p s)) (place : ℕ) (A : AtPlace x p s t place)
     (valid : siteOk x ≡ true)
     (es : List ℕ) (whole : length es ≡ sizes.entry * entryCount es) (short : entryCount es ≤ sizes.concEntries) (marks : Marks es)
     (next : Next p a s (mConc t es)) (prepared : AtStage p s t stage.prepared) (out : isOutstanding (courseAt p s t) a ≡ true) where
@@ -106,13 +107,13 @@ module _ {sites : ℕ} (p : Protocol) (s a : ℕ) {t : ℕ} {x : Site} {base lis
       (rw tx at old) room whole
       (reply-listed (courseAt p s t) a (entryCount es) ∙ ap (λ (c : Course). c .listed + entryCount es) (sym k)) marks
 
-  gather-acts : Acts sites s p (gatherAt p s a t es) (settle x place turn) base gatheredLists [] []
+  gather-acts : Acts house s p (gatherAt p s a t es) (settle x place turn) base gatheredLists [] []
   unfolding settle arrived
   gather-acts =
       quiet-acts s a (gathers a s t es next prepared out) (λ j n. refl) refl (λ j n. row-other (p .live) s t part j n) refl refl refl
       (λ u n. upd-other (p .gathered) t (p .gathered t ++ es) u (λ z. n (ap coordinatorOf z ∙ mine)))
       (record {
-        house = y .house;
+        house-is = y .house-is;
         counters = y .counters;
         channels = channels-taken (p .taken) a s few low high (y .channels);
         live = rw (part-is, row-same (p .live) s t part) (live-set (y .live) place t part (A .spot) (λ f. (A .tx, A .sized)));
@@ -154,7 +155,7 @@ module _ {sites : ℕ} (p : Protocol) (s a : ℕ) {t : ℕ} {x : Site} {base lis
   -- the last list
   all-acts : allHeard (x .counters .own) (heard .heard) (heard .mask) ≡ true
       → (let c = castStep turn (voteOf x place join (entryCount join)) join in
-      (q : Protocol) × Acts sites s p q (settle x place (c .turn)) base gatheredLists (c .words) (book.commits t (c .answer)))
+      (q : Protocol) × Acts house s p q (settle x place (c .turn)) base gatheredLists (c .words) (book.commits t (c .answer)))
   all-acts all =
       let v = voteOf x place join (entryCount join) in
       let p1 = gatherAt p s a t es in
@@ -175,6 +176,6 @@ module _ {sites : ℕ} (p : Protocol) (s a : ℕ) {t : ℕ} {x : Site} {base lis
   pub conc-acts : (let c =
       pick (allHeard (x .counters .own) (heard .heard) (heard .mask)) (castStep turn (voteOf x place join (entryCount join)) join)
       (quietly turn) in
-      (q : Protocol) × Acts sites s p q (settle x place (c .turn)) base gatheredLists (c .words) (book.commits t (c .answer)))
+      (q : Protocol) × Acts house s p q (settle x place (c .turn)) base gatheredLists (c .words) (book.commits t (c .answer)))
   unfolding quietly
   conc-acts = by-test (allHeard (x .counters .own) (heard .heard) (heard .mask)) (λ f. rw f (all-acts f)) (λ f. rw f (_, gather-acts))

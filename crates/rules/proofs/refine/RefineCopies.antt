@@ -9,10 +9,11 @@ use lib.ListN.{length, getD, take, replicate, length-replicate, getD-replicate}
 use lib.Seq.{take-suc}
 use Rattle.laws.specs.Pair.{rank}
 use Rattle.kinds.specs.Sizes as sizes
+use Rattle.kinds.specs.declared.House.{House}
 use Rattle.kinds.specs.Word as word
 use Rattle.kinds.specs.State.{Value}
 use Rattle.kinds.specs.declared.Answer.the-variants.{Standing}
-use Rattle.rules.specs.House.{coordinatorOf, houseOk}
+use Rattle.rules.specs.House.{coordinatorOf, houseOk, GoodHouse}
 use Rattle.rules.specs.Merger.{sourceAt, pastSource, freshMerger, mergerStartCode, mergerStartOf}
 use Rattle.rules.specs.MergerKept.{fresh-holds}
 use Rattle.rules.specs.Copy.{copyNumber, copyCoordinator, copyValue, valueCode, valueOf, copyStartOf}
@@ -48,8 +49,8 @@ copy-started = refl
 zero-at : (i : ℕ) → i < sizes.copy → getD (zeros sizes.copy) i 0 ≡ 0
 zero-at i h = getD-replicate {A = ℕ} sizes.copy i 0 0 h
 
-fresh-copy : (sites : ℕ) → CopyIs sites (zeros sizes.copy) []
-fresh-copy sites =
+fresh-copy : (house : House) → CopyIs house (zeros sizes.copy) []
+fresh-copy house =
     record {
       size = length-replicate {A = ℕ} sizes.copy 0;
       number = zero-at word.lastNumber (omega arith);
@@ -57,32 +58,34 @@ fresh-copy sites =
       value = λ k h. zero-at (sizes.copyHeader + k) (omega arith);
     }
 
-fresh-merger : (sites : ℕ) → 1 ≤ sites → sites ≤ sizes.sites → MergerIs sites (freshMerger sites) (zeros sizes.queues) stream.freshMerger
+fresh-merger : (house : House) → GoodHouse house
+    → MergerIs house (freshMerger (house .sites)) (zeros sizes.queues) stream.freshMerger
 unfolding freshMerger stream.freshMerger
-fresh-merger sites a b =
+fresh-merger house good =
+    let few = good .few in
     record {
-      house = refl;
-      holds = fresh-holds sites sizes.queues a b refl;
-      source = λ i l. rw (fresh-source sites i (omega arith))
+      house-is = refl;
+      holds = fresh-holds (house .sites) sizes.queues (good .some) few refl;
+      source = λ i l. rw (fresh-source (house .sites) i (omega arith))
           (record { queued = refl; state-is = refl; last-is = refl; low = omega arith; words = λ j h. absurd (omega arith) });
     }
 
-pub stream-fresh : (sites : ℕ) → 1 ≤ sites → sites ≤ 8 → StreamIs sites (freshWorld sites) freshStream
+pub stream-fresh : (house : House) → GoodHouse house → StreamIs house (freshWorld house) freshStream
 unfolding freshWorld freshStream stream.freshMerger
-stream-fresh sites a b =
-    let (g, q) = merger-started sites a b in
+stream-fresh house good =
+    let (g, q) = merger-started (house .sites) (good .some) (good .few) in
     record {
-      refines = refines-fresh sites a b;
-      merger = rw (g, q) (fresh-merger sites a b);
+      refines = refines-fresh house good;
+      merger = rw (g, q) (fresh-merger house good);
       merged = λ s. refl;
       placed = a-nil;
       emitted = refl;
       replayed = λ c. refl;
-      copy = λ c. rw copy-started (fresh-copy sites);
+      copy = λ c. rw copy-started (fresh-copy house);
     }
 
 -- What a copy answers: a value and a pair, which is (0, 0) or a committed one, and the value is what the committed up to that pair leave.
-pub record CopyStands (sites : ℕ) (p : Protocol) (copy : List ℕ) (k : ℕ) : Type 0 where
+pub record CopyStands (house : House) (p : Protocol) (copy : List ℕ) (k : ℕ) : Type 0 where
   pub value : Value
   pub number : ℕ
   pub coordinator : ℕ
@@ -90,14 +93,14 @@ pub record CopyStands (sites : ℕ) (p : Protocol) (copy : List ℕ) (k : ℕ) :
   pub pair : (copyNumber copy ≡ number) × (copyCoordinator copy ≡ coordinator)
   pub low : coordinator < 16
   pub up-to : ((number ≡ 0) × (coordinator ≡ 0)) ⊎ ((t : ℕ) × (0 < p .num t) × (p .num t ≡ number) × (coordinatorOf t ≡ coordinator))
-  pub left : LeftUpTo p (record { sites = sites }) (rank number coordinator) k value
+  pub left : LeftUpTo p house (rank number coordinator) k value
 
 standing : (copy : List ℕ) (k : ℕ) → length copy ≡ sizes.copy → k < sizes.keys
     → valueOf copy k ≡ Standing (copyValue copy k) (copyNumber copy) (copyCoordinator copy)
 unfolding valueOf valueCode
 standing copy k e h = rw (eq-eqb (length copy) sizes.copy e, lt-leb sizes.keys k h)
 
-module _ {sites : ℕ} {w : World} {v : Stream} (x : StreamIs sites w v) (z : reached.Standing sites v) where
+module _ {house : House} {w : World} {v : Stream} (x : StreamIs house w v) (z : reached.Standing house v) where
   last-committed : (n : ℕ) → n ≤ length (v .merger .out)
       → ((endNumber 0 (take n (v .merger .out)) ≡ 0) × (endCoordinator 0 (take n (v .merger .out)) ≡ 0))
       ⊎ ((t : ℕ) × (0 < v .protocol .num t) × (v .protocol .num t ≡ endNumber 0 (take n (v .merger .out)))
@@ -108,7 +111,7 @@ module _ {sites : ℕ} {w : World} {v : Stream} (x : StreamIs sites w v) (z : re
       rw (take-suc (m .out) n pastItem h, end-number 0 (take n (m .out)) (itemAt m n), end-coordinator 0 (take n (m .out)) (itemAt m n))
       (inr (itemAt m n .tx, item-committed (z .invariant) (z .streamed) n h, sym (item-number (z .invariant) (z .streamed) n h), refl))
 
-  pub copy-stands : (c k : ℕ) → k < sizes.keys → CopyStands sites (v .protocol) (w .copy c) k
+  pub copy-stands : (c k : ℕ) → k < sizes.keys → CopyStands house (v .protocol) (w .copy c) k
   copy-stands c k h =
       let i = x .copy c in
       let n = v .replayed c in
@@ -122,5 +125,5 @@ module _ {sites : ℕ} {w : World} {v : Stream} (x : StreamIs sites w v) (z : re
         low = rw (i .coordinator) (pair-low x z n l);
         up-to = rw (i .number, i .coordinator) (last-committed n l);
         left = rw (i .number, i .coordinator, end-rank (v .merger) n l, i .value k h)
-            (left-upto (z .invariant) (z .streamed) (record { sites = sites }) k n l);
+            (left-upto (z .invariant) (z .streamed) house k n l);
       }

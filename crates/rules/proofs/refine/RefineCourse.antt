@@ -9,6 +9,7 @@ use lib.Dec.{eqb, leb}
 use lib.ListN.{length}
 use Rattle.laws.specs.Choice.{by-test}
 use Rattle.kinds.specs.Sizes as sizes
+use Rattle.kinds.specs.declared.House.{House}
 use Rattle.kinds.specs.Stage as stage
 use Rattle.kinds.specs.Reason as reason
 use Rattle.kinds.specs.Kind as kind
@@ -47,7 +48,7 @@ pub heard-here : {own s : ℕ} {b c : Course} → own ≡ s → b ≡ c → (f :
 heard-here e k f h = rw (e, k) at h
 
 -- Alone, a coordinator has nobody to send to.
-pub lone : {sites : ℕ} {p : Protocol} (s t : ℕ) → Invariant sites p → coordinatorOf t ≡ s → 1 ≤ s → Held p s t
+pub lone : {house : House} {p : Protocol} (s t : ℕ) → Invariant house p → coordinatorOf t ≡ s → 1 ≤ s → Held p s t
     → allHeard s 0 (courseAt p s t .mask) ≡ true
     → (r : ℕ) → In (courseAt p s t .mask) r → (r ≡ s → ⊥) → ⊥
 lone {p = p} s t i e l h all r k n =
@@ -80,9 +81,10 @@ mark-mask : (c : Course) (n : ℕ) → withQueueMark c n .mask ≡ c .mask
 unfolding withQueueMark
 mark-mask c n = refl
 
-module _ {sites s t place : ℕ} {x : Site} {base lists : List ℕ} {p : Protocol} (few : sites ≤ sizes.sites) (i : Invariant sites p)
+module _ {house : House} {s t place : ℕ} {x : Site} {base lists : List ℕ} {p : Protocol} (few : house .sites ≤ sizes.sites)
+    (i : Invariant house p)
     (e : coordinatorOf t ≡ s)
-    (y : SiteIs sites s x base lists (sliceOf p s)) (a : AtPlace x p s t place) where
+    (y : SiteIs house s x base lists (sliceOf p s)) (a : AtPlace x p s t place) where
   abbrev mask : ℕ
   mask = courseAt p s t .mask
 
@@ -92,13 +94,13 @@ module _ {sites s t place : ℕ} {x : Site} {base lists : List ℕ} {p : Protoco
   mask-is : subAt x place .course .mask ≡ mask
   mask-is = ap (λ (c : Course). c .mask) (course-is a)
 
-  abbrev inHouse : (r : ℕ) → In mask r → r ≤ sites
+  abbrev inHouse : (r : ℕ) → In mask r → r ≤ house .sites
   inHouse = members s t i e (a .held)
 
   -- Abort: ABORT to the others, and the part is gone.
   pub abort-acts : (r : ℕ) → (AtStage p s t stage.decided → ⊥)
       → (q : Protocol)
-      × Acts sites s p q (settle x place (abortStep turn r .turn)) base lists (abortStep turn r .words)
+      × Acts house s p q (settle x place (abortStep turn r .turn)) base lists (abortStep turn r .words)
       (book.commits t (abortStep turn r .answer))
   unfolding abortStep settle turnAt sendAll
   abort-acts r n =
@@ -129,7 +131,7 @@ module _ {sites s t place : ℕ} {x : Site} {base lists : List ℕ} {p : Protoco
   -- The decision: the clock plus 1 is the commit number.
   commit-acts : AtStage p s t stage.queued → allHeard s (courseAt p s t .heard) mask ≡ true → (n : ℕ) → n ≡ p .clock s + 1
       → (q : Protocol)
-      × Acts sites s p q (settle x place (commitStep turn n .turn)) base lists (commitStep turn n .words)
+      × Acts house s p q (settle x place (commitStep turn n .turn)) base lists (commitStep turn n .words)
       (book.commits t (commitStep turn n .answer))
   unfolding commitStep settle turnAt sendAll
   commit-acts g all n z =
@@ -170,7 +172,7 @@ module _ {sites s t place : ℕ} {x : Site} {base lists : List ℕ} {p : Protoco
   -- at the last clock an abort
   pub decide-acts : AtStage p s t stage.queued → allHeard s (courseAt p s t .heard) mask ≡ true
       → (q : Protocol)
-      × Acts sites s p q (settle x place (decideStep turn .turn)) base lists (decideStep turn .words)
+      × Acts house s p q (settle x place (decideStep turn .turn)) base lists (decideStep turn .words)
       (book.commits t (decideStep turn .answer))
   unfolding decideStep turnAt
   decide-acts g all =
@@ -196,7 +198,7 @@ module _ {sites s t place : ℕ} {x : Site} {base lists : List ℕ} {p : Protoco
   cert-acts : AtStage p s t stage.prepared → allHeard s (courseAt p s t .heard) mask ≡ true → (es : List ℕ) → Whole es
       → Within (p .gathered t) es → Certified p s t es
       → (q : Protocol)
-      × Acts sites s p q (settle x place (sendAll marked Done kind.cert 0 0 es .turn)) base lists
+      × Acts house s p q (settle x place (sendAll marked Done kind.cert 0 0 es .turn)) base lists
       (sendAll marked Done kind.cert 0 0 es .words) (book.commits t (sendAll marked Done kind.cert 0 0 es .answer))
   unfolding settle turnAt sendAll
   cert-acts g all es whole w v =
@@ -230,7 +232,7 @@ module _ {sites s t place : ℕ} {x : Site} {base lists : List ℕ} {p : Protoco
   -- Alone, all votes are there.
   lone-acts : AtStage p s t stage.prepared → allHeard s (courseAt p s t .heard) mask ≡ true → (es : List ℕ) → Within (p .gathered t) es
       → Certified p s t es
-      → ((r : ℕ) → In mask r → (r ≡ s → ⊥) → ⊥) → Acts sites s p (castAt p s t es) (settle x place marked) base lists [] []
+      → ((r : ℕ) → In mask r → (r ≡ s → ⊥) → ⊥) → Acts house s p (castAt p s t es) (settle x place marked) base lists [] []
   unfolding settle turnAt
   lone-acts g all es w v alone =
       let m = mCert t es in
@@ -266,9 +268,10 @@ module _ {sites s t place : ℕ} {x : Site} {base lists : List ℕ} {p : Protoco
       }
 
 -- the part at a place where a turn was settled
-pub settled-place : {sites s t : ℕ} {base lists : List ℕ} {q : Protocol} (x : Site) (place : ℕ) (u : Turn) → place < length (x .live)
+pub settled-place : {house : House} {s t : ℕ} {base lists : List ℕ} {q : Protocol} (x : Site) (place : ℕ) (u : Turn)
+    → place < length (x .live)
     → place < sizes.live
-    → SiteIs sites s (settle x place u) base lists (sliceOf q s) → u .sub .tx ≡ t → (IsFree (u .sub) → ⊥)
+    → SiteIs house s (settle x place u) base lists (sliceOf q s) → u .sub .tx ≡ t → (IsFree (u .sub) → ⊥)
     → AtPlace (settle x place u) q s t place
 unfolding turnAt
 settled-place {s = s} {t = t} {q = q} x place u h l y e f =
@@ -282,14 +285,14 @@ unfolding withQueueMark
 mark-all s c n h = h
 
 -- The vote on the joined lists: with a yes CERT, or the decision where the coordinator is alone; with a no an abort.
-module _ {sites s t place : ℕ} {x : Site} {base lists : List ℕ} {p : Protocol} (few : sites ≤ sizes.sites) (low : 1 ≤ s)
-    (i : Invariant sites p)
-    (e : coordinatorOf t ≡ s) (y : SiteIs sites s x base lists (sliceOf p s)) (a : AtPlace x p s t place) where
+module _ {house : House} {s t place : ℕ} {x : Site} {base lists : List ℕ} {p : Protocol} (few : house .sites ≤ sizes.sites) (low : 1 ≤ s)
+    (i : Invariant house p)
+    (e : coordinatorOf t ≡ s) (y : SiteIs house s x base lists (sliceOf p s)) (a : AtPlace x p s t place) where
   lone-decides : AtStage p s t stage.prepared → allHeard s (courseAt p s t .heard) (courseAt p s t .mask) ≡ true → (es : List ℕ)
       → Within (p .gathered t) es → Certified p s t es
       → allHeard s 0 (courseAt p s t .mask) ≡ true
       → (q : Protocol)
-      × Acts sites s p q (settle x place (decideStep (marked few i e y a) .turn)) base lists (decideStep (marked few i e y a) .words)
+      × Acts house s p q (settle x place (decideStep (marked few i e y a) .turn)) base lists (decideStep (marked few i e y a) .words)
       (book.commits t (decideStep (marked few i e y a) .answer))
   lone-decides g all es w c h =
       let u = marked few i e y a in
@@ -309,7 +312,7 @@ module _ {sites s t place : ℕ} {x : Site} {base lists : List ℕ} {p : Protoco
       → Whole es → Within (p .gathered t) es
       → (v ≡ 0 → Certified p s t es)
       → (q : Protocol)
-      × Acts sites s p q (settle x place (castStep (turnAt x place) v es .turn)) base lists (castStep (turnAt x place) v es .words)
+      × Acts house s p q (settle x place (castStep (turnAt x place) v es .turn)) base lists (castStep (turnAt x place) v es .words)
       (book.commits t (castStep (turnAt x place) v es .answer))
   unfolding castStep turnAt
   cast-acts g all v es whole w c =

@@ -35,7 +35,7 @@ use Rattle.rules.proofs.lists.Tables.{All, a-nil, all-append, all-one}
 use Rattle.rules.proofs.protocol.ProtocolTables.{Protocol}
 use Rattle.rules.proofs.protocol.Invariants.{In}
 use Rattle.rules.proofs.protocol.Committed.{committed-asked}
-use Rattle.rules.proofs.refine.Refines.{IsRecord, entryWords, partHeadOf, Refines}
+use Rattle.rules.proofs.refine.Refines.{IsRecord, entryWords, partHeadOf, Refines, count-is}
 use Rattle.rules.proofs.stream.Stream as stream
 use Rattle.rules.proofs.stream.Stream.{Item, Stream, WholeAt, headKeys, behindHead, itemOf, emitted}
 use Rattle.rules.proofs.stream.StreamInv.{head-real}
@@ -105,11 +105,7 @@ record-one : (n : ℕ) (x : Item) → recordIn (itemWords n x) ≡ itemWords n x
 unfolding itemWords recordWords
 record-one n x = refl
 
-same-site : (a b : House) (k : ℕ) → homeOf a k ≡ homeOf b k
-unfolding homeOf
-same-site a b k = refl
-
-module _ {sites : ℕ} {w : World} {v : Stream} (x : StreamIs sites w v) (z : Standing sites v) where
+module _ {house : House} {w : World} {v : Stream} (x : StreamIs house w v) (z : Standing house v) where
   abbrev p : Protocol
   p = v .protocol
 
@@ -127,7 +123,7 @@ module _ {sites : ℕ} {w : World} {v : Stream} (x : StreamIs sites w v) (z : St
     abbrev heads : List RecordHead
     heads = headsOf (w .queues) (g .house .sites)
 
-    k-low : k < sites
+    k-low : k < house .sites
     k-low = low x z k (d .least) G r q
 
     is-G : dueHead g (w .queues) ≡ partHeadOf (k + 1) G
@@ -137,7 +133,7 @@ module _ {sites : ℕ} {w : World} {v : Stream} (x : StreamIs sites w v) (z : St
     unfolding partHeadOf
     mask-G = ap (λ (h : RecordHead). h .mask) is-G
 
-    whole-at : (i : ℕ) → i < sites → WholeAt G (i + 1) (m .queue (i + 1))
+    whole-at : (i : ℕ) → i < house .sites → WholeAt G (i + 1) (m .queue (i + 1))
     unfolding partHeadOf
     whole-at i l = go (m .queue (i + 1)) refl
       where
@@ -167,7 +163,7 @@ module _ {sites : ℕ} {w : World} {v : Stream} (x : StreamIs sites w v) (z : St
               λ n. set-not _ (part-had g heads (dueHead g (w .queues)) i (rank-part x z k (d .least) G r q i l e u f n)) t,
             ))
 
-    machine-emits : stream.Emits sites m G
+    machine-emits : stream.Emits house m G
     machine-emits =
         record {
           site = k + 1;
@@ -180,14 +176,14 @@ module _ {sites : ℕ} {w : World} {v : Stream} (x : StreamIs sites w v) (z : St
         }
 
     -- The queues after it.
-    queue-few : (i : ℕ) → i < sites → length (m .queue (i + 1)) ≤ sizes.queue
+    queue-few : (i : ℕ) → i < house .sites → length (m .queue (i + 1)) ≤ sizes.queue
     queue-few i l = omega (arith, x .merger .source i l .queued, x .merger .holds .clear .counts i (inside x z i l))
 
     abbrev item : Item
     item = itemOf G (m .queue)
 
     -- a site of the mask has a head
-    with-head : (P : List Entry → Type 0) (i : ℕ) → i < sites → inMask (G .mask) (i + 1) ≡ true
+    with-head : (P : List Entry → Type 0) (i : ℕ) → i < house .sites → inMask (G .mask) (i + 1) ≡ true
         → ((e : Entry) (u : List Entry) → m .queue (i + 1) ≡ e ∷ u → P (e ∷ u)) → P (m .queue (i + 1))
     with-head P i l t f = go (m .queue (i + 1)) refl (whole-at i l)
       where
@@ -195,7 +191,7 @@ module _ {sites : ℕ} {w : World} {v : Stream} (x : StreamIs sites w v) (z : St
         go [] e a = absurd (set-not _ t a)
         go (e ∷ u) q a = f e u q
 
-    source-after : (i : ℕ) → i < sites
+    source-after : (i : ℕ) → i < house .sites
         → SourceIs (sourceAt (popMerger g (G .mask) (g .house .sites)) i) (popQueues (w .queues) (G .mask) (g .house .sites)) i
         (emitted m G .queue (i + 1)) (m .state (i + 1)) (m .last (i + 1))
     source-after i l =
@@ -212,20 +208,19 @@ module _ {sites : ℕ} {w : World} {v : Stream} (x : StreamIs sites w v) (z : St
         (λ t. rw t (source-kept g (w .queues) (G .mask) (g .house .sites) i h (h .clear .few) (inside x z i l) (m .queue (i + 1))
         (m .state (i + 1)) (m .last (i + 1)) t (queue-few i l) (x .merger .source i l)))
 
-    tables : Holds (y .merger) (y .queues) → MergerIs sites (y .merger) (y .queues) (emitted m G)
+    tables : Holds (y .merger) (y .queues) → MergerIs house (y .merger) (y .queues) (emitted m G)
     tables h =
         let a : y .merger ≡ popMerger g (G .mask) (g .house .sites) = d .merger ∙ ap (λ (n : ℕ). popMerger g n (g .house .sites)) mask-G in
         let b : y .queues ≡ popQueues (w .queues) (G .mask) (g .house .sites) = d .queues-left
         ∙ ap (λ (n : ℕ). popQueues (w .queues) n (g .house .sites)) mask-G in
         record {
-          house = ap (λ (u : Merger). u .house .sites) a ∙ ap (λ (o : House). o .sites) (pop-house g (G .mask) (g .house .sites))
-              ∙ x .merger .house;
+          house-is = ap (λ (u : Merger). u .house) a ∙ pop-house g (G .mask) (g .house .sites) ∙ x .merger .house-is;
           holds = h;
           source = λ i l. rw (a, b) (source-after i l);
         }
 
     -- What is written.
-    part-same : (i : ℕ) → i < sites → partWrites (w .queues) (G .mask) i ≡ siteWrites item i
+    part-same : (i : ℕ) → i < house .sites → partWrites (w .queues) (G .mask) i ≡ siteWrites item i
     unfolding partWrites entryWords
     part-same i l =
         by-test (inMask (G .mask) (i + 1))
@@ -233,7 +228,7 @@ module _ {sites : ℕ} {w : World} {v : Stream} (x : StreamIs sites w v) (z : St
         (λ e u f. ap recordWrites (clear-head x z i l e u f) ∙ writes-back (partHeadOf (i + 1) e) (keyWords (e .keys)))))
         (λ t. rw t)
 
-    joined : (n : ℕ) → n ≤ sites → joinedWrites (w .queues) (G .mask) n ≡ itemWrites n item
+    joined : (n : ℕ) → n ≤ house .sites → joinedWrites (w .queues) (G .mask) n ≡ itemWrites n item
     unfolding joinedWrites itemWrites foldBelow
     joined zero h = refl
     joined (suc n) h =
@@ -241,26 +236,26 @@ module _ {sites : ℕ} {w : World} {v : Stream} (x : StreamIs sites w v) (z : St
         let b = part-same n h in
         λ i. a i ++ b i
 
-    words-are : y .words ≡ itemWords sites item
+    words-are : y .words ≡ itemWords (house .sites) item
     unfolding partHeadOf itemWords
     words-are =
         let n = g .house .sites in
         let ws = joinedWrites (w .queues) (dueHead g (w .queues) .mask) n in
-        let e : ws ≡ itemWrites sites item =
-        ap (λ (a : ℕ). joinedWrites (w .queues) a n) mask-G ∙ ap (joinedWrites (w .queues) (G .mask)) (x .merger .house)
-        ∙ joined sites (omega arith) in
+        let e : ws ≡ itemWrites (house .sites) item =
+        ap (λ (a : ℕ). joinedWrites (w .queues) a n) mask-G ∙ ap (joinedWrites (w .queues) (G .mask)) (count-is (x .merger .house-is))
+        ∙ joined (house .sites) (omega arith) in
         merged-passed-words (y .words) (d .passes)
         ∙ (λ i. recordWords (d .head i) (d .writes i))
         ∙ ap (λ (a : RecordHead). recordWords (mergedHead a (writesIn ws)) ws) is-G
         ∙ ap (λ (a : List ℕ). recordWords (mergedHead (partHeadOf (k + 1) G) (writesIn a)) a) e
 
     -- its keys are of their sites
-    keys-there : (i j : ℕ) → i < sites → inMask (G .mask) (i + 1) ≡ true → j < sortedCount (item .keys (i + 1))
-        → homeOf (record { sites = sites }) (sortedKey (item .keys (i + 1)) j) ≡ i + 1
+    keys-there : (i j : ℕ) → i < house .sites → inMask (G .mask) (i + 1) ≡ true → j < sortedCount (item .keys (i + 1))
+        → homeOf house (sortedKey (item .keys (i + 1)) j) ≡ i + 1
     unfolding partWriteOk entryWords partHeadOf
     keys-there i j l t =
         rw t
-        (with-head (λ u. j < sortedCount (headKeys u) → homeOf (record { sites = sites }) (sortedKey (headKeys u) j) ≡ i + 1) i l t
+        (with-head (λ u. j < sortedCount (headKeys u) → homeOf house (sortedKey (headKeys u) j) ≡ i + 1) i l t
         (λ e u f b.
         let M = queuedPart (w .queues) i 0 in
         let c = x .merger .holds .clear .parts i 0 (inside x z i l) (some-queued x z i l e u f) in
@@ -273,9 +268,9 @@ module _ {sites : ℕ} {w : World} {v : Stream} (x : StreamIs sites w v) (z : St
         (every-at (keyAscends (keyWords (e .keys)) j ∷ eqb (homeOf (g .house) (writeKey (keyWords (e .keys)) j)) (i + 1) ∷ []) 1 o) in
         let h : 2 * j + 0 ≡ 2 * j = omega arith in
         let v : writeKey (keyWords (e .keys)) j ≡ sortedKey (e .keys) j = rw h (word-key (e .keys) (sortedCount (e .keys)) j b) in
-        same-site (record { sites = sites }) (g .house) _ ∙ ap (homeOf (g .house)) (sym v) ∙ n))
+        ap (λ (h : House). homeOf h (sortedKey (e .keys) j)) (sym (x .merger .house-is)) ∙ ap (homeOf (g .house)) (sym v) ∙ n))
 
-    placed-new : Placed sites item
+    placed-new : Placed house item
     placed-new =
         record {
           keys = λ s j a t h. let e : s - 1 + 1 ≡ s = omega arith in
@@ -283,7 +278,7 @@ module _ {sites : ℕ} {w : World} {v : Stream} (x : StreamIs sites w v) (z : St
           few = site-few;
         }
       where
-        site-few : (s : ℕ) → 1 ≤ s → inMask (G .mask) s ≡ true → s ≤ sites
+        site-few : (s : ℕ) → 1 ≤ s → inMask (G .mask) s ≡ true → s ≤ house .sites
         site-few s a t =
             let f = head-real (z .invariant) (z .streamed) (k + 1) G r (omega arith) q in
             let o : In (p .mask (G .tx)) s = (a, rw (f .mask) at t) in
@@ -291,8 +286,8 @@ module _ {sites : ℕ} {w : World} {v : Stream} (x : StreamIs sites w v) (z : St
             (z .invariant .account .asked-has (G .tx) s
             (committed-asked (z .invariant .parts) (z .invariant .account) (G .tx) (f .committed)) o) .1
 
-    emit-to : Refines sites (mergerStep w y (w .merged) .world) p → Holds (y .merger) (y .queues)
-        → Onward sites v (mergerStep w y (w .merged) .world) []
+    emit-to : Refines house (mergerStep w y (w .merged) .world) p → Holds (y .merger) (y .queues)
+        → Onward house v (mergerStep w y (w .merged) .world) []
     unfolding mergerStep
     emit-to f h = (
       record { protocol = p; merger = emitted m G; replayed = v .replayed },
@@ -303,23 +298,25 @@ module _ {sites : ℕ} {w : World} {v : Stream} (x : StreamIs sites w v) (z : St
         merger = tables h;
         merged = x .merged;
         placed = all-append (x .placed) (all-one placed-new);
-        emitted = rw (x .emitted, words-are, record-one sites item) (sym (map-append (itemWords sites) (m .out) (item ∷ [])));
+        emitted = rw (x .emitted, words-are, record-one (house .sites) item)
+            (sym (map-append (itemWords (house .sites)) (m .out) (item ∷ [])));
         replayed = x .replayed;
         copy = λ c. rw (take-append-le (v .replayed c) (m .out) (item ∷ []) (z .replayed c)) (x .copy c);
       },
     )
 
-  pub emit-onward : (out : List ℕ) → Onward sites v (step w (world.emit out) .world) []
+  pub emit-onward : (out : List ℕ) → Onward house v (step w (world.emit out) .world) []
   unfolding step mergerStep
   emit-onward out = go (emit-cases g (length out) (w .queues))
     where
       go : ((n : ℕ) × (emitOf g (length out) (w .queues) ≡ refusedMerger n g (w .queues)))
-          ⊎ Emits g (w .queues) (emitOf g (length out) (w .queues)) → Onward sites v (step w (world.emit out) .world) []
+          ⊎ Emits g (w .queues) (emitOf g (length out) (w .queues)) → Onward house v (step w (world.emit out) .world) []
       go (inl (n, e)) = rw (e, append-nil) (v, stream.stop, refl, x)
       go (inr d) = some (m .queue (leastSite g (w .queues) + 1)) refl
         where
-          some : (u : List Entry) → m .queue (leastSite g (w .queues) + 1) ≡ u → Onward sites v (step w (world.emit out) .world) []
-          some [] e = absurd (let l : leastSite g (w .queues) < sites = omega (arith, d .least .below, x .merger .house) in
+          some : (u : List Entry) → m .queue (leastSite g (w .queues) + 1) ≡ u → Onward house v (step w (world.emit out) .world) []
+          some [] e =
+              absurd (let l : leastSite g (w .queues) < house .sites = omega (arith, d .least .below, count-is (x .merger .house-is)) in
               omega (arith, d .least .queued, x .merger .source (leastSite g (w .queues)) l .queued, ap length e))
           some (e ∷ u) q =
               let r = x .refines in

@@ -6,6 +6,7 @@ use native.Mathlib.Omega.{arith}
 use borrow.Author.Tests.{eqb-true, eqb-false}
 use lib.Dec.{eqb}
 use lib.ListN.{length, getD}
+use Rattle.kinds.specs.declared.House.{House}
 use Rattle.kinds.specs.Stage as stage
 use Rattle.kinds.specs.declared.Site.{Site}
 use Rattle.kinds.specs.declared.Course.{Course}
@@ -25,7 +26,7 @@ use Rattle.rules.specs.World as world
 use Rattle.rules.proofs.lists.Tables.{row-other}
 use Rattle.rules.proofs.protocol.ProtocolTables.{Protocol, mJoin}
 use Rattle.rules.proofs.protocol.Protocol.{courseAt, enlist, stop, more}
-use Rattle.rules.proofs.refine.Refines.{Refines}
+use Rattle.rules.proofs.refine.Refines.{Refines, count-is}
 use Rattle.rules.proofs.refine.RefineSite.{site-channels, channels-one}
 use Rattle.rules.proofs.refine.RefineStep.{Follows, by-code, inside, stays, site-step}
 use Rattle.rules.proofs.refine.RefineMail.{made-one, made-in, send-words, grows-one}
@@ -35,7 +36,7 @@ participant-stage : (c : Course) (r : ℕ) → withParticipant c r .stage ≡ c 
 unfolding withParticipant
 participant-stage c r = refl
 
-module _ {sites : ℕ} {w : World} {p : Protocol} (r : Refines sites w p) (s : ℕ) (out : List ℕ) (t n : ℕ) where
+module _ {house : House} {w : World} {p : Protocol} (r : Refines house w p) (s : ℕ) (out : List ℕ) (t n : ℕ) where
   abbrev room : ℕ
   room = length out
 
@@ -49,7 +50,7 @@ module _ {sites : ℕ} {w : World} {p : Protocol} (r : Refines sites w p) (s : �
   course = subAt here spot .course
 
   abbrev Goal : Effect → Type 0
-  Goal e = Follows sites p (siteStep w s e (w .base s) (w .lists s) .world) []
+  Goal e = Follows house p (siteStep w s e (w .base s) (w .lists s) .world) []
 
   enlists : enlistCode (siteOk here) room (isSite (here .house) n) spot (eqb (coordinatorOf t) (here .counters .own)) ≡ 0
       → joinerCode (course .stage) (eqb n (here .counters .own)) (inMask (course .mask) n) (channelSpent (here .channels) n) ≡ 0
@@ -61,7 +62,7 @@ module _ {sites : ℕ} {w : World} {p : Protocol} (r : Refines sites w p) (s : �
       let (l, h) = inside r s (c .valid) in
       let y = r .site s l h in
       let o = site-clear (here .house) n (c .site) in
-      let m : n ≤ sites = omega (arith, o .high, y .house) in
+      let m : n ≤ house .sites = omega (arith, o .high, count-is (y .house-is)) in
       let a = at-place here p s t (y .live) (c .held) in
       let k = course-is a in
       let own = y .counters .own-is in
@@ -97,7 +98,7 @@ module _ {sites : ℕ} {w : World} {p : Protocol} (r : Refines sites w p) (s : �
             (made-in (rw (desk, words) (made-one (p .post) s n (getD (here .channels .sent) (n - 1) 0) join (no-entries .0) number))),
       )
 
-  pub enlist-moves : Follows sites p (step w (world.enlist s out t n) .world) []
+  pub enlist-moves : Follows house p (step w (world.enlist s out t n) .world) []
   unfolding step enlistOf enlistAt
   enlist-moves =
       by-code Goal (enlistCode (siteOk here) room (isSite (here .house) n) spot (eqb (coordinatorOf t) (here .counters .own))) here []

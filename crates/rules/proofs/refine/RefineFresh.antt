@@ -9,8 +9,9 @@ use lib.Dec.{leb, eqb}
 use lib.ListN.{replicate, length-replicate, getD-replicate}
 use Rattle.laws.specs.Choice.{every, every-at, by-test, pick-same}
 use Rattle.kinds.specs.Sizes as sizes
+use Rattle.kinds.specs.declared.House.{House}
 use Rattle.kinds.specs.State.{noSub, pastSub, noEntry}
-use Rattle.rules.specs.House.{houseOk, isSite}
+use Rattle.rules.specs.House.{houseOk, isSite, GoodHouse}
 use Rattle.rules.specs.Live.{partAt}
 use Rattle.rules.specs.History.{remembered}
 use Rattle.rules.specs.Install.{freshSite, startCode, startOf, startTable}
@@ -21,29 +22,33 @@ use Rattle.rules.proofs.protocol.Protocol.{freshProtocol}
 use Rattle.rules.proofs.refine.Refines.{IsFree, sliceOf, SiteIs, Refines}
 
 -- a site of the house starts fresh,
-pub started : (sites s : ℕ) → 1 ≤ sites → sites ≤ sizes.sites → 1 ≤ s → s ≤ sites
-    → startOf sites s sizes.keys sizes.lists .site ≡ freshSite sites s
+pub started : (house : House) (s : ℕ) → GoodHouse house → 1 ≤ s → s ≤ house .sites
+    → startOf (house .sites) s sizes.keys sizes.lists .site ≡ freshSite (house .sites) s
 unfolding startOf startCode houseOk isSite
-started sites s a b l h = rw (le-leb 1 sites a, le-leb sites sizes.sites b, le-leb 1 s l, le-leb s sites h)
+started house s good l h =
+    rw (le-leb 1 (house .sites) (good .some), le-leb (house .sites) sizes.sites (good .few), le-leb 1 s l, le-leb s (house .sites) h)
 
 -- another is not valid
-not-started : (sites s : ℕ) → ((1 ≤ s) × (s ≤ sites) → ⊥) → siteOk (startOf sites s sizes.keys sizes.lists .site) ≡ false
+not-started : (house : House) (s : ℕ) → ((1 ≤ s) × (s ≤ house .sites) → ⊥)
+    → siteOk (startOf (house .sites) s sizes.keys sizes.lists .site) ≡ false
 unfolding startOf startCode houseOk isSite siteOk freshSite
-not-started sites s n =
-    by-test (every (leb 1 s ∷ leb s sites ∷ []))
-    (λ e. let l = leb 1 s ∷ leb s sites ∷ [] in absurd (n (leb-true 1 s (every-at l 0 e), leb-true s sites (every-at l 1 e))))
-    (λ e. by-test (every (leb 1 sites ∷ leb sites sizes.sites ∷ [])) (λ f. rw (f, e)) (λ f. rw f))
+not-started house s n =
+    by-test (every (leb 1 s ∷ leb s (house .sites) ∷ []))
+    (λ e. let l = leb 1 s ∷ leb s (house .sites) ∷ [] in
+    absurd (n (leb-true 1 s (every-at l 0 e), leb-true s (house .sites) (every-at l 1 e))))
+    (λ e. by-test (every (leb 1 (house .sites) ∷ leb (house .sites) sizes.sites ∷ [])) (λ f. rw (f, e)) (λ f. rw f))
 
 free-place : (i : ℕ) → i < sizes.live → IsFree (partAt (replicate sizes.live noSub) i)
 unfolding noSub
 free-place i h = rw (getD-replicate sizes.live i noSub pastSub h)
 
-fresh-site : (sites s : ℕ) → 1 ≤ sites → sites ≤ sizes.sites
-    → SiteIs sites s (freshSite sites s) (replicate sizes.keys 0) (replicate sizes.lists 0) (sliceOf freshProtocol s)
+fresh-site : (house : House) (s : ℕ) → GoodHouse house
+    → SiteIs house s (freshSite (house .sites) s) (replicate sizes.keys 0) (replicate sizes.lists 0) (sliceOf freshProtocol s)
 unfolding freshSite freshProtocol remembered noSub
-fresh-site sites s a b =
+fresh-site house s good =
+    let few = good .few in
     record {
-      house = refl;
+      house-is = refl;
       counters = record { own-is = refl; clock-is = refl; serial-is = refl; installs-are = refl };
       channels =
           record {
@@ -74,17 +79,17 @@ pub fresh-table : (code n : ℕ) → startTable code (replicate n 0) ≡ replica
 unfolding startTable
 fresh-table code n = rw (length-replicate {A = ℕ} n 0) (pick-same (eqb code 0) (replicate n 0))
 
-pub refines-fresh : (sites : ℕ) → 1 ≤ sites → sites ≤ 8 → Refines sites (freshWorld sites) freshProtocol
+pub refines-fresh : (house : House) → GoodHouse house → Refines house (freshWorld house) freshProtocol
 unfolding freshWorld freshProtocol
-refines-fresh sites a b =
+refines-fresh house good =
     record {
-      few = b;
+      few = good .few;
       site = λ s l h. rw (
-        started sites s a b l h,
-        fresh-table (startCode sites s sizes.keys sizes.lists) sizes.keys,
-        fresh-table (startCode sites s sizes.keys sizes.lists) sizes.lists,
-      ) (fresh-site sites s a b);
-      outside = not-started sites;
+        started house s good l h,
+        fresh-table (startCode (house .sites) s sizes.keys sizes.lists) sizes.keys,
+        fresh-table (startCode (house .sites) s sizes.keys sizes.lists) sizes.lists,
+      ) (fresh-site house s good);
+      outside = not-started house;
       sent = a-nil;
       log = λ s. refl;
       stream = a-nil;

@@ -10,6 +10,7 @@ use lib.Dec.{eqb}
 use lib.ListN.{length}
 use Rattle.laws.specs.Choice.{every, some, every-at, by-test, some-two}
 use Rattle.kinds.specs.Sizes as sizes
+use Rattle.kinds.specs.declared.House.{House}
 use Rattle.kinds.specs.Stage as stage
 use Rattle.kinds.specs.declared.Course.{Course}
 use Rattle.kinds.specs.declared.Sub.{Sub}
@@ -52,9 +53,9 @@ module _ (c : Course) (a v : ℕ) (e : voteInTurn c a v ≡ true) where
       every-at (some (eqb (c .stage) stage.queued ∷ every (eqb (c .stage) stage.prepared ∷ not (eqb v 0) ∷ []) ∷ [])
       ∷ isOutstanding c a ∷ []) 1 e
 
-module _ {sites : ℕ} (p : Protocol) (s a : ℕ) {t : ℕ} {x : Site} {base lists : List ℕ} (few : sites ≤ sizes.sites) (low : 1 ≤ a)
-    (high : a ≤ sites)
-    (i : Invariant sites p) (y : SiteIs sites s x base lists (sliceOf p s)) (place : ℕ) (A : AtPlace x p s t place) where
+module _ {house : House} (p : Protocol) (s a : ℕ) {t : ℕ} {x : Site} {base lists : List ℕ} (few : house .sites ≤ sizes.sites) (low : 1 ≤ a)
+    (high : a ≤ house .sites)
+    (i : Invariant house p) (y : SiteIs house s x base lists (sliceOf p s)) (place : ℕ) (A : AtPlace x p s t place) where
   long : place < length (x .live)
   long = omega (arith, A .spot .low, y .live .size)
 
@@ -71,7 +72,7 @@ module _ {sites : ℕ} (p : Protocol) (s a : ℕ) {t : ℕ} {x : Site} {base lis
 
   -- a no: the first one aborts
   no-acts : (n v : ℕ) → Next p a s (mVote t n v) → (AtStage p s t stage.free → ⊥) → (AtStage p s t stage.decided → ⊥)
-      → (q : Protocol) × Acts sites s p q (settle x place (abortStep (raisedTurn n) v .turn)) base lists (abortStep (raisedTurn n) v .words)
+      → (q : Protocol) × Acts house s p q (settle x place (abortStep (raisedTurn n) v .turn)) base lists (abortStep (raisedTurn n) v .words)
       (book.commits t (abortStep (raisedTurn n) v .answer))
   no-acts n v next held undecided =
       let u = raisedTurn n in
@@ -92,7 +93,7 @@ module _ {sites : ℕ} (p : Protocol) (s a : ℕ) {t : ℕ} {x : Site} {base lis
 
   last-acts : (n : ℕ) → Next p a s (mVote t n 0) → AtStage p s t stage.queued → isOutstanding (courseAt p s t) a ≡ true
       → (let c = withReply (courseAt p s t) a 0 0 in allHeard s (c .heard) (c .mask) ≡ true)
-      → (q : Protocol) × Acts sites s p q (settle x place (decideStep (heardTurn n) .turn)) base lists (decideStep (heardTurn n) .words)
+      → (q : Protocol) × Acts house s p q (settle x place (decideStep (heardTurn n) .turn)) base lists (decideStep (heardTurn n) .words)
       (book.commits t (decideStep (heardTurn n) .answer))
   last-acts n next queued out all =
       let u = heardTurn n in
@@ -111,7 +112,7 @@ module _ {sites : ℕ} (p : Protocol) (s a : ℕ) {t : ℕ} {x : Site} {base lis
 
   pub vote-acts : (n v : ℕ) → Next p a s (mVote t n v) → voteInTurn (subAt x place .course) a v ≡ true
       → (q : Protocol)
-      × Acts sites s p q (settle x place (voteStep (raisedTurn n) a v .turn)) base lists (voteStep (raisedTurn n) a v .words)
+      × Acts house s p q (settle x place (voteStep (raisedTurn n) a v .turn)) base lists (voteStep (raisedTurn n) a v .words)
       (book.commits t (voteStep (raisedTurn n) a v .answer))
   unfolding voteStep raise arrived quietly
   vote-acts n v next inTurn =

@@ -6,6 +6,7 @@ use mathlib.Core.Logic.{inl, inr}
 use mathlib.Core.List.{List, [], _∷_, map}
 use native.Mathlib.Omega.{arith}
 use lib.ListN.{length, getD}
+use Rattle.kinds.specs.declared.House.{House}
 use Rattle.laws.specs.Choice.{set-not}
 use Rattle.kinds.specs.Kind as kind
 use Rattle.kinds.specs.declared.Site.{Site}
@@ -50,12 +51,12 @@ log-all s [] = a-nil
 log-all s (a ∷ l) = a-cons (log-record s a) (log-all s l)
 
 -- A posted message at its site.
-pub record Arrival (sites : ℕ) (p : Protocol) (s : ℕ) (ws : List ℕ) : Type 0 where
+pub record Arrival (house : House) (p : Protocol) (s : ℕ) (ws : List ℕ) : Type 0 where
   pub from : ℕ
   pub number : ℕ
   pub message : Msg
   pub low : 1 ≤ from
-  pub high : from ≤ sites
+  pub high : from ≤ house .sites
   pub next : Next p from s message
   pub head : messageHead ws ≡ headIn from s number message
   pub entries : messageEntries ws ≡ entriesIn message
@@ -78,11 +79,11 @@ next-is p a b s k e f l =
       is = ap (λ (z : ℕ). getD (p .post a s) z m) (sym f) ∙ in-range (p .post a s) k m (mAbort 0) l′;
     })
 
-module _ {sites : ℕ} {p : Protocol} (i : Invariant sites p) (s : ℕ) {x : Site} {base lists : List ℕ}
-    (y : SiteIs sites s x base lists (sliceOf p s)) (ws : List ℕ) where
+module _ {house : House} {p : Protocol} (i : Invariant house p) (s : ℕ) {x : Site} {base lists : List ℕ}
+    (y : SiteIs house s x base lists (sliceOf p s)) (ws : List ℕ) where
   -- it is the next one, if its number is
   pub arrives : Posted (p .post) ws → messageHead ws .to ≡ x .counters .own
-      → messageHead ws .channel ≡ getD (x .channels .taken) (messageHead ws .from - 1) 0 + 1 → Arrival sites p s ws
+      → messageHead ws .channel ≡ getD (x .channels .taken) (messageHead ws .from - 1) 0 + 1 → Arrival house p s ws
   unfolding headOf
   arrives m to channel =
       let a = m .from in
@@ -106,7 +107,7 @@ module _ {sites : ℕ} {p : Protocol} (i : Invariant sites p) (s : ℕ) {x : Sit
         entries = ap messageEntries (m .words) ∙ encoded-entries a b (k + 1) msg;
       }
 
-module _ {sites : ℕ} {w : World} {p : Protocol} (r : Refines sites w p) (i : Invariant sites p) (s : ℕ) (out m : List ℕ) where
+module _ {house : House} {w : World} {p : Protocol} (r : Refines house w p) (i : Invariant house p) (s : ℕ) (out m : List ℕ) where
   abbrev site : Site
   site = w .site s
 
@@ -117,7 +118,7 @@ module _ {sites : ℕ} {w : World} {p : Protocol} (r : Refines sites w p) (i : I
   head = messageHead m
 
   abbrev Goal : Effect → Type 0
-  Goal e = Follows sites p (siteStep w s e (w .base s) (e .lent) .world) (toldTaken s (head .kind) (head .tx) (e .words) (e .answer))
+  Goal e = Follows house p (siteStep w s e (w .base s) (e .lent) .world) (toldTaken s (head .kind) (head .tx) (e .words) (e .answer))
 
   -- words that pass are a posted message
   pub posted : Handed w (world.message s out m) → messageOk (site .house) m ≡ true → Posted (p .post) m
@@ -140,7 +141,7 @@ module _ {sites : ℕ} {w : World} {p : Protocol} (r : Refines sites w p) (i : I
       (takes r i s (a .from) (a .number) l h (a .low) (a .high) (handed-site site lists (c .valid)) (a .message) (a .next) good)
 
   pub message-moves : Handed w (world.message s out m)
-      → (let x = step w (world.message s out m) in Follows sites p (x .world) (toldBy (world.message s out m) (x .answer) (x .words)))
+      → (let x = step w (world.message s out m) in Follows house p (x .world) (toldBy (world.message s out m) (x .answer) (x .words)))
   unfolding step siteStep messageOf messageAt
   message-moves handed =
       let code = arrivalCode (handedOk site lists) (length out) (messageOk (site .house) m) in

@@ -6,6 +6,7 @@ use mathlib.Core.Logic.{⊎-elim}
 use mathlib.Core.List.{List, [], _∷_}
 use native.Mathlib.Omega.{arith}
 use lib.ListN.{length}
+use Rattle.kinds.specs.declared.House.{House}
 use Rattle.laws.specs.Pair.{precedes, not-precedes-rank}
 use Rattle.kinds.specs.declared.Entry.{Entry}
 use Rattle.kinds.specs.declared.RecordHead.{RecordHead}
@@ -17,14 +18,14 @@ use Rattle.rules.specs.MergerLaws.{HasPart, LeastOf, IsDue}
 use Rattle.rules.specs.MergerJoin.{heads-at, head-part}
 use Rattle.rules.specs.World.{World}
 use Rattle.rules.proofs.protocol.Committed.{low-coordinator}
-use Rattle.rules.proofs.refine.Refines.{entryWords, partHeadOf}
+use Rattle.rules.proofs.refine.Refines.{entryWords, partHeadOf, count-is}
 use Rattle.rules.proofs.stream.Stream as stream
 use Rattle.rules.proofs.stream.Stream.{Stream, rankOf, DueAt}
 use Rattle.rules.proofs.stream.StreamInv.{head-real}
 use Rattle.rules.proofs.stream.StreamReached.{Standing}
 use Rattle.rules.proofs.refine.RefineMerger.{StreamIs, part-head}
 
-module _ {sites : ℕ} {w : World} {v : Stream} (x : StreamIs sites w v) (z : Standing sites v) where
+module _ {house : House} {w : World} {v : Stream} (x : StreamIs house w v) (z : Standing house v) where
   abbrev m : stream.Merger
   m = v .merger
 
@@ -34,11 +35,11 @@ module _ {sites : ℕ} {w : World} {v : Stream} (x : StreamIs sites w v) (z : St
   abbrev heads : List RecordHead
   heads = headsOf (w .queues) (g .house .sites)
 
-  pub inside : (i : ℕ) → i < sites → i < g .house .sites
-  inside i l = rw (x .merger .house) l
+  pub inside : (i : ℕ) → i < house .sites → i < g .house .sites
+  inside i l = rw (x .merger .house-is) l
 
   -- the head of a site, as the merger reads it
-  module _ (i : ℕ) (l : i < sites) (e : Entry) (r : List Entry) (q : m .queue (i + 1) ≡ e ∷ r) where
+  module _ (i : ℕ) (l : i < house .sites) (e : Entry) (r : List Entry) (q : m .queue (i + 1) ≡ e ∷ r) where
     pub some-queued : 0 < sourceAt g i .queued
     some-queued = omega (arith, x .merger .source i l .queued, ap length q)
 
@@ -50,7 +51,7 @@ module _ {sites : ℕ} {w : World} {v : Stream} (x : StreamIs sites w v) (z : St
     pub head-is : headIn heads i ≡ partHeadOf (i + 1) e
     head-is =
         let c = x .merger .holds .clear in
-        let b : i < g .house .sites = rw (x .merger .house) l in
+        let b : i < g .house .sites = rw (x .merger .house-is) l in
         heads-at (w .queues) (g .house .sites) i (c .few) b
         ∙ head-part (g .house) (w .queues) i (c .parts i 0 b some-queued)
         ∙ ap recordHead clear-head ∙ part-head (i + 1) e
@@ -61,8 +62,8 @@ module _ {sites : ℕ} {w : World} {v : Stream} (x : StreamIs sites w v) (z : St
 
   -- the least head, at site k + 1
   module _ (k : ℕ) (l : LeastOf g heads (g .house .sites) k) (G : Entry) (r : List Entry) (q : m .queue (k + 1) ≡ G ∷ r) where
-    pub low : k < sites
-    low = omega (arith, l .below, x .merger .house)
+    pub low : k < house .sites
+    low = omega (arith, l .below, count-is (x .merger .house-is))
 
     pub due-is : headIn heads k ≡ partHeadOf (k + 1) G
     due-is = head-is k low G r q
@@ -74,7 +75,7 @@ module _ {sites : ℕ} {w : World} {v : Stream} (x : StreamIs sites w v) (z : St
     pub G-low : coordinatorOf (G .tx) ≤ 8
     G-low = head-low k low G r q
 
-    pub least-rank : (i : ℕ) → i < sites → (e : Entry) (u : List Entry) → m .queue (i + 1) ≡ e ∷ u → rankOf G ≤ rankOf e
+    pub least-rank : (i : ℕ) → i < house .sites → (e : Entry) (u : List Entry) → m .queue (i + 1) ≡ e ∷ u → rankOf G ≤ rankOf e
     unfolding partHeadOf
     least-rank i b e u f =
         let c : precedes (e .number) (coordinatorOf (e .tx)) (G .number) (coordinatorOf (G .tx)) ≡ false =
@@ -82,7 +83,7 @@ module _ {sites : ℕ} {w : World} {v : Stream} (x : StreamIs sites w v) (z : St
         not-precedes-rank (e .number) (coordinatorOf (e .tx)) (G .number) (coordinatorOf (G .tx)) (omega (arith, head-low i b e u f))
         (omega (arith, G-low)) c
 
-    pub due-at : IsDue g heads k → (i : ℕ) → i < sites → DueAt G (m .state (i + 1)) (m .queue (i + 1))
+    pub due-at : IsDue g heads k → (i : ℕ) → i < house .sites → DueAt G (m .state (i + 1)) (m .queue (i + 1))
     unfolding partHeadOf
     due-at d i b = go (m .queue (i + 1)) refl
       where
@@ -96,7 +97,7 @@ module _ {sites : ℕ} {w : World} {v : Stream} (x : StreamIs sites w v) (z : St
         go (e ∷ u) f = least-rank i b e u f
 
     -- a head with its pair
-    pub rank-part : (i : ℕ) → i < sites → (e : Entry) (u : List Entry) → m .queue (i + 1) ≡ e ∷ u → rankOf e ≡ rankOf G
+    pub rank-part : (i : ℕ) → i < house .sites → (e : Entry) (u : List Entry) → m .queue (i + 1) ≡ e ∷ u → rankOf e ≡ rankOf G
         → HasPart g heads (headIn heads k) i
     unfolding partHeadOf
     rank-part i b e u f n =
@@ -108,7 +109,8 @@ module _ {sites : ℕ} {w : World} {v : Stream} (x : StreamIs sites w v) (z : St
           coordinator = rw (head-is i b e u f) (omega arith);
         })
 
-    pub part-rank : (i : ℕ) → i < sites → (e : Entry) (u : List Entry) → m .queue (i + 1) ≡ e ∷ u → HasPart g heads (headIn heads k) i
+    pub part-rank : (i : ℕ) → i < house .sites → (e : Entry) (u : List Entry) → m .queue (i + 1) ≡ e ∷ u
+        → HasPart g heads (headIn heads k) i
         → rankOf e ≡ rankOf G
     unfolding partHeadOf
     part-rank i b e u f o =

@@ -134,9 +134,9 @@ item-size (suc n) x =
 item-count : (n : ℕ) (x : Item) → writesIn (itemWrites n x ++ siteWrites x n) ≡ writesIn (itemWrites n x) + writesIn (siteWrites x n)
 item-count n x = halved _ _ (length-append (itemWrites n x) (siteWrites x n) ∙ omega (arith, item-size n x, site-size x n))
 
-module _ {sites : ℕ} (x : Item) (c : Placed sites x) (k : ℕ) (h : k < sizes.keys) where
+module _ {house : House} (x : Item) (c : Placed house x) (k : ℕ) (h : k < sizes.keys) where
   abbrev o : House
-  o = record { sites = sites }
+  o = house
 
   block-here : (i : ℕ) (v : Value) → homeOf o k ≡ i + 1 → laid (siteWrites x i) k (writesIn (siteWrites x i)) v ≡ leaves o k v x
   unfolding laid
@@ -180,9 +180,9 @@ module _ {sites : ℕ} (x : Item) (c : Placed sites x) (k : ℕ) (h : k < sizes.
         (λ a. rw (below n a) (block-here n v (omega arith)))
         (λ a. rw (beyond n a) (block-there n (leaves o k v x) (λ e. omega arith))))
 
-    pub laid-item : laid (itemWrites sites x) k (writesIn (itemWrites sites x)) v ≡ leaves o k v x
+    pub laid-item : laid (itemWrites (house .sites) x) k (writesIn (itemWrites (house .sites) x)) v ≡ leaves o k v x
     laid-item =
-        by-order sites (homeOf o k)
+        by-order (house .sites) (homeOf o k)
         (λ a. let n : inMask (x .mask) (homeOf o k) ≡ false = unset _ (λ t. omega (arith, c .few (homeOf o k) (positive-site o k) t)) in
-        below sites a ∙ rw n)
-        (λ a. beyond sites a)
+        below (house .sites) a ∙ rw n)
+        (λ a. beyond (house .sites) a)

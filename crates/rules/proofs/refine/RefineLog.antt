@@ -12,6 +12,7 @@ use lib.Seq.{getD-set-same, getD-set-other, getD-append-seam}
 use Rattle.laws.specs.Choice.{every-at, by-test}
 use Rattle.laws.specs.Scan.{foldBelow}
 use Rattle.kinds.specs.Sizes as sizes
+use Rattle.kinds.specs.declared.House.{House}
 use Rattle.kinds.specs.Stage as stage
 use Rattle.kinds.specs.declared.Keys.{Keys}
 use Rattle.kinds.specs.declared.Course.{Course}
@@ -89,7 +90,7 @@ state-at live p s clock l e =
         let c = ap (λ (b : Sub). b .course) (l .holds j b (λ f. omega arith)) in
         inr (inr (_, ap (λ (c : Course). c .stage) (sym c) ∙ g, k ∙ ap (λ (c : Course). c .number - 1) c))
 
-module _ {sites : ℕ} {w : World} {p : Protocol} (r : Refines sites w p) (s : ℕ) (out : List ℕ) where
+module _ {house : House} {w : World} {p : Protocol} (r : Refines house w p) (s : ℕ) (out : List ℕ) where
   abbrev here : Site
   here = w .site s
 
@@ -99,7 +100,7 @@ module _ {sites : ℕ} {w : World} {p : Protocol} (r : Refines sites w p) (s : �
   abbrev reported : Effect
   reported = record { answer = Reported state; words = stateWords (here .counters .own) state; site = here; lent = [] }
 
-  reports : reportCode (siteOk here) (length out) ≡ 0 → Follows sites p (logStep w s reported (w .base s) .world) []
+  reports : reportCode (siteOk here) (length out) ≡ 0 → Follows house p (logStep w s reported (w .base s) .world) []
   reports e =
       let c = report-clear (siteOk here) (length out) e in
       let (l, h) = inside r s (c .valid) in
@@ -122,7 +123,7 @@ module _ {sites : ℕ} {w : World} {p : Protocol} (r : Refines sites w p) (s : �
             })
             reported (w .base s)
             (record {
-              house = y .house;
+              house-is = y .house-is;
               counters = rw z (y .counters);
               channels = y .channels;
               live = y .live;
@@ -135,10 +136,10 @@ module _ {sites : ℕ} {w : World} {p : Protocol} (r : Refines sites w p) (s : �
             (state-record (here .counters .own) s state (y .counters .own-is)))),
       )
 
-  pub report-moves : Follows sites p (step w (world.report s out) .world) []
+  pub report-moves : Follows house p (step w (world.report s out) .world) []
   unfolding step reportOf
   report-moves =
-      by-code (λ e. Follows sites p (logStep w s e (w .base s) .world) []) (reportCode (siteOk here) (length out)) here [] reported reports
+      by-code (λ e. Follows house p (logStep w s e (w .base s) .world) []) (reportCode (siteOk here) (length out)) here [] reported reports
       (p, stop, refl, unlogged r s _ (w .base s) refl refl refl)
 
 -- The history with one install more: the new one takes the slot of the one that is forgotten.
@@ -212,7 +213,7 @@ least-at live p s t l e u q =
     let z = least-first live sizes.live i (omega arith) h (ap isQueued x ∙ q) in
     rw (x, e) at (z .1)
 
-module _ {sites : ℕ} {w : World} {p : Protocol} (r : Refines sites w p) (s : ℕ) (out : List ℕ) where
+module _ {house : House} {w : World} {p : Protocol} (r : Refines house w p) (s : ℕ) (out : List ℕ) where
   abbrev site : Site
   site = w .site s
 
@@ -220,7 +221,7 @@ module _ {sites : ℕ} {w : World} {p : Protocol} (r : Refines sites w p) (s : �
   due = leastQueued (site .live) sizes.live
 
   installs : installCode (siteOk site) (length out) (length (w .base s)) (isInstallable (site .live) due) (site .counters .installs) ≡ 0
-      → Follows sites p (logStep w s (installedAt site (w .base s) due) (baseAfter site (w .base s)) .world)
+      → Follows house p (logStep w s (installedAt site (w .base s) due) (baseAfter site (w .base s)) .world)
       (book.installs s (installedAt site (w .base s) due .answer))
   unfolding installedAt isInstallable
   installs e =
@@ -256,7 +257,7 @@ module _ {sites : ℕ} {w : World} {p : Protocol} (r : Refines sites w p) (s : �
             })
             (installedAt site (w .base s) due) (baseAfter site (w .base s))
             (record {
-              house = y .house;
+              house-is = y .house-is;
               counters =
                   record {
                     own-is = y .counters .own-is;
@@ -278,10 +279,10 @@ module _ {sites : ℕ} {w : World} {p : Protocol} (r : Refines sites w p) (s : �
       )
 
   pub install-moves : let x = step w (world.install s out) in
-      Follows sites p (x .world) (toldBy (world.install s out) (x .answer) (x .words))
+      Follows house p (x .world) (toldBy (world.install s out) (x .answer) (x .words))
   unfolding step logStep installOf installedAt
   install-moves =
       let code = installCode (siteOk site) (length out) (length (w .base s)) (isInstallable (site .live) due) (site .counters .installs) in
-      by-code (λ e. Follows sites p (logStep w s e (e .lent) .world) (book.installs s (e .answer))) code site (w .base s)
+      by-code (λ e. Follows house p (logStep w s e (e .lent) .world) (book.installs s (e .answer))) code site (w .base s)
       (installedAt site (w .base s) due) installs
       (p, stop, refl, unlogged r s (refused code site (w .base s)) (w .base s) refl refl refl)

@@ -11,6 +11,7 @@ use lib.Seq.{take-at, drop-at, getD-append-seam}
 use Rattle.laws.specs.Choice.{every-at, by-test}
 use Rattle.laws.specs.Digits.{digit}
 use Rattle.kinds.specs.Sizes as sizes
+use Rattle.kinds.specs.declared.House.{House}
 use Rattle.kinds.specs.declared.Channels.{Channels}
 use Rattle.kinds.specs.declared.MessageHead.{MessageHead}
 use Rattle.kinds.specs.declared.Turn.{Turn}
@@ -103,8 +104,8 @@ recipient-in mask a i e =
 abbrev pub headAll : ℕ → Msg → MessageHead
 headAll a m = headOf (kindOf m) a 0 0 (txIn m) (clockIn m) (argumentIn m) (entryCount (entriesIn m))
 
-module _ {sites : ℕ} {c : Channels} {taken : ℕ → ℕ} (post : ℕ → ℕ → List Msg) (a mask : ℕ) (m : Msg) (whole : Whole (entriesIn m))
-    (members : (r : ℕ) → In mask r → r ≤ sites) (x : ChannelsAre sites c (post a) taken) where
+module _ {house : House} {c : Channels} {taken : ℕ → ℕ} (post : ℕ → ℕ → List Msg) (a mask : ℕ) (m : Msg) (whole : Whole (entriesIn m))
+    (members : (r : ℕ) → In mask r → r ≤ house .sites) (x : ChannelsAre house c (post a) taken) where
   words-one : (i : ℕ) → Made (Posted (others post a mask m)) (wordsTo (headAll a m) (c .sent) mask (entriesIn m) i)
   unfolding headTo headOf encode
   words-one i =

@@ -10,6 +10,7 @@ use borrow.Author.Tests.{eqb-true, eqb-false, ltb-true, lt-ltb}
 use lib.Dec.{eqb, ltb}
 use lib.ListN.{length, getD, length-map}
 use lib.Seq.{getD-take, getD-set-same, getD-set-other, length-take-le}
+use Rattle.kinds.specs.declared.House.{House}
 use Rattle.laws.specs.Choice.{every, every-at, by-test, set-not}
 use Rattle.laws.specs.Overlay.{putAt}
 use Rattle.laws.specs.Pair.{precedes-rank}
@@ -32,7 +33,7 @@ use Rattle.rules.specs.World as world
 use Rattle.rules.proofs.lists.Tables.{upd-cases, upd-same, upd-other, all-at, all-is}
 use Rattle.rules.proofs.protocol.ProtocolTables.{Protocol, Rec, rPart, rState}
 use Rattle.rules.proofs.protocol.Frames.{in-range}
-use Rattle.rules.proofs.refine.Refines.{recWords, entryWords, partHeadOf}
+use Rattle.rules.proofs.refine.Refines.{recWords, entryWords, partHeadOf, count-is}
 use Rattle.rules.proofs.stream.Stream as stream
 use Rattle.rules.proofs.stream.Stream.{Stream, Steps, NextRecord, rankOf}
 use Rattle.rules.proofs.stream.StreamInv.{NotAbove}
@@ -42,7 +43,7 @@ use Rattle.rules.proofs.refine.RefineMerger.{itemWords, MergerIs, Strea
 use Rattle.rules.proofs.refine.RefineMerger.{state-head, item-head, map-at, same-words, words-same}
 use Rattle.rules.proofs.refine.RefineQueue.{TakesPart, TakesState, merge-cases, tx-low, more-queued, still-queued}
 
-module _ {sites : ℕ} {w : World} {v : Stream} (x : StreamIs sites w v) where
+module _ {house : House} {w : World} {v : Stream} (x : StreamIs house w v) where
   abbrev p : Protocol
   p = v .protocol
 
@@ -53,9 +54,9 @@ module _ {sites : ℕ} {w : World} {v : Stream} (x : StreamIs sites w v) where
   with-merger n = record { protocol = v .protocol; merger = n; replayed = v .replayed }
 
   -- nothing is emitted
-  quiet : (e : Merging) (merged : ℕ → ℕ) (n : stream.Merger) (s : Steps sites v (with-merger n)) → toldSteps s ≡ [] → n .out ≡ m .out
+  quiet : (e : Merging) (merged : ℕ → ℕ) (n : stream.Merger) (s : Steps house v (with-merger n)) → toldSteps s ≡ [] → n .out ≡ m .out
       → e .words ≡ []
-      → MergerIs sites (e .merger) (e .queues) n → ((s : ℕ) → merged s ≡ n .took s) → Onward sites v (mergerStep w e merged .world) []
+      → MergerIs house (e .merger) (e .queues) n → ((s : ℕ) → merged s ≡ n .took s) → Onward house v (mergerStep w e merged .world) []
   unfolding mergerStep
   quiet e merged n s t o k i c =
       let r = x .refines in
@@ -101,9 +102,9 @@ module _ {sites : ℕ} {w : World} {v : Stream} (x : StreamIs sites w v) where
       sym (ap (λ (l : List ℕ). recordHead l .site) (f .words) ∙ site-in s (getD (p .log s) i (rState 0))) in
       rw y at f
   from-log ws (inr (inr a)) e k =
-      let (y, q) = is-map (itemWords sites) (m .out) (rw (x .emitted) at a) in
+      let (y, q) = is-map (itemWords (house .sites)) (m .out) (rw (x .emitted) at a) in
       absurd (let z : recordHead ws .kind ≡ kind.merged = ap (λ (l : List ℕ). recordHead l .kind) q
-      ∙ ap (λ (r : RecordHead). r .kind) (item-head sites y) in omega arith)
+      ∙ ap (λ (r : RecordHead). r .kind) (item-head (house .sites) y) in omega arith)
 
   -- One record more is counted where it is the next.
   abbrev counted : List ℕ → ℕ → ℕ
@@ -136,19 +137,19 @@ module _ {sites : ℕ} {w : World} {v : Stream} (x : StreamIs sites w v) where
   -- the world after a merge of a record of site i + 1
   abbrev After : List ℕ → ℕ → Type 0
   After ws i =
-      Onward sites v (mergerStep w (mergeOf (w .merger) (w .queues) ws)
+      Onward house v (mergerStep w (mergeOf (w .merger) (w .queues) ws)
       (upd (w .merged) (i + 1) (stepTaken (mergeOf (w .merger) (w .queues) ws .answer) (w .log (i + 1)) (w .merged (i + 1)) ws)) .world) []
 
   took-none : (s n : ℕ) (j : ℕ) → n ≡ m .took s → upd (w .merged) s n j ≡ m .took j
   took-none s n j e = upd-cases (λ j k. k ≡ m .took j) (w .merged) s n e (λ j a. x .merged j) j
 
   -- A part, by its site's index.
-  module _ (z : Standing sites v) (ws : List ℕ) (i : ℕ) (l : i < sites) (f : FromLog ws (i + 1)) where
+  module _ (z : Standing house v) (ws : List ℕ) (i : ℕ) (l : i < house .sites) (f : FromLog ws (i + 1)) where
     abbrev g : Merger
     g = w .merger
 
     bound : i < g .house .sites
-    bound = rw (x .merger .house) l
+    bound = rw (x .merger .house-is) l
 
     set-here : (c : Source) → sourceAt (withSource g i c) i ≡ c
     set-here c = getD-set-same (g .sources) i c pastSource (let k = x .refines .few in omega (arith, x .merger .holds .sized))
@@ -208,12 +209,12 @@ module _ {sites : ℕ} {w : World} {v : Stream} (x : StreamIs sites w v) where
           (eq-or-lt-of-le (f .reached))
 
       part-tables : Holds (withSource g i new-source) (putAt (placeAt i (sourceAt g i .queued)) (w .queues) ws)
-          → MergerIs sites (withSource g i new-source) (putAt (placeAt i (sourceAt g i .queued)) (w .queues) ws)
+          → MergerIs house (withSource g i new-source) (putAt (placeAt i (sourceAt g i .queued)) (w .queues) ws)
           (stream.tookPart m (i + 1) e)
       unfolding upd new-source
       part-tables h =
           record {
-            house = x .merger .house;
+            house-is = x .merger .house-is;
             holds = h;
             source = λ k b. by-test (eqb (k + 1) (i + 1))
                 (λ u. let y : k ≡ i = omega (arith, eqb-true (k + 1) (i + 1) u) in
@@ -222,7 +223,7 @@ module _ {sites : ℕ} {w : World} {v : Stream} (x : StreamIs sites w v) where
                 (m .last (i + 1)) part-words e-low (x .merger .source i l))))
                 (λ u. let n = other-site k u in
                 rw (u, set-there new-source k n)
-                (still-queued g (w .queues) ws i (x .merger .holds) bound (t .room) o k _ _ _ (rw (x .merger .house) b) n
+                (still-queued g (w .queues) ws i (x .merger .holds) bound (t .room) o k _ _ _ (rw (x .merger .house-is) b) n
                 (x .merger .source k b)));
           }
 
@@ -247,12 +248,12 @@ module _ {sites : ℕ} {w : World} {v : Stream} (x : StreamIs sites w v) where
 
       state-tables : (states : ℕ → ℕ) (took : ℕ → ℕ) → states (i + 1) ≡ n → ((k : ℕ) → (k ≡ i → ⊥) → states (k + 1) ≡ m .state (k + 1))
           → Holds (withSource g i with-number) (w .queues)
-          → MergerIs sites (withSource g i with-number) (w .queues)
+          → MergerIs house (withSource g i with-number) (w .queues)
           (record { took = took; queue = m .queue; state = states; last = m .last; out = m .out })
       unfolding with-number
       state-tables states took a b h =
           record {
-            house = x .merger .house;
+            house-is = x .merger .house-is;
             holds = h;
             source = λ k c. by-test (eqb k i)
                 (λ u. let y = eqb-true k i u in let d = x .merger .source i l in
@@ -306,12 +307,12 @@ module _ {sites : ℕ} {w : World} {v : Stream} (x : StreamIs sites w v) where
           (state-tables (m .state) (m .took) (state-same e) (λ k a. refl) h)
           (λ j. took-none (i + 1) (counted ws (i + 1)) j (count-same ws (i + 1) e))))
 
-  module _ (z : Standing sites v) (ws : List ℕ) (h : Handed w (world.merge ws)) where
+  module _ (z : Standing house v) (ws : List ℕ) (h : Handed w (world.merge ws)) where
     abbrev Merged : Type 0
-    Merged = Onward sites v (step w (world.merge ws) .world) []
+    Merged = Onward house v (step w (world.merge ws) .world) []
 
     -- a record taken, by its site's index
-    part-on : (i : ℕ) → recordHead ws .site ≡ i + 1 → i < sites → TakesPart (w .merger) (w .queues) ws (recordHead ws) i
+    part-on : (i : ℕ) → recordHead ws .site ≡ i + 1 → i < house .sites → TakesPart (w .merger) (w .queues) ws (recordHead ws) i
         → FromLog ws (i + 1) → Merged
     unfolding step mergeStep partHeadOf new-source
     part-on i e l t f = rw e (go (getD (p .log (i + 1)) (f .place) (rState 0)) refl)
@@ -329,7 +330,7 @@ module _ {sites : ℕ} {w : World} {v : Stream} (x : StreamIs sites w v) where
               ap (λ (r : RecordHead). r .kind) c,
             ))
 
-    state-on : (i : ℕ) → recordHead ws .site ≡ i + 1 → i < sites → TakesState (w .merger) (w .queues) ws (recordHead ws) i
+    state-on : (i : ℕ) → recordHead ws .site ≡ i + 1 → i < house .sites → TakesState (w .merger) (w .queues) ws (recordHead ws) i
         → FromLog ws (i + 1) → Merged
     unfolding step mergeStep partHeadOf with-number
     state-on i e l t f = rw e (go (getD (p .log (i + 1)) (f .place) (rState 0)) refl)
@@ -351,8 +352,8 @@ module _ {sites : ℕ} {w : World} {v : Stream} (x : StreamIs sites w v) where
     unfolding step mergeStep stepTaken
     merge-onward = go (merge-cases (w .merger) (w .queues) ws)
       where
-        index : (s : ℕ) → isSite (w .merger .house) s ≡ true → (s ≡ s - 1 + 1) × (s - 1 < sites)
-        index s e = let c = site-clear (w .merger .house) s e in (omega arith, omega (arith, x .merger .house))
+        index : (s : ℕ) → isSite (w .merger .house) s ≡ true → (s ≡ s - 1 + 1) × (s - 1 < house .sites)
+        index s e = let c = site-clear (w .merger .house) s e in (omega arith, omega (arith, count-is (x .merger .house-is)))
 
         go : ((n : ℕ) × (mergeOf (w .merger) (w .queues) ws ≡ refusedMerger n (w .merger) (w .queues)))
             ⊎ (TakesPart (w .merger) (w .queues) ws (recordHead ws) (recordHead ws .site - 1)

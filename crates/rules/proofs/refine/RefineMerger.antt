@@ -12,6 +12,7 @@ use Rattle.laws.specs.Choice.{pick, picked-left, picked-right}
 use Rattle.laws.specs.Scan.{foldBelow}
 use Rattle.laws.specs.Pair.{rank}
 use Rattle.kinds.specs.Sizes as sizes
+use Rattle.kinds.specs.declared.House.{House}
 use Rattle.kinds.specs.Kind as kind
 use Rattle.kinds.specs.Word as word
 use Rattle.kinds.specs.State.{fresh, pastEntry}
@@ -76,16 +77,16 @@ pub record SourceIs (c : Source) (queues : List ℕ) (i : ℕ) (queue : List Ent
   pub low : c .coordinator < 16
   pub words : (j : ℕ) → j < length queue → queuedPart queues i j ≡ entryWords (i + 1) (getD queue j pastEntry)
 
-pub record MergerIs (sites : ℕ) (g : Merger) (queues : List ℕ) (m : stream.Merger) : Type 0 where
-  pub house : g .house .sites ≡ sites
+pub record MergerIs (house : House) (g : Merger) (queues : List ℕ) (m : stream.Merger) : Type 0 where
+  pub house-is : g .house ≡ house
   pub holds : Holds g queues
-  pub source : (i : ℕ) → i < sites → SourceIs (sourceAt g i) queues i (m .queue (i + 1)) (m .state (i + 1)) (m .last (i + 1))
+  pub source : (i : ℕ) → i < house .sites → SourceIs (sourceAt g i) queues i (m .queue (i + 1)) (m .state (i + 1)) (m .last (i + 1))
 
 -- an item's keys are of its parts' sites, which the house has
-pub record Placed (sites : ℕ) (x : Item) : Type 0 where
+pub record Placed (house : House) (x : Item) : Type 0 where
   pub keys : (s j : ℕ) → 1 ≤ s → inMask (x .mask) s ≡ true → j < sortedCount (x .keys s)
-      → homeOf (record { sites = sites }) (sortedKey (x .keys s) j) ≡ s
-  pub few : (s : ℕ) → 1 ≤ s → inMask (x .mask) s ≡ true → s ≤ sites
+      → homeOf house (sortedKey (x .keys s) j) ≡ s
+  pub few : (s : ℕ) → 1 ≤ s → inMask (x .mask) s ≡ true → s ≤ house .sites
 
 -- the pair of the last of some items
 abbrev pub endNumber : ℕ → List Item → ℕ
@@ -97,26 +98,26 @@ endCoordinator k [] = k
 endCoordinator k (x ∷ l) = endCoordinator (coordinatorOf (x .tx)) l
 
 -- A copy that replayed some items.
-pub record CopyIs (sites : ℕ) (copy : List ℕ) (items : List Item) : Type 0 where
+pub record CopyIs (house : House) (copy : List ℕ) (items : List Item) : Type 0 where
   pub size : length copy ≡ sizes.copy
   pub number : copyNumber copy ≡ endNumber 0 items
   pub coordinator : copyCoordinator copy ≡ endCoordinator 0 items
-  pub value : (k : ℕ) → k < sizes.keys → copyValue copy k ≡ leftIn (record { sites = sites }) k fresh items
+  pub value : (k : ℕ) → k < sizes.keys → copyValue copy k ≡ leftIn house k fresh items
 
-pub record StreamIs (sites : ℕ) (w : World) (v : Stream) : Type 0 where
-  pub refines : Refines sites w (v .protocol)
-  pub merger : MergerIs sites (w .merger) (w .queues) (v .merger)
+pub record StreamIs (house : House) (w : World) (v : Stream) : Type 0 where
+  pub refines : Refines house w (v .protocol)
+  pub merger : MergerIs house (w .merger) (w .queues) (v .merger)
   pub merged : (s : ℕ) → w .merged s ≡ v .merger .took s
-  pub placed : All (Placed sites) (v .merger .out)
-  pub emitted : w .stream ≡ map (itemWords sites) (v .merger .out)
+  pub placed : All (Placed house) (v .merger .out)
+  pub emitted : w .stream ≡ map (itemWords (house .sites)) (v .merger .out)
   pub replayed : (c : ℕ) → w .replayed c ≡ v .replayed c
-  pub copy : (c : ℕ) → CopyIs sites (w .copy c) (take (v .replayed c) (v .merger .out))
+  pub copy : (c : ℕ) → CopyIs house (w .copy c) (take (v .replayed c) (v .merger .out))
 
 -- some steps on, which tell these facts, the machine is that of a world
-abbrev pub Onward : ℕ → Stream → World → List Fact → Type 0
-Onward sites v w fs = (u : Stream) × (ss : Steps sites v u) × (toldSteps ss ≡ fs) × StreamIs sites w u
+abbrev pub Onward : House → Stream → World → List Fact → Type 0
+Onward house v w fs = (u : Stream) × (ss : Steps house v u) × (toldSteps ss ≡ fs) × StreamIs house w u
 
-abbrev pub one-step : {sites : ℕ} {v u : Stream} → Step sites v u → Steps sites v u
+abbrev pub one-step : {house : House} {v u : Stream} → Step house v u → Steps house v u
 one-step s = stream.more stream.stop s
 
 -- A call of a site: moves, and nothing of the merger or the copies.
@@ -124,18 +125,18 @@ module _ (g : stream.Merger) (n : ℕ → ℕ) where
   abbrev beside : Protocol → Stream
   beside p = record { protocol = p; merger = g; replayed = n }
 
-  moved : {sites : ℕ} {p q : Protocol} → Moves sites p q → Steps sites (beside p) (beside q)
+  moved : {house : House} {p q : Protocol} → Moves house p q → Steps house (beside p) (beside q)
   moved stop = stream.stop
   moved (more ms m) = stream.more (moved ms) (stream.moves _ m)
 
-  told-moved : {sites : ℕ} {p q : Protocol} (ms : Moves sites p q) → toldSteps (moved ms) ≡ toldAll ms
+  told-moved : {house : House} {p q : Protocol} (ms : Moves house p q) → toldSteps (moved ms) ≡ toldAll ms
   unfolding moved
   told-moved stop = refl
   told-moved (more ms m) = ap (λ (l : List Fact). l ++ told m) (told-moved ms)
 
-pub site-onward : {sites : ℕ} {w x : World} {v : Stream} {fs : List Fact} → StreamIs sites w v → Follows sites (v .protocol) x fs
+pub site-onward : {house : House} {w x : World} {v : Stream} {fs : List Fact} → StreamIs house w v → Follows house (v .protocol) x fs
     → x .merger ≡ w .merger → x .queues ≡ w .queues → x .merged ≡ w .merged → x .stream ≡ w .stream → x .replayed ≡ w .replayed
-    → x .copy ≡ w .copy → Onward sites v x fs
+    → x .copy ≡ w .copy → Onward house v x fs
 site-onward {v = v} i (q, m, t, r) a b c d e f = (
   record { protocol = q; merger = v .merger; replayed = v .replayed },
   moved (v .merger) (v .replayed) m,

@@ -100,8 +100,9 @@ good-marks o h es g k =
 both : (a b : Bool) → every (a ∷ b ∷ []) ≡ true → (a ≡ true) × (b ≡ true)
 both a b e = (every-at (a ∷ b ∷ []) 0 e, every-at (a ∷ b ∷ []) 1 e)
 
-module _ {sites : ℕ} {w : World} {p : Protocol} (r : Refines sites w p) (i : Invariant sites p) (s a n : ℕ) (l : 1 ≤ s) (h : s ≤ sites)
-    (low : 1 ≤ a) (high : a ≤ sites)
+module _ {house : House} {w : World} {p : Protocol} (r : Refines house w p) (i : Invariant house p) (s a n : ℕ) (l : 1 ≤ s)
+    (h : s ≤ house .sites)
+    (low : 1 ≤ a) (high : a ≤ house .sites)
     (valid : siteOk (w .site s) ≡ true) where
   abbrev x : Site
   x = w .site s
@@ -109,11 +110,11 @@ module _ {sites : ℕ} {w : World} {p : Protocol} (r : Refines sites w p) (i : I
   abbrev lists : List ℕ
   lists = w .lists s
 
-  abbrev y : SiteIs sites s x (w .base s) lists (sliceOf p s)
+  abbrev y : SiteIs house s x (w .base s) lists (sliceOf p s)
   y = r .site s l h
 
   abbrev Tells : List Fact → Effect → Type 0
-  Tells fs e = Follows sites p (siteStep w s e (w .base s) (e .lent) .world) fs
+  Tells fs e = Follows house p (siteStep w s e (w .base s) (e .lent) .world) fs
 
   -- no JOIN: it may commit
   abbrev Goal : ℕ → Effect → Type 0
@@ -127,7 +128,7 @@ module _ {sites : ℕ} {w : World} {p : Protocol} (r : Refines sites w p) (i : I
 
   -- a step at a place, or its refusal
   taken-step : (t code place : ℕ) (c : Change)
-      → (code ≡ 0 → (q : Protocol) × Acts sites s p q (settle x place (c .turn)) (w .base s) lists (c .words) (book.commits t (c .answer)))
+      → (code ≡ 0 → (q : Protocol) × Acts house s p q (settle x place (c .turn)) (w .base s) lists (c .words) (book.commits t (c .answer)))
       → Goal t (keeping lists (stepUnless code x place c))
   taken-step t code place c f =
       by-code (λ e. Goal t (keeping lists e)) code x [] (changed x place c [])

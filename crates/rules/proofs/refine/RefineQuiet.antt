@@ -6,6 +6,7 @@ use mathlib.Core.List.{List, []}
 use native.Mathlib.Omega.{arith}
 use lib.Seq.{set-getD}
 use Rattle.kinds.specs.Sizes as sizes
+use Rattle.kinds.specs.declared.House.{House}
 use Rattle.kinds.specs.Stage as stage
 use Rattle.kinds.specs.declared.Course.{Course}
 use Rattle.kinds.specs.declared.Site.{Site}
@@ -27,15 +28,16 @@ pub reply-stage : (c : Course) (a r n : ℕ) → withReply c a r n .stage ≡ c 
 unfolding withReply
 reply-stage c a r n = refl
 
-module _ {sites : ℕ} (p : Protocol) (s a : ℕ) {x : Site} {base lists : List ℕ} (few : sites ≤ sizes.sites) (low : 1 ≤ a) (high : a ≤ sites)
-    (y : SiteIs sites s x base lists (sliceOf p s)) where
+module _ {house : House} (p : Protocol) (s a : ℕ) {x : Site} {base lists : List ℕ} (few : house .sites ≤ sizes.sites) (low : 1 ≤ a)
+    (high : a ≤ house .sites)
+    (y : SiteIs house s x base lists (sliceOf p s)) where
   -- the clock after a message, as both have it
   pub raised-clock : (n : ℕ) → upd (p .clock) s (max (p .clock s) n) s ≡ max (x .counters .clock) n
   raised-clock n = upd-same (p .clock) s (max (p .clock s) n) ∙ ap (λ (k : ℕ). max k n) (sym (y .counters .clock-is))
 
   -- For a transaction not held.
   pub pass-acts : (m : Msg) → Next p a s m
-      → Acts sites s p (raised (took p a s) s 0) (withChannels x (takenFrom (x .channels) a)) base lists [] []
+      → Acts house s p (raised (took p a s) s 0) (withChannels x (takenFrom (x .channels) a)) base lists [] []
   pass-acts m next =
       quiet-acts s a (passes a s 0 m next) (λ j n. upd-other (p .clock) s (max (p .clock s) 0) j n) refl (λ j n. refl) refl refl refl
       (λ t n. refl)
@@ -43,7 +45,7 @@ module _ {sites : ℕ} (p : Protocol) (s a : ℕ) {x : Site} {base lists : List 
 
   module _ {t : ℕ} (place : ℕ) (A : AtPlace x p s t place) where
     pub joined-acts : (r : ℕ) → Next p a s (mJoined t r) → AtStage p s t stage.active → isOutstanding (courseAt p s t) a ≡ true
-        → Acts sites s p (withCourseAt (took p a s) s t (withReply (courseAt p s t) a r 0))
+        → Acts house s p (withCourseAt (took p a s) s t (withReply (courseAt p s t) a r 0))
         (settle x place (quietly (withCourseOf (arrived x place a) (withReply (subAt x place .course) a r 0)) .turn)) base lists [] []
     unfolding settle arrived quietly
     joined-acts r next active out =
@@ -55,7 +57,7 @@ module _ {sites : ℕ} (p : Protocol) (s a : ℕ) {x : Site} {base lists : List 
         (λ z e. absurd (omega (arith, reply-stage (courseAt p s t) a r 0)))))
 
     pub commits-acts : (n : ℕ) → Next p a s (mCommit t n) → AtStage p s t stage.queued
-        → Acts sites s p (withCourseAt (raised (took p a s) s n) s t (withDecision (courseAt p s t) n))
+        → Acts house s p (withCourseAt (raised (took p a s) s n) s t (withDecision (courseAt p s t) n))
         (settle x place (quietly (withCourseOf (raise (arrived x place a) n) (withDecision (subAt x place .course) n)) .turn)) base
         lists [] []
     unfolding settle arrived quietly raise
@@ -68,7 +70,7 @@ module _ {sites : ℕ} (p : Protocol) (s a : ℕ) {x : Site} {base lists : List 
         (λ z e. absurd (omega (arith, decision-stage (courseAt p s t) n)))))
 
     pub aborts-acts : Next p a s (mAbort t) → (AtStage p s t stage.decided → ⊥)
-        → Acts sites s p (withLive (took p a s) s t noSub) (settle x place (quietly (withSubOf (arrived x place a) noSub) .turn)) base
+        → Acts house s p (withLive (took p a s) s t noSub) (settle x place (quietly (withSubOf (arrived x place a) noSub) .turn)) base
         lists [] []
     unfolding settle arrived quietly
     aborts-acts next n =
@@ -77,7 +79,7 @@ module _ {sites : ℕ} (p : Protocol) (s a : ℕ) {x : Site} {base lists : List 
 
     -- a yes, before the decision that the last one brings
     pub votes-acts : (n : ℕ) → Next p a s (mVote t n 0) → AtStage p s t stage.queued → isOutstanding (courseAt p s t) a ≡ true
-        → Acts sites s p (withCourseAt (raised (took p a s) s n) s t (withReply (courseAt p s t) a 0 0))
+        → Acts house s p (withCourseAt (raised (took p a s) s n) s t (withReply (courseAt p s t) a 0 0))
         (settle x place (withCourseOf (raise (arrived x place a) n) (withReply (subAt x place .course) a 0 0))) base lists [] []
     unfolding settle arrived raise
     votes-acts n next queued out =
@@ -90,7 +92,7 @@ module _ {sites : ℕ} (p : Protocol) (s a : ℕ) {x : Site} {base lists : List 
 
     -- any message, before an abort that it brings
     pub raised-acts : (n : ℕ) (m : Msg) → Next p a s m
-        → Acts sites s p (raised (took p a s) s n) (settle x place (raise (arrived x place a) n)) base lists [] []
+        → Acts house s p (raised (took p a s) s n) (settle x place (raise (arrived x place a) n)) base lists [] []
     unfolding settle arrived raise
     raised-acts n m next =
         quiet-acts s a (passes a s n m next) (λ j z. upd-other (p .clock) s (max (p .clock s) n) j z) refl (λ j z. refl) refl refl refl

@@ -15,6 +15,7 @@ use Rattle.laws.specs.Choice.{every-at, by-test}
 use Rattle.laws.specs.Cause.{cause, clear-at}
 use Rattle.laws.specs.Pair.{rank, precedes, precedes-rank}
 use Rattle.kinds.specs.Sizes as sizes
+use Rattle.kinds.specs.declared.House.{House}
 use Rattle.kinds.specs.Kind as kind
 use Rattle.kinds.specs.Reason as reason
 use Rattle.kinds.specs.Word as word
@@ -86,39 +87,39 @@ item-writes : (n : ℕ) (x : Item) → recordWrites (itemWords n x) ≡ itemWrit
 unfolding itemWords
 item-writes n x = writes-back (itemHead n x) (itemWrites n x)
 
-copy-more : {sites : ℕ} {copy : List ℕ} {l : List Item} (x : Item) → Placed sites x → CopyIs sites copy l
-    → CopyIs sites (replayed copy (itemWords sites x)) (l ++ (x ∷ []))
+copy-more : {house : House} {copy : List ℕ} {l : List Item} (x : Item) → Placed house x → CopyIs house copy l
+    → CopyIs house (replayed copy (itemWords (house .sites) x)) (l ++ (x ∷ []))
 unfolding replayed
-copy-more {sites} {copy} {l} x c i =
-    let n = writesIn (itemWrites sites x) in
+copy-more {house} {copy} {l} x c i =
+    let n = writesIn (itemWrites (house .sites) x) in
     let a = set copy word.lastNumber (x .number) in
     let b = set a word.lastCoordinator (coordinatorOf (x .tx)) in
     let e : length b ≡ sizes.copy = length-set a word.lastCoordinator (coordinatorOf (x .tx)) ∙ length-set copy word.lastNumber (x .number)
     ∙ i .size in
     let f : length a ≡ sizes.copy = length-set copy word.lastNumber (x .number) ∙ i .size in
-    rw (item-head sites x, item-writes sites x)
+    rw (item-head (house .sites) x, item-writes (house .sites) x)
     (record {
-      size = length-put b (itemWrites sites x) n ∙ e;
+      size = length-put b (itemWrites (house .sites) x) n ∙ e;
       number =
-          put-header b (itemWrites sites x) n word.lastNumber (omega arith)
+          put-header b (itemWrites (house .sites) x) n word.lastNumber (omega arith)
           ∙ getD-set-other a word.lastCoordinator word.lastNumber (coordinatorOf (x .tx)) 0 (λ z. omega arith)
           ∙ getD-set-same copy word.lastNumber (x .number) 0 (omega (arith, i .size))
           ∙ sym (end-number 0 l x);
       coordinator =
-          put-header b (itemWrites sites x) n word.lastCoordinator (omega arith)
+          put-header b (itemWrites (house .sites) x) n word.lastCoordinator (omega arith)
           ∙ getD-set-same a word.lastCoordinator (coordinatorOf (x .tx)) 0 (omega arith)
           ∙ sym (end-coordinator 0 l x);
       value = λ k h.
           let v : copyValue b k ≡ copyValue copy k =
           getD-set-other a word.lastCoordinator (sizes.copyHeader + k) (coordinatorOf (x .tx)) 0 (λ z. omega arith)
           ∙ getD-set-other copy word.lastNumber (sizes.copyHeader + k) (x .number) 0 (λ z. omega arith) in
-          put-value b (itemWrites sites x) n k e h
-          ∙ ap (laid (itemWrites sites x) k n) (v ∙ i .value k h)
-          ∙ laid-item x c k h (leftIn (record { sites = sites }) k fresh l)
-          ∙ sym (left-more (record { sites = sites }) k fresh l x);
+          put-value b (itemWrites (house .sites) x) n k e h
+          ∙ ap (laid (itemWrites (house .sites) x) k n) (v ∙ i .value k h)
+          ∙ laid-item x c k h (leftIn house k fresh l)
+          ∙ sym (left-more house k fresh l x);
     })
 
-module _ {sites : ℕ} {w : World} {v : Stream} (x : StreamIs sites w v) (z : Standing sites v) where
+module _ {house : House} {w : World} {v : Stream} (x : StreamIs house w v) (z : Standing house v) where
   abbrev m : stream.Merger
   m = v .merger
 
@@ -127,7 +128,7 @@ module _ {sites : ℕ} {w : World} {v : Stream} (x : StreamIs sites w v) (z : St
     place : ℕ
     reached : place ≤ v .replayed c
     below : place < length (m .out)
-    words : ws ≡ itemWords sites (itemAt m place)
+    words : ws ≡ itemWords (house .sites) (itemAt m place)
     there : place < length (w .stream)
 
   kind-in : (s : ℕ) (r : Rec) → recordHead (recWords s r) .kind ≤ kind.state
@@ -150,7 +151,7 @@ module _ {sites : ℕ} {w : World} {v : Stream} (x : StreamIs sites w v) (z : St
           absurd (let y : recordHead ws .kind ≡ recordHead (recWords s r) .kind = ap (λ (l : List ℕ). recordHead l .kind) q in
           omega (arith, k, kind-in s r))
       go (inr (inr (i, a, b, q))) =
-          let (d, f) = map-at (itemWords sites) (m .out) pastItem i (rw (x .emitted) at b) in
+          let (d, f) = map-at (itemWords (house .sites)) (m .out) pastItem i (rw (x .emitted) at b) in
           record { place = i; reached = omega (arith, x .replayed c); below = d; words = sym q ∙ rw (x .emitted) f; there = b }
 
   -- the copy's last pair
@@ -167,7 +168,7 @@ module _ {sites : ℕ} {w : World} {v : Stream} (x : StreamIs sites w v) (z : St
     above : lastRank m (v .replayed c) < itemRank next
     above =
         let i = x .copy c in
-        let r : recordHead ws ≡ itemHead sites next = ap recordHead (f .words) ∙ item-head sites next in
+        let r : recordHead ws ≡ itemHead (house .sites) next = ap recordHead (f .words) ∙ item-head (house .sites) next in
         let a = rw (i .number, i .coordinator, r) at (t .above) in
         let b = precedes-rank (endNumber 0 (take (v .replayed c) (m .out))) (endCoordinator 0 (take (v .replayed c) (m .out)))
         (next .number) (coordinatorOf (next .tx))
@@ -188,24 +189,24 @@ module _ {sites : ℕ} {w : World} {v : Stream} (x : StreamIs sites w v) (z : St
         let n : w .replayed c ≡ f .place = x .replayed c ∙ sym is-next in
         let b : getD (w .stream) (f .place) [] ≡ ws =
         rw (x .emitted)
-        (map-at (itemWords sites) (m .out) pastItem (f .place) (omega (arith, length-map (m .out) (itemWords sites), f .below)) .1)
+        (map-at (itemWords (house .sites)) (m .out) pastItem (f .place) (omega (arith, length-map (m .out) (itemWords (house .sites)), f .below)) .1)
         ∙ sym (f .words) in
         rw (n, lt-ltb (f .place) (length (w .stream)) (f .there), b, words-same ws) (ap (λ (k : ℕ). k + 1) is-next)
 
     -- the copy with it
-    copied : CopyIs sites (replayed (w .copy c) ws) (take (v .replayed c + 1) (m .out))
+    copied : CopyIs house (replayed (w .copy c) ws) (take (v .replayed c + 1) (m .out))
     copied =
         let n = v .replayed c in
         let l : n < length (m .out) = omega (arith, f .below, is-next) in
-        let e : ws ≡ itemWords sites (itemAt m n) = f .words ∙ ap (λ (k : ℕ). itemWords sites (itemAt m k)) is-next in
+        let e : ws ≡ itemWords (house .sites) (itemAt m n) = f .words ∙ ap (λ (k : ℕ). itemWords (house .sites) (itemAt m k)) is-next in
         rw (e, add-one n, take-suc (m .out) n pastItem l) (copy-more (itemAt m n) (all-at (x .placed) pastItem n l) (x .copy c))
 
-  pub replay-onward : (c : ℕ) (ws : List ℕ) → Handed w (world.replay c ws) → Onward sites v (step w (world.replay c ws) .world) []
+  pub replay-onward : (c : ℕ) (ws : List ℕ) → Handed w (world.replay c ws) → Onward house v (step w (world.replay c ws) .world) []
   unfolding step replayStep copyStep stepTaken
   replay-onward c ws h = go (replay-cases (w .copy c) ws)
     where
       go : ((n : ℕ) × (replayOf (w .copy c) ws ≡ record { answer = Refused n; copy = w .copy c })) ⊎ Replays (w .copy c) ws
-          → Onward sites v (step w (world.replay c ws) .world) []
+          → Onward house v (step w (world.replay c ws) .world) []
       go (inl (n, e)) =
           let r = x .refines in
           rw e (
@@ -219,7 +220,7 @@ module _ {sites : ℕ} {w : World} {v : Stream} (x : StreamIs sites w v) (z : St
               placed = x .placed;
               emitted = x .emitted;
               replayed = upd-cases (λ j k. k ≡ v .replayed j) (w .replayed) c (w .replayed c) (x .replayed c) (λ j a. x .replayed j);
-              copy = upd-cases (λ j y. CopyIs sites y (take (v .replayed j) (m .out))) (w .copy) c (w .copy c) (x .copy c)
+              copy = upd-cases (λ j y. CopyIs house y (take (v .replayed j) (m .out))) (w .copy) c (w .copy c) (x .copy c)
                   (λ j a. x .copy j);
             },
           )
@@ -239,11 +240,11 @@ module _ {sites : ℕ} {w : World} {v : Stream} (x : StreamIs sites w v) (z : St
               emitted = x .emitted;
               replayed = upd-both (λ j a b. a ≡ b) (w .replayed) (v .replayed) c _ (v .replayed c + 1) (counted c ws t f)
                   (λ j a. x .replayed j);
-              copy = upd-both (λ j a b. CopyIs sites a (take b (m .out))) (w .copy) (v .replayed) c _ (v .replayed c + 1) (copied c ws t f)
+              copy = upd-both (λ j a b. CopyIs house a (take b (m .out))) (w .copy) (v .replayed) c _ (v .replayed c + 1) (copied c ws t f)
                   (λ j a. x .copy j);
             },
           )
 
   -- a call that leaves the world
-  pub stays-onward : Onward sites v w []
+  pub stays-onward : Onward house v w []
   stays-onward = (v, stream.stop, refl, x)

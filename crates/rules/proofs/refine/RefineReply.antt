@@ -9,6 +9,7 @@ use lib.Dec.{eqb}
 use lib.ListN.{length}
 use Rattle.laws.specs.Choice.{by-test}
 use Rattle.kinds.specs.Sizes as sizes
+use Rattle.kinds.specs.declared.House.{House}
 use Rattle.kinds.specs.Stage as stage
 use Rattle.kinds.specs.Reason as reason
 use Rattle.kinds.specs.Kind as kind
@@ -49,15 +50,15 @@ abbrev pub spokenSite : Site → Change → Site
 spokenSite x c =
     record { house = x .house; counters = c .turn .counters; channels = c .turn .channels; live = x .live; history = x .history }
 
-module _ {sites : ℕ} (p : Protocol) (s a t : ℕ) {x : Site} {base lists : List ℕ} (few : sites ≤ sizes.sites) (low : 1 ≤ a)
-    (high : a ≤ sites)
-    (y : SiteIs sites s x base lists (sliceOf p s)) where
+module _ {house : House} (p : Protocol) (s a t : ℕ) {x : Site} {base lists : List ℕ} (few : house .sites ≤ sizes.sites) (low : 1 ≤ a)
+    (high : a ≤ house .sites)
+    (y : SiteIs house s x base lists (sliceOf p s)) where
   -- JOIN: the part begins, or is answered 12.
   abbrev begins : ℕ → Change
   begins d = sendTo (namedTurn x a t d) kind.joined a 0 0 []
 
   pub joins-acts : (d free : ℕ) → Spot (x .live) free t → Next p a s (mJoin t d) → IsFree (p .live s t)
-      → (q : Protocol) × Acts sites s p q (settle x free (begins d .turn)) base lists (begins d .words) (book.began s t ∷ [])
+      → (q : Protocol) × Acts house s p q (settle x free (begins d .turn)) base lists (begins d .words) (book.began s t ∷ [])
   unfolding settle sendTo
   joins-acts d free spot next gone =
       let m = mJoined t 0 in
@@ -74,7 +75,7 @@ module _ {sites : ℕ} (p : Protocol) (s a t : ℕ) {x : Site} {base lists : Lis
 
   pub full-acts : (d r : ℕ) → (r ≡ 0 → ⊥) → Next p a s (mJoin t d)
       → (let c = sendTo (namedTurn x a t d) kind.joined a 0 r [] in
-      (q : Protocol) × Acts sites s p q (spokenSite x c) base lists (c .words) [])
+      (q : Protocol) × Acts house s p q (spokenSite x c) base lists (c .words) [])
   unfolding sendTo
   full-acts d r some next =
       let m = mJoined t r in (
@@ -87,7 +88,7 @@ module _ {sites : ℕ} (p : Protocol) (s a t : ℕ) {x : Site} {base lists : Lis
   -- PREPARE for a transaction not held: voted no.
   pub unknown-acts : (d n mask r : ℕ) → (r ≡ 0 → ⊥) → Next p a s (mPrepare t n mask) → IsFree (p .live s t)
       → (let u = raise (namedTurn x a t d) n in let c = sendTo u kind.vote a (u .counters .clock) r [] in
-      (q : Protocol) × Acts sites s p q (spokenSite x c) base lists (c .words) [])
+      (q : Protocol) × Acts house s p q (spokenSite x c) base lists (c .words) [])
   unfolding sendTo raise
   unknown-acts d n mask r some next gone =
       let m = mVote t (max (p .clock s) n) r in
@@ -110,7 +111,7 @@ module _ {sites : ℕ} (p : Protocol) (s a t : ℕ) {x : Site} {base lists : Lis
     prepared-one : (n mask : ℕ) (es : List ℕ) → Next p a s (mPrepare t n mask) → AtStage p s t stage.active → (coordinatorOf t ≡ s → ⊥)
         → Covers p s t es
         → (let c = sendTo (withCourseOf (raisedTurn n) (withStage (raisedTurn n .sub .course) mask stage.prepared)) kind.conc a 0 0 es in
-        (q : Protocol) × Acts sites s p q (settle x place (c .turn)) base lists (c .words) [])
+        (q : Protocol) × Acts house s p q (settle x place (c .turn)) base lists (c .words) [])
     unfolding settle sendTo raise arrived
     prepared-one n mask es next active apart covers =
         let m = mConc t es in
@@ -128,7 +129,7 @@ module _ {sites : ℕ} (p : Protocol) (s a t : ℕ) {x : Site} {base lists : Lis
     lost-one : (n mask r : ℕ) → (r ≡ 0 → ⊥) → Next p a s (mPrepare t n mask) → AtStage p s t stage.active
         → (let c = sendTo (withCourseOf (raisedTurn n) (withStage (raisedTurn n .sub .course) mask stage.rejected)) kind.vote a
         (raisedTurn n .counters .clock) r [] in
-        (q : Protocol) × Acts sites s p q (settle x place (c .turn)) base lists (c .words) [])
+        (q : Protocol) × Acts house s p q (settle x place (c .turn)) base lists (c .words) [])
     unfolding settle sendTo raise arrived
     lost-one n mask r some next active =
         let m = mVote t (max (p .clock s) n) r in
@@ -149,7 +150,7 @@ module _ {sites : ℕ} (p : Protocol) (s a t : ℕ) {x : Site} {base lists : Lis
         → (coordinatorOf t ≡ s → ⊥)
         → (gone ≡ false → Covers p s t es)
         → (let c = preparedStep (raisedTurn n) a mask gone es in
-        (q : Protocol) × Acts sites s p q (settle x place (c .turn)) base lists (c .words) (book.commits t (c .answer)))
+        (q : Protocol) × Acts house s p q (settle x place (c .turn)) base lists (c .words) (book.commits t (c .answer)))
     unfolding preparedStep sendTo
     prepared-acts n mask gone es next active apart covers =
         by-test gone
@@ -160,7 +161,7 @@ module _ {sites : ℕ} (p : Protocol) (s a t : ℕ) {x : Site} {base lists : Lis
     yes-one : (es : List ℕ) → Next p a s (mCert t es) → AtStage p s t stage.prepared → Certified p s t es
         → (let u = arrived x place a in
         let c = sendTo (withCourseOf u (withQueueMark (u .sub .course) (u .counters .clock))) kind.vote a (u .counters .clock) 0 [] in
-        (q : Protocol) × Acts sites s p q (settle x place (c .turn)) base lists (c .words) [])
+        (q : Protocol) × Acts house s p q (settle x place (c .turn)) base lists (c .words) [])
     unfolding settle sendTo arrived
     yes-one es next g v =
         let m = mVote t (p .clock s) 0 in
@@ -182,7 +183,7 @@ module _ {sites : ℕ} (p : Protocol) (s a t : ℕ) {x : Site} {base lists : Lis
         → (let u = arrived x place a in
         let c = sendTo (withCourseOf u (withStage (u .sub .course) (u .sub .course .mask) stage.rejected)) kind.vote a
         (u .counters .clock) r [] in
-        (q : Protocol) × Acts sites s p q (settle x place (c .turn)) base lists (c .words) [])
+        (q : Protocol) × Acts house s p q (settle x place (c .turn)) base lists (c .words) [])
     unfolding settle sendTo arrived
     no-one es r some next g =
         let m = mVote t (p .clock s) r in
@@ -202,7 +203,7 @@ module _ {sites : ℕ} (p : Protocol) (s a t : ℕ) {x : Site} {base lists : Lis
 
     pub certified-acts : (es : List ℕ) (v : ℕ) → Next p a s (mCert t es) → AtStage p s t stage.prepared → (v ≡ 0 → Certified p s t es)
         → (let c = certifiedStep (arrived x place a) a v in
-        (q : Protocol) × Acts sites s p q (settle x place (c .turn)) base lists (c .words) (book.commits t (c .answer)))
+        (q : Protocol) × Acts house s p q (settle x place (c .turn)) base lists (c .words) (book.commits t (c .answer)))
     unfolding certifiedStep sendTo
     certified-acts es v next g f =
         by-test (eqb v 0)

@@ -7,6 +7,7 @@ use native.Mathlib.Omega.{arith}
 use lib.ListN.{length}
 use Rattle.laws.specs.Overlay.{putAt}
 use Rattle.kinds.specs.Sizes as sizes
+use Rattle.kinds.specs.declared.House.{House}
 use Rattle.kinds.specs.Stage as stage
 use Rattle.kinds.specs.Kind as kind
 use Rattle.kinds.specs.declared.Snapshot.{Snapshot}
@@ -78,9 +79,10 @@ request-listed c n = refl
 pub listed-few : (x : Site) → siteOk x ≡ true → (j : ℕ) → j < sizes.live → partAt (x .live) j .course .listed ≤ sizes.certEntries
 listed-few x v j h = let c = valid-site x v .part j h .course in omega (arith, c .listed, c .heard-few)
 
-module _ {sites s t place : ℕ} {x : Site} {base lists : List ℕ} {p : Protocol} (few : sites ≤ sizes.sites) (i : Invariant sites p)
+module _ {house : House} {s t place : ℕ} {x : Site} {base lists : List ℕ} {p : Protocol} (few : house .sites ≤ sizes.sites)
+    (i : Invariant house p)
     (e : coordinatorOf t ≡ s)
-    (y : SiteIs sites s x base lists (sliceOf p s)) (a : AtPlace x p s t place) (valid : siteOk x ≡ true) where
+    (y : SiteIs house s x base lists (sliceOf p s)) (a : AtPlace x p s t place) (valid : siteOk x ≡ true) where
   abbrev own : List ℕ
   own = concurrent x place
 
@@ -102,7 +104,7 @@ module _ {sites s t place : ℕ} {x : Site} {base lists : List ℕ} {p : Protoco
   part-is : withCourse (subAt x place) asked ≡ part
   part-is = rw (a .part)
 
-  request-site : SiteIs sites s (withSub x place (withCourse (subAt x place) asked)) base made-lists
+  request-site : SiteIs house s (withSub x place (withCourse (subAt x place) asked)) base made-lists
       (record {
         clock = p .clock s;
         serial = p .serial s;
@@ -116,7 +118,7 @@ module _ {sites s t place : ℕ} {x : Site} {base lists : List ℕ} {p : Protoco
       let l = list-first lists place part own (y .lists .size) (a .spot .low)
       (concurrent-whole x place ∙ ap (λ (n : ℕ). sizes.entry * n) (sym (request-listed (courseAt p s t) count))) (concurrent-low x place) in
       record {
-        house = y .house;
+        house-is = y .house-is;
         counters = y .counters;
         channels = y .channels;
         live = rw (part-is, row-same (p .live) s t part) (live-set (y .live) place t part (a .spot) (λ f. (a .tx, a .sized)));
@@ -159,12 +161,12 @@ module _ {sites s t place : ℕ} {x : Site} {base lists : List ℕ} {p : Protoco
         gathered = λ k o. upd-other (p .gathered) t own k (λ z. o (ap coordinatorOf z ∙ e));
       }
 
-  requests : Ready → Moves sites p (requestAt p s t own)
+  requests : Ready → Moves house p (requestAt p s t own)
   requests c = more stop (request s t own e (c .active) (c .heard) (c .joined) (covers y (i .parts) a (c .kept)))
 
   -- with PREPARE to the others
   pub prepare-acts : Ready
-      → Acts sites s p (requestAt p s t own) (settle x place (prepareStep turn .turn)) base made-lists (prepareStep turn .words)
+      → Acts house s p (requestAt p s t own) (settle x place (prepareStep turn .turn)) base made-lists (prepareStep turn .words)
       (book.commits t (prepareStep turn .answer))
   unfolding settle turnAt sendAll requests
   prepare-acts c =
@@ -185,7 +187,7 @@ module _ {sites s t place : ℕ} {x : Site} {base lists : List ℕ} {p : Protoco
 
   -- alone
   pub lone-request-acts : Ready → ((r : ℕ) → In (courseAt p s t .mask) r → (r ≡ s → ⊥) → ⊥)
-      → Acts sites s p (requestAt p s t own) (settle x place turn) base made-lists [] []
+      → Acts house s p (requestAt p s t own) (settle x place turn) base made-lists [] []
   unfolding settle turnAt requests
   lone-request-acts c alone =
       let same = others-lone (p .post) s (courseAt p s t .mask) message alone in
@@ -227,14 +229,14 @@ unfolding withRequest
 request-all s c n h = h
 
 -- Alone it votes on its list at once.
-module _ {sites s t place : ℕ} {x : Site} {base lists : List ℕ} {p : Protocol} (few : sites ≤ sizes.sites) (low : 1 ≤ s)
-    (i : Invariant sites p) (e : coordinatorOf t ≡ s)
-    (y : SiteIs sites s x base lists (sliceOf p s)) (a : AtPlace x p s t place) (valid : siteOk x ≡ true) where
+module _ {house : House} {s t place : ℕ} {x : Site} {base lists : List ℕ} {p : Protocol} (few : house .sites ≤ sizes.sites) (low : 1 ≤ s)
+    (i : Invariant house p) (e : coordinatorOf t ≡ s)
+    (y : SiteIs house s x base lists (sliceOf p s)) (a : AtPlace x p s t place) (valid : siteOk x ≡ true) where
   pub lone-commit-acts : Ready few i e y a valid → allHeard s 0 (courseAt p s t .mask) ≡ true
       → (let own = concurrent x place in let es = joined own (entryCount own) in
       let c = castStep (turn few i e y a valid) (voteOf x place es (entryCount es)) es in
       (q : Protocol)
-      × Acts sites s p q (settle x place (c .turn)) base (putAt (sizes.gathered * place) lists own) (c .words)
+      × Acts house s p q (settle x place (c .turn)) base (putAt (sizes.gathered * place) lists own) (c .words)
       (book.commits t (c .answer)))
   lone-commit-acts c h =
       let own = concurrent x place in

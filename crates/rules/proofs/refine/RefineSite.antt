@@ -9,6 +9,7 @@ use lib.ListN.{length, getD, length-append, length-set}
 use lib.Seq.{getD-set-same, getD-set-other}
 use Rattle.laws.specs.Choice.{pick, by-same}
 use Rattle.kinds.specs.Sizes as sizes
+use Rattle.kinds.specs.declared.House.{House}
 use Rattle.kinds.specs.Stage as stage
 use Rattle.kinds.specs.declared.Sub.{Sub}
 use Rattle.kinds.specs.declared.Site.{Site}
@@ -60,17 +61,18 @@ taken-in v x =
     record { clock = v .clock; serial = v .serial; live = v .live; gathered = v .gathered; post = v .post; taken = x; log = v .log }
 
 -- Channels.
-pub channels-sent : {sites : ℕ} {c : Channels} {post : ℕ → List Msg} {taken : ℕ → ℕ} (sent : List ℕ) (new : ℕ → List Msg)
+pub channels-sent : {house : House} {c : Channels} {post : ℕ → List Msg} {taken : ℕ → ℕ} (sent : List ℕ) (new : ℕ → List Msg)
     → length sent ≡ sizes.sites
-    → ((r : ℕ) → 1 ≤ r → r ≤ sites → getD sent (r - 1) 0 ≡ length (new r))
-    → ChannelsAre sites c post taken → ChannelsAre sites (record { sent = sent; taken = c .taken }) new taken
+    → ((r : ℕ) → 1 ≤ r → r ≤ house .sites → getD sent (r - 1) 0 ≡ length (new r))
+    → ChannelsAre house c post taken → ChannelsAre house (record { sent = sent; taken = c .taken }) new taken
 channels-sent sent new e f x = record { sent-size = e; taken-size = x .taken-size; sent-is = f; taken-is = x .taken-is }
 
 -- one message more to site b
-pub channels-one : {sites : ℕ} {c : Channels} {taken : ℕ → ℕ} (post : ℕ → ℕ → List Msg) (a b : ℕ) (m : Msg) → sites ≤ sizes.sites → 1 ≤ b
-    → b ≤ sites
-    → ChannelsAre sites c (post a) taken → ChannelsAre sites (sentTo c b) (upd₂ post a b (post a b ++ (m ∷ [])) a) taken
-channels-one {sites} {c} {taken} post a b m few l h x =
+pub channels-one : {house : House} {c : Channels} {taken : ℕ → ℕ} (post : ℕ → ℕ → List Msg) (a b : ℕ) (m : Msg)
+    → house .sites ≤ sizes.sites → 1 ≤ b
+    → b ≤ house .sites
+    → ChannelsAre house c (post a) taken → ChannelsAre house (sentTo c b) (upd₂ post a b (post a b ++ (m ∷ [])) a) taken
+channels-one {house} {c} {taken} post a b m few l h x =
     channels-sent (stepCount (c .sent) (b - 1)) (upd₂ post a b (post a b ++ (m ∷ [])) a)
     (length-set (c .sent) (b - 1) (getD (c .sent) (b - 1) 0 + 1) ∙ x .sent-size)
     (λ r k n. by-same r b
@@ -97,10 +99,11 @@ picked-length : (b : Bool) (l : List Msg) (m : Msg) → length (pick b (l ++ (m 
 picked-length true l m = length-append l (m ∷ [])
 picked-length false l m = refl
 
-pub channels-all : {sites : ℕ} {c : Channels} {taken : ℕ → ℕ} (post : ℕ → ℕ → List Msg) (a mask : ℕ) (m : Msg) → sites ≤ sizes.sites
-    → ChannelsAre sites c (post a) taken
-    → ChannelsAre sites (record { sent = stepRecipients (c .sent) mask a sizes.sites; taken = c .taken }) (others post a mask m a) taken
-channels-all {sites} {c} {taken} post a mask m few x =
+pub channels-all : {house : House} {c : Channels} {taken : ℕ → ℕ} (post : ℕ → ℕ → List Msg) (a mask : ℕ) (m : Msg)
+    → house .sites ≤ sizes.sites
+    → ChannelsAre house c (post a) taken
+    → ChannelsAre house (record { sent = stepRecipients (c .sent) mask a sizes.sites; taken = c .taken }) (others post a mask m a) taken
+channels-all {house} {c} {taken} post a mask m few x =
     channels-sent (stepRecipients (c .sent) mask a sizes.sites) (others post a mask m a)
     (length-steps (c .sent) mask a sizes.sites ∙ x .sent-size)
     (λ r k n. rw (others-row post a mask m r k)
@@ -109,10 +112,10 @@ channels-all {sites} {c} {taken} post a mask m few x =
     x
 
 -- one message more taken from site a
-pub channels-taken : {sites : ℕ} {c : Channels} {post : ℕ → List Msg} (taken : ℕ → ℕ → ℕ) (a b : ℕ) → sites ≤ sizes.sites → 1 ≤ a
-    → a ≤ sites
-    → ChannelsAre sites c post (λ r. taken r b) → ChannelsAre sites (takenFrom c a) post (λ r. upd₂ taken a b (taken a b + 1) r b)
-channels-taken {sites} {c} {post} taken a b few l h x =
+pub channels-taken : {house : House} {c : Channels} {post : ℕ → List Msg} (taken : ℕ → ℕ → ℕ) (a b : ℕ) → house .sites ≤ sizes.sites → 1 ≤ a
+    → a ≤ house .sites
+    → ChannelsAre house c post (λ r. taken r b) → ChannelsAre house (takenFrom c a) post (λ r. upd₂ taken a b (taken a b + 1) r b)
+channels-taken {house} {c} {post} taken a b few l h x =
     record {
       sent-size = x .sent-size;
       taken-size = length-set (c .taken) (a - 1) (getD (c .taken) (a - 1) 0 + 1) ∙ x .taken-size;
@@ -129,14 +132,14 @@ channels-taken {sites} {c} {post} taken a b few l h x =
     old r = upd₂-cases (λ i j y. (i ≡ a → ⊥) → y ≡ taken i j) taken a b _ (λ n. absurd (n refl)) (λ i j o n. refl) r b
 
 -- The site with one of its parts changed.
-module _ {sites own : ℕ} {s : Site} {base words : List ℕ} {v : Slice} (x : SiteIs sites own s base words v) where
+module _ {house : House} {own : ℕ} {s : Site} {base words : List ℕ} {v : Slice} (x : SiteIs house own s base words v) where
   -- the part at place i, where that is none whose entries the site gathers
   pub site-sub : {row : ℕ → Sub} (i t : ℕ) (b : Sub) → Spot (s .live) i t → ((IsFree b → ⊥) → (b .tx ≡ t) × Sized (b .keys))
       → (b .course .stage ≡ stage.prepared → coordinatorOf (b .tx) ≡ own → ⊥) → row ≡ upd (v .live) t b
-      → SiteIs sites own (withSub s i b) base words (live-in v row)
+      → SiteIs house own (withSub s i b) base words (live-in v row)
   site-sub i t b p q n e =
       record {
-        house = x .house;
+        house-is = x .house-is;
         counters = x .counters;
         channels = x .channels;
         live = rw e (live-set (x .live) i t b p q);
@@ -145,10 +148,10 @@ module _ {sites own : ℕ} {s : Site} {base words : List ℕ} {v : Slice} (x : S
         base-size = x .base-size;
       }
 
-  pub site-clock : {m : ℕ} (n : ℕ) → m ≡ n → SiteIs sites own (withCounters s (withClock (s .counters) n)) base words (clock-in v m)
+  pub site-clock : {m : ℕ} (n : ℕ) → m ≡ n → SiteIs house own (withCounters s (withClock (s .counters) n)) base words (clock-in v m)
   site-clock n e =
       record {
-        house = x .house;
+        house-is = x .house-is;
         counters =
             record {
               own-is = x .counters .own-is;
@@ -163,10 +166,10 @@ module _ {sites own : ℕ} {s : Site} {base words : List ℕ} {v : Slice} (x : S
         base-size = x .base-size;
       }
 
-  pub site-serial : {m : ℕ} (n : ℕ) → m ≡ n → SiteIs sites own (withCounters s (withSerial (s .counters) n)) base words (serial-in v m)
+  pub site-serial : {m : ℕ} (n : ℕ) → m ≡ n → SiteIs house own (withCounters s (withSerial (s .counters) n)) base words (serial-in v m)
   site-serial n e =
       record {
-        house = x .house;
+        house-is = x .house-is;
         counters =
             record {
               own-is = x .counters .own-is;
@@ -181,11 +184,11 @@ module _ {sites own : ℕ} {s : Site} {base words : List ℕ} {v : Slice} (x : S
         base-size = x .base-size;
       }
 
-  pub site-channels : (c : Channels) (post : ℕ → List Msg) (taken : ℕ → ℕ) → ChannelsAre sites c post taken
-      → SiteIs sites own (withChannels s c) base words (taken-in (post-in v post) taken)
+  pub site-channels : (c : Channels) (post : ℕ → List Msg) (taken : ℕ → ℕ) → ChannelsAre house c post taken
+      → SiteIs house own (withChannels s c) base words (taken-in (post-in v post) taken)
   site-channels c post taken k =
       record {
-        house = x .house;
+        house-is = x .house-is;
         counters = x .counters;
         channels = k;
         live = x .live;

@@ -7,6 +7,7 @@ use native.Mathlib.Omega.{arith}
 use borrow.Author.Tests.{eqb-true, leb-true, leb-false}
 use lib.Dec.{eqb, leb}
 use lib.ListN.{length-append, List·getD-append}
+use Rattle.kinds.specs.declared.House.{House}
 use Rattle.laws.specs.Choice.{by-test, set-not}
 use Rattle.kinds.specs.declared.Site.{Site}
 use Rattle.kinds.specs.declared.Answer.{Answer}
@@ -23,8 +24,8 @@ use Rattle.rules.proofs.book.Told.{toldAll}
 use Rattle.rules.proofs.refine.Refines.{Posted, encode, recWords, sliceOf, SiteIs, Refines}
 
 -- the protocol makes some moves, or none, which tell these facts, and the world is then that of its tables
-abbrev pub Follows : ℕ → Protocol → World → List Fact → Type 0
-Follows sites p w fs = (q : Protocol) × (m : Moves sites p q) × (toldAll m ≡ fs) × Refines sites w q
+abbrev pub Follows : House → Protocol → World → List Fact → Type 0
+Follows house p w fs = (q : Protocol) × (m : Moves house p q) × (toldAll m ≡ fs) × Refines house w q
 
 -- what a call tells of the protocol: all that the book notes, but for replays, which the protocol does not know
 abbrev pub toldBy : Call → Answer → List ℕ → List Fact
@@ -78,11 +79,11 @@ pub record Elsewhere (s : ℕ) (p q : Protocol) : Type 0 where
   pub log : (j : ℕ) → (j ≡ s → ⊥) → q .log j ≡ p .log j
   pub gathered : (t : ℕ) → (coordinatorOf t ≡ s → ⊥) → q .gathered t ≡ p .gathered t
 
-pub site-elsewhere : {sites j : ℕ} {x : Site} {base lists : List ℕ} {p q : Protocol} (s : ℕ) → (j ≡ s → ⊥) → Elsewhere s p q
-    → SiteIs sites j x base lists (sliceOf p j) → SiteIs sites j x base lists (sliceOf q j)
+pub site-elsewhere : {house : House} {j : ℕ} {x : Site} {base lists : List ℕ} {p q : Protocol} (s : ℕ) → (j ≡ s → ⊥) → Elsewhere s p q
+    → SiteIs house j x base lists (sliceOf p j) → SiteIs house j x base lists (sliceOf q j)
 site-elsewhere {j = j} s n e r =
     record {
-      house = r .house;
+      house-is = r .house-is;
       counters = rw (e .clock j n, e .serial j n, e .log j n) (r .counters);
       channels =
           record {
@@ -101,29 +102,29 @@ site-elsewhere {j = j} s n e r =
       base-size = r .base-size;
     }
 
-module _ {sites : ℕ} {w : World} {p : Protocol} (r : Refines sites w p) (s : ℕ) where
+module _ {house : House} {w : World} {p : Protocol} (r : Refines house w p) (s : ℕ) where
   -- a valid site is one of the house
-  pub inside : siteOk (w .site s) ≡ true → (1 ≤ s) × (s ≤ sites)
+  pub inside : siteOk (w .site s) ≡ true → (1 ≤ s) × (s ≤ house .sites)
   inside v =
-      let no : ((1 ≤ s) × (s ≤ sites) → ⊥) → ⊥ = λ n. set-not _ v (r .outside s n) in
+      let no : ((1 ≤ s) × (s ≤ house .sites) → ⊥) → ⊥ = λ n. set-not _ v (r .outside s n) in
       by-test (leb 1 s)
-      (λ a. by-test (leb s sites)
-      (λ b. (leb-true 1 s a, leb-true s sites b))
-      (λ b. absurd (no (λ z. omega (arith, leb-false s sites b)))))
+      (λ a. by-test (leb s (house .sites))
+      (λ b. (leb-true 1 s a, leb-true s (house .sites) b))
+      (λ b. absurd (no (λ z. omega (arith, leb-false s (house .sites) b)))))
       (λ a. absurd (no (λ z. omega (arith, leb-false 1 s a))))
 
   -- A call that leaves everything as it was.
   pub unchanged : (e : Effect) (base lists : List ℕ) → e .site ≡ w .site s → e .words ≡ [] → base ≡ w .base s → lists ≡ w .lists s
-      → Refines sites (siteStep w s e base lists .world) p
+      → Refines house (siteStep w s e base lists .world) p
   unfolding siteStep messagesIn splitWords
   unchanged e base lists a b c d =
       record {
         few = r .few;
         site =
-            upd-three (λ j x y z. 1 ≤ j → j ≤ sites → SiteIs sites j x y z (sliceOf p j)) (w .site) (w .base) (w .lists) s
+            upd-three (λ j x y z. 1 ≤ j → j ≤ house .sites → SiteIs house j x y z (sliceOf p j)) (w .site) (w .base) (w .lists) s
             (e .site) base lists
             (rw (a, c, d) (r .site s)) (λ j n. r .site j);
-        outside = upd-cases (λ j x. ((1 ≤ j) × (j ≤ sites) → ⊥) → siteOk x ≡ false) (w .site) s (e .site) (rw a (r .outside s))
+        outside = upd-cases (λ j x. ((1 ≤ j) × (j ≤ house .sites) → ⊥) → siteOk x ≡ false) (w .site) s (e .site) (rw a (r .outside s))
             (λ j n. r .outside j);
         sent = rw (b, append-nil) (r .sent);
         log = r .log;
@@ -131,20 +132,20 @@ module _ {sites : ℕ} {w : World} {p : Protocol} (r : Refines sites w p) (s : �
       }
 
   -- so the protocol makes no move
-  pub stays : (e : Effect) → e .site ≡ w .site s → e .words ≡ [] → Follows sites p (siteStep w s e (w .base s) (w .lists s) .world) []
+  pub stays : (e : Effect) → e .site ≡ w .site s → e .words ≡ [] → Follows house p (siteStep w s e (w .base s) (w .lists s) .world) []
   stays e a b = (p, stop, refl, unchanged e (w .base s) (w .lists s) a b refl refl)
 
   pub unlogged : (e : Effect) (base : List ℕ) → e .site ≡ w .site s → e .words ≡ [] → base ≡ w .base s
-      → Refines sites (logStep w s e base .world) p
+      → Refines house (logStep w s e base .world) p
   unfolding logStep
   unlogged e base a b c =
       record {
         few = r .few;
         site =
-            upd-three (λ j x y z. 1 ≤ j → j ≤ sites → SiteIs sites j x y (w .lists j) (sliceOf p j)) (w .site) (w .base) (w .lists) s
+            upd-three (λ j x y z. 1 ≤ j → j ≤ house .sites → SiteIs house j x y (w .lists j) (sliceOf p j)) (w .site) (w .base) (w .lists) s
             (e .site) base (w .lists s)
             (rw (a, c) (r .site s)) (λ j n. r .site j);
-        outside = upd-cases (λ j x. ((1 ≤ j) × (j ≤ sites) → ⊥) → siteOk x ≡ false) (w .site) s (e .site) (rw a (r .outside s))
+        outside = upd-cases (λ j x. ((1 ≤ j) × (j ≤ house .sites) → ⊥) → siteOk x ≡ false) (w .site) s (e .site) (rw a (r .outside s))
             (λ j n. r .outside j);
         sent = r .sent;
         log = upd-cases (λ j x. x ≡ map (recWords j) (p .log j)) (w .log) s _ (rw (b, append-nil) (r .log s)) (λ j n. r .log j);
@@ -152,19 +153,19 @@ module _ {sites : ℕ} {w : World} {p : Protocol} (r : Refines sites w p) (s : �
       }
 
   -- A call that changes its site, and sends what it wrote.
-  module _ {q : Protocol} (l : 1 ≤ s) (h : s ≤ sites) (o : Elsewhere s p q) (e : Effect) where
-    pub site-step : (base lists : List ℕ) → SiteIs sites s (e .site) base lists (sliceOf q s) → Grows (p .post) (q .post)
+  module _ {q : Protocol} (l : 1 ≤ s) (h : s ≤ house .sites) (o : Elsewhere s p q) (e : Effect) where
+    pub site-step : (base lists : List ℕ) → SiteIs house s (e .site) base lists (sliceOf q s) → Grows (p .post) (q .post)
         → ((j : ℕ) → q .log j ≡ p .log j)
-        → All (Posted (q .post)) (messagesIn (e .words)) → Refines sites (siteStep w s e base lists .world) q
+        → All (Posted (q .post)) (messagesIn (e .words)) → Refines house (siteStep w s e base lists .world) q
     unfolding siteStep
     site-step base lists x g k m =
         record {
           few = r .few;
           site =
-              upd-three (λ j x y z. 1 ≤ j → j ≤ sites → SiteIs sites j x y z (sliceOf q j)) (w .site) (w .base) (w .lists) s
+              upd-three (λ j x y z. 1 ≤ j → j ≤ house .sites → SiteIs house j x y z (sliceOf q j)) (w .site) (w .base) (w .lists) s
               (e .site) base lists
               (λ a b. x) (λ j n a b. site-elsewhere s n o (r .site j a b));
-          outside = upd-cases (λ j x. ((1 ≤ j) × (j ≤ sites) → ⊥) → siteOk x ≡ false) (w .site) s (e .site) (λ z. absurd (z (l, h)))
+          outside = upd-cases (λ j x. ((1 ≤ j) × (j ≤ house .sites) → ⊥) → siteOk x ≡ false) (w .site) s (e .site) (λ z. absurd (z (l, h)))
               (λ j n. r .outside j);
           sent = all-append (all-map (posted-still (p .post) (q .post) g) (r .sent)) m;
           log = λ j. rw (k j) (r .log j);
@@ -172,17 +173,18 @@ module _ {sites : ℕ} {w : World} {p : Protocol} (r : Refines sites w p) (s : �
         }
 
     -- A call that changes its site, and writes its log.
-    pub log-step : (base : List ℕ) → SiteIs sites s (e .site) base (w .lists s) (sliceOf q s) → ((a b : ℕ) → q .post a b ≡ p .post a b)
-        → w .log s ++ recordIn (e .words) ≡ map (recWords s) (q .log s) → Refines sites (logStep w s e base .world) q
+    pub log-step : (base : List ℕ) → SiteIs house s (e .site) base (w .lists s) (sliceOf q s) → ((a b : ℕ) → q .post a b ≡ p .post a b)
+        → w .log s ++ recordIn (e .words) ≡ map (recWords s) (q .log s) → Refines house (logStep w s e base .world) q
     unfolding logStep
     log-step base x g k =
         record {
           few = r .few;
           site =
-              upd-three (λ j x y z. 1 ≤ j → j ≤ sites → SiteIs sites j x y (w .lists j) (sliceOf q j)) (w .site) (w .base) (w .lists) s
+              upd-three (λ j x y z. 1 ≤ j → j ≤ house .sites → SiteIs house j x y (w .lists j) (sliceOf q j)) (w .site) (w .base)
+              (w .lists) s
               (e .site) base (w .lists s)
               (λ a b. x) (λ j n a b. site-elsewhere s n o (r .site j a b));
-          outside = upd-cases (λ j x. ((1 ≤ j) × (j ≤ sites) → ⊥) → siteOk x ≡ false) (w .site) s (e .site) (λ z. absurd (z (l, h)))
+          outside = upd-cases (λ j x. ((1 ≤ j) × (j ≤ house .sites) → ⊥) → siteOk x ≡ false) (w .site) s (e .site) (λ z. absurd (z (l, h)))
               (λ j n. r .outside j);
           sent = all-map (posted-still (p .post) (q .post) (λ a b. ([], g a b ∙ sym (append-nil (p .post a b))))) (r .sent);
           log = upd-cases (λ j x. x ≡ map (recWords j) (q .log j)) (w .log) s _ k (λ j n. rw (o .log j n) (r .log j));

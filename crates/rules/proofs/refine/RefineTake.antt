@@ -4,6 +4,7 @@ use mathlib.Core.Path.{_≡_, refl, ap, _∙_}
 use mathlib.Core.List.{List, [], _∷_, _++_}
 use lib.ListN.{getD}
 use Rattle.kinds.specs.Sizes as sizes
+use Rattle.kinds.specs.declared.House.{House}
 use Rattle.kinds.specs.declared.Sub.{Sub}
 use Rattle.kinds.specs.declared.Turn.{Turn}
 use Rattle.kinds.specs.declared.Site.{Site}
@@ -32,12 +33,13 @@ took-from p s a r = upd₂ (p .taken) a s (p .taken a s + 1) r s
 abbrev pub replied : Protocol → ℕ → ℕ → Msg → ℕ → List Msg
 replied p s a m = upd₂ (p .post) s a (p .post s a ++ (m ∷ [])) s
 
-module _ {sites : ℕ} (p : Protocol) (s a : ℕ) {x : Site} {base lists : List ℕ} (few : sites ≤ sizes.sites) (low : 1 ≤ a) (high : a ≤ sites)
-    (y : SiteIs sites s x base lists (sliceOf p s)) where
+module _ {house : House} (p : Protocol) (s a : ℕ) {x : Site} {base lists : List ℕ} (few : house .sites ≤ sizes.sites) (low : 1 ≤ a)
+    (high : a ≤ house .sites)
+    (y : SiteIs house s x base lists (sliceOf p s)) where
   -- the count stepped, and the clock n
   pub took-site : {clock : ℕ} {v : Site} {live : ℕ → Sub} (n : ℕ) → clock ≡ n → v .counters ≡ x .counters
-      → SiteIs sites s v base lists (slice-with (sliceOf p s) (p .clock s) live (p .post s) (λ r. p .taken r s))
-      → SiteIs sites s
+      → SiteIs house s v base lists (slice-with (sliceOf p s) (p .clock s) live (p .post s) (λ r. p .taken r s))
+      → SiteIs house s
       (record {
         house = v .house;
         counters = withClock (v .counters) n;
@@ -52,8 +54,8 @@ module _ {sites : ℕ} (p : Protocol) (s a : ℕ) {x : Site} {base lists : List 
 
   -- and a reply sent
   pub reply-site : {clock : ℕ} {v : Site} {live : ℕ → Sub} (m : Msg) (n : ℕ) → clock ≡ n → v .counters ≡ x .counters
-      → SiteIs sites s v base lists (slice-with (sliceOf p s) (p .clock s) live (p .post s) (λ r. p .taken r s))
-      → SiteIs sites s
+      → SiteIs house s v base lists (slice-with (sliceOf p s) (p .clock s) live (p .post s) (λ r. p .taken r s))
+      → SiteIs house s
       (record {
         house = v .house;
         counters = withClock (v .counters) n;
@@ -95,13 +97,13 @@ module _ (p : Protocol) (s a : ℕ) where
   reply-elsewhere m j k n = ap (λ (f : ℕ → List Msg). f k) (row-other (p .post) s a (p .post s a ++ (m ∷ [])) j n)
 
 -- A move that takes a message from a at s, with no reply, or with one.
-module _ {sites : ℕ} {p q : Protocol} (s a : ℕ) (move : Move sites p q) (clock : (j : ℕ) → (j ≡ s → ⊥) → q .clock j ≡ p .clock j)
+module _ {house : House} {p q : Protocol} (s a : ℕ) (move : Move house p q) (clock : (j : ℕ) → (j ≡ s → ⊥) → q .clock j ≡ p .clock j)
     (serial : q .serial ≡ p .serial)
     (live : (j : ℕ) → (j ≡ s → ⊥) → q .live j ≡ p .live j) (taken : q .taken ≡ upd₂ (p .taken) a s (p .taken a s + 1))
     (log : q .log ≡ p .log) where
   pub quiet-acts : {x : Site} {base lists : List ℕ} → q .post ≡ p .post
       → ((t : ℕ) → (coordinatorOf t ≡ s → ⊥) → q .gathered t ≡ p .gathered t)
-      → SiteIs sites s x base lists (sliceOf q s) → Acts sites s p q x base lists [] (told move)
+      → SiteIs house s x base lists (sliceOf q s) → Acts house s p q x base lists [] (told move)
   quiet-acts post gathered y =
       record {
         moves = more stop move;
@@ -115,8 +117,8 @@ module _ {sites : ℕ} {p q : Protocol} (s a : ℕ) (move : Move sites p q) (clo
 
   pub reply-acts : {x : Site} {base lists words : List ℕ} (m : Msg) → q .post ≡ upd₂ (p .post) s a (p .post s a ++ (m ∷ []))
       → q .gathered ≡ p .gathered
-      → SiteIs sites s x base lists (sliceOf q s) → Made (Posted (upd₂ (p .post) s a (p .post s a ++ (m ∷ [])))) words
-      → Acts sites s p q x base lists words (told move)
+      → SiteIs house s x base lists (sliceOf q s) → Made (Posted (upd₂ (p .post) s a (p .post s a ++ (m ∷ [])))) words
+      → Acts house s p q x base lists words (told move)
   reply-acts m post gathered y k =
       record {
         moves = more stop move;

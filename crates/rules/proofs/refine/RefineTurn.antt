@@ -8,6 +8,7 @@ use borrow.Author.Tests.{ltb-true, ltb-false}
 use lib.Dec.{ltb}
 use Rattle.laws.specs.Choice.{by-test}
 use Rattle.kinds.specs.Sizes as sizes
+use Rattle.kinds.specs.declared.House.{House}
 use Rattle.kinds.specs.Stage as stage
 use Rattle.kinds.specs.declared.Course.{Course}
 use Rattle.kinds.specs.declared.Sub.{Sub}
@@ -79,10 +80,10 @@ tx-of a = ap (λ (b : Sub). b .tx) (a .part) ∙ a .tx
 pub course-is : {x : Site} {p : Protocol} {s t place : ℕ} → AtPlace x p s t place → subAt x place .course ≡ courseAt p s t
 course-is a = ap (λ (b : Sub). b .course) (a .part)
 
-module _ {sites s : ℕ} {x : Site} {base words : List ℕ} {p : Protocol} {v : Slice} {t place : ℕ}
-    (y : SiteIs sites s x base words v) (row : v .live ≡ p .live s) (a : AtPlace x p s t place) where
+module _ {house : House} {s : ℕ} {x : Site} {base words : List ℕ} {p : Protocol} {v : Slice} {t place : ℕ}
+    (y : SiteIs house s x base words v) (row : v .live ≡ p .live s) (a : AtPlace x p s t place) where
   pub site-course : (c d : Course) → d ≡ c → (c .stage ≡ stage.prepared → coordinatorOf t ≡ s → ⊥)
-      → SiteIs sites s (withSub x place (withCourse (subAt x place) d)) base words
+      → SiteIs house s (withSub x place (withCourse (subAt x place) d)) base words
       (live-in v (upd₂ (p .live) s t (withCourse (p .live s t) c) s))
   site-course c d e n =
       let q : withCourse (subAt x place) d ≡ withCourse (p .live s t) c = rw (a .part, e) in
@@ -90,7 +91,7 @@ module _ {sites s : ℕ} {x : Site} {base words : List ℕ} {p : Protocol} {v : 
       (site-sub y place t (withCourse (p .live s t) c) (a .spot) (λ f. (a .tx, a .sized)) (λ f g. n f (sym (ap coordinatorOf (a .tx)) ∙ g))
       (rw row (row-same (p .live) s t (withCourse (p .live s t) c))))
 
-  pub site-gone : SiteIs sites s (withSub x place noSub) base words (live-in v (upd₂ (p .live) s t noSub s))
+  pub site-gone : SiteIs house s (withSub x place noSub) base words (live-in v (upd₂ (p .live) s t noSub s))
   site-gone =
       site-sub y place t noSub (a .spot) (λ f. absurd (f gone)) (λ f g. absurd (omega (arith, gone)))
       (rw row (row-same (p .live) s t noSub))

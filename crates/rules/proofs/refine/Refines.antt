@@ -1,11 +1,12 @@
 -- The tie between the rules and the protocol: when a house's states, messages and logs are those of the protocol's tables. Each small
 -- record names only the tables that it reads.
 use Prim.Native.Nat.{ℕ, _+_, _-_, _*_, _≤_, _<_}
-use mathlib.Core.Path.{_≡_}
+use mathlib.Core.Path.{_≡_, ap}
 use mathlib.Core.Bool.{true, false}
 use mathlib.Core.List.{List, [], map}
 use lib.ListN.{length, getD, take, drop}
 use Rattle.kinds.specs.Sizes as sizes
+use Rattle.kinds.specs.declared.House.{House}
 use Rattle.kinds.specs.Stage as stage
 use Rattle.kinds.specs.Kind as kind
 use Rattle.kinds.specs.Word as word
@@ -126,11 +127,11 @@ pub record CountersAre (c : Counters) (own clock serial installs : ℕ) : Type 0
   pub serial-is : c .serial ≡ serial
   pub installs-are : c .installs ≡ installs
 
-pub record ChannelsAre (sites : ℕ) (c : Channels) (post : ℕ → List Msg) (taken : ℕ → ℕ) : Type 0 where
+pub record ChannelsAre (house : House) (c : Channels) (post : ℕ → List Msg) (taken : ℕ → ℕ) : Type 0 where
   pub sent-size : length (c .sent) ≡ sizes.sites
   pub taken-size : length (c .taken) ≡ sizes.sites
-  pub sent-is : (r : ℕ) → 1 ≤ r → r ≤ sites → getD (c .sent) (r - 1) 0 ≡ length (post r)
-  pub taken-is : (r : ℕ) → 1 ≤ r → r ≤ sites → getD (c .taken) (r - 1) 0 ≡ taken r
+  pub sent-is : (r : ℕ) → 1 ≤ r → r ≤ house .sites → getD (c .sent) (r - 1) 0 ≡ length (post r)
+  pub taken-is : (r : ℕ) → 1 ≤ r → r ≤ house .sites → getD (c .taken) (r - 1) 0 ≡ taken r
 
 abbrev pub IsFree : Sub → Type 0
 IsFree b = b .course .stage ≡ stage.free
@@ -190,21 +191,24 @@ sliceOf p s =
       log = p .log s;
     }
 
-pub record SiteIs (sites own : ℕ) (s : Site) (base words : List ℕ) (v : Slice) : Type 0 where
-  pub house : s .house .sites ≡ sites
+pub record SiteIs (house : House) (own : ℕ) (s : Site) (base words : List ℕ) (v : Slice) : Type 0 where
+  pub house-is : s .house ≡ house
   pub counters : CountersAre (s .counters) own (v .clock) (v .serial) (length (partsOf (v .log)))
-  pub channels : ChannelsAre sites (s .channels) (v .post) (v .taken)
+  pub channels : ChannelsAre house (s .channels) (v .post) (v .taken)
   pub live : LiveIs (s .live) (v .live)
   pub history : HistoryIs (s .history) (partsOf (v .log))
   pub lists : ListsAre own (s .live) words (v .gathered)
   pub base-size : length base ≡ sizes.keys
 
+pub count-is : {o h : House} → o ≡ h → o .sites ≡ h .sites
+count-is e = ap (λ (o : House). o .sites) e
+
 -- The house: its sites, what was sent, and the logs. A site that it lacks is not valid, so it refuses every call. Records merged
 -- are records.
-pub record Refines (sites : ℕ) (w : World) (p : Protocol) : Type 0 where
-  pub few : sites ≤ sizes.sites
-  pub site : (s : ℕ) → 1 ≤ s → s ≤ sites → SiteIs sites s (w .site s) (w .base s) (w .lists s) (sliceOf p s)
-  pub outside : (s : ℕ) → ((1 ≤ s) × (s ≤ sites) → ⊥) → siteOk (w .site s) ≡ false
+pub record Refines (house : House) (w : World) (p : Protocol) : Type 0 where
+  pub few : house .sites ≤ sizes.sites
+  pub site : (s : ℕ) → 1 ≤ s → s ≤ house .sites → SiteIs house s (w .site s) (w .base s) (w .lists s) (sliceOf p s)
+  pub outside : (s : ℕ) → ((1 ≤ s) × (s ≤ house .sites) → ⊥) → siteOk (w .site s) ≡ false
   pub sent : All (Posted (p .post)) (w .sent)
   pub log : (s : ℕ) → w .log s ≡ map (recWords s) (p .log s)
   pub stream : All IsRecord (w .stream)

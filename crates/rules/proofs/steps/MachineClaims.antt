@@ -10,6 +10,7 @@ use native.Mathlib.Omega.{arith}
 use borrow.Author.Tests.{ltb-true, ltb-false, eq-eqb}
 use lib.Dec.{ltb}
 use lib.ListN.{length}
+use Rattle.kinds.specs.declared.House.{House}
 use Rattle.laws.specs.Choice.{by-test, unset, set-not}
 use Rattle.laws.specs.Pair.{rank}
 use Rattle.rules.specs.House.{coordinatorOf, serialOf}
@@ -30,7 +31,7 @@ within-listed es fs u mask d w z (j, l, (e, a, m)) =
     let (k, o, (f, b, q)) = w j l (rw e z) in
     (k, o, (f ∙ e, (λ r x. b r (a r x)), λ x. q (eq-eqb (entryMark es j) 1 (m x))))
 
-module _ {sites : ℕ} {p : Protocol} (i : Invariant sites p) where
+module _ {house : House} {p : Protocol} (i : Invariant house p) where
   -- a pair names one transaction
   pub pair-once : (t u : ℕ) → 0 < p .num t → p .num t ≡ p .num u → coordinatorOf t ≡ coordinatorOf u → t ≡ u
   pair-once = i .clocks .once
@@ -43,7 +44,7 @@ module _ {sites : ℕ} {p : Protocol} (i : Invariant sites p) where
       omega (arith, i .clocks .mark s t j (y .0) k, y .1)
 
   -- (B) of two committed writers of a key the later saw the earlier there
-  module _ (h : sites ≤ 8) (s t u k : ℕ) (nt : 0 < p .num t) (nu : 0 < p .num u) (n : t ≡ u → ⊥) (ht : p .has s t ≡ true)
+  module _ (h : house .sites ≤ 8) (s t u k : ℕ) (nt : 0 < p .num t) (nu : 0 < p .num u) (n : t ≡ u → ⊥) (ht : p .has s t ≡ true)
       (hu : p .has s u ≡ true)
       (wt : wroteKey (p .keys s t) k ≡ true) (wu : wroteKey (p .keys s u) k ≡ true)
       (below : rank (p .num t) (coordinatorOf t) < rank (p .num u) (coordinatorOf u)) where

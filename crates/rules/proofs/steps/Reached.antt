@@ -1,5 +1,6 @@
 -- The whole invariant, after any moves from the fresh protocol.
 use Prim.Native.Nat.{ℕ, _≤_}
+use Rattle.kinds.specs.declared.House.{House}
 use Rattle.rules.proofs.protocol.ProtocolTables.{Protocol}
 use Rattle.rules.proofs.protocol.Protocol.{Move, Moves, stop, more, freshProtocol}
 use Rattle.rules.proofs.protocol.Invariants.{Invariant}
@@ -13,25 +14,25 @@ use Rattle.rules.proofs.steps.StepOrder.{order-step, order-fresh}
 use Rattle.rules.proofs.steps.StepWriters.{writers-step, writers-fresh}
 use Rattle.rules.proofs.steps.StepLists.{lists-step, lists-fresh}
 
-pub invariant-step : (sites : ℕ) (p q : Protocol) → sites ≤ 8 → Move sites p q → Invariant sites p → Invariant sites q
-invariant-step sites p q h m i =
+pub invariant-step : (house : House) (p q : Protocol) → house .sites ≤ 8 → Move house p q → Invariant house p → Invariant house q
+invariant-step house p q h m i =
     record {
-      parts = parts-step sites p q h m i;
-      posts = posts-step sites p q h m i;
-      rounds = rounds-step sites p q h m i;
-      courses = courses-step sites p q h m i;
-      account = account-step sites p q h m i;
-      clocks = clocks-step sites p q h m i;
-      order = order-step sites p q h m i;
-      writers = writers-step sites p q h m i;
-      lists = lists-step sites p q h m i;
+      parts = parts-step house p q h m i;
+      posts = posts-step house p q h m i;
+      rounds = rounds-step house p q h m i;
+      courses = courses-step house p q h m i;
+      account = account-step house p q h m i;
+      clocks = clocks-step house p q h m i;
+      order = order-step house p q h m i;
+      writers = writers-step house p q h m i;
+      lists = lists-step house p q h m i;
     }
 
-pub invariant-fresh : (sites : ℕ) → Invariant sites freshProtocol
-invariant-fresh sites =
+pub invariant-fresh : (house : House) → Invariant house freshProtocol
+invariant-fresh house =
     record {
-      parts = parts-fresh sites;
-      posts = posts-fresh sites;
+      parts = parts-fresh house;
+      posts = posts-fresh house;
       rounds = rounds-fresh;
       courses = courses-fresh;
       account = account-fresh;
@@ -42,6 +43,6 @@ invariant-fresh sites =
     }
 
 -- it is kept by any moves
-pub invariant-moves : {sites : ℕ} {p q : Protocol} → sites ≤ 8 → Moves sites p q → Invariant sites p → Invariant sites q
+pub invariant-moves : {house : House} {p q : Protocol} → house .sites ≤ 8 → Moves house p q → Invariant house p → Invariant house q
 invariant-moves h stop i = i
-invariant-moves {sites} h (more {q = q} {r = r} ms m) i = invariant-step sites q r h m (invariant-moves h ms i)
+invariant-moves {house} h (more {q = q} {r = r} ms m) i = invariant-step house q r h m (invariant-moves h ms i)

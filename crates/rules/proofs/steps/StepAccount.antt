@@ -7,6 +7,7 @@ use native.Mathlib.Omega.{arith}
 use borrow.Author.Tests.{eqb-true, eqb-false}
 use lib.Dec.{eqb}
 use lib.ListN.{length}
+use Rattle.kinds.specs.declared.House.{House}
 use Rattle.laws.specs.Choice.{by-test, unset, set-not}
 use Rattle.kinds.specs.Stage as stage
 use Rattle.kinds.specs.State.{noSub}
@@ -25,7 +26,7 @@ use Rattle.rules.proofs.protocol.Changes.{held-kept}
 use Rattle.rules.proofs.protocol.Changes.{free-kept}
 
 -- a full round: each participant is the coordinator or was heard
-pub full-round : {sites : ℕ} {p : Protocol} (i : Invariant sites p) (t r : ℕ) → Held p (coordinatorOf t) t → Replies p t
+pub full-round : {house : House} {p : Protocol} (i : Invariant house p) (t r : ℕ) → Held p (coordinatorOf t) t → Replies p t
     → In (courseAt p (coordinatorOf t) t .mask) r
     → (r ≡ coordinatorOf t) ⊎ In (courseAt p (coordinatorOf t) t .heard) r
 full-round {p} i t r h all m =
@@ -38,7 +39,7 @@ full-round {p} i t r h all m =
           (i .parts .site _ t (i .parts .has _ t h) .0, i .rounds .own t h) all r m (eqb-false r (coordinatorOf t) e),
     ))
 
-module _ {sites : ℕ} {p : Protocol} (i : Invariant sites p) {q : Protocol} (c : Change sites p q) where
+module _ {house : House} {p : Protocol} (i : Invariant house p) {q : Protocol} (c : Change house p q) where
   -- The participants.
   asked-had : (t r : ℕ) → q .asked t ≡ true → In (q .mask t) r → p .has r t ≡ true
   asked-had t r a m = go (c .news .asked t a)
@@ -223,8 +224,8 @@ module _ {sites : ℕ} {p : Protocol} (i : Invariant sites p) {q : Protocol} (c 
         entry = entry;
       }
 
-pub account-step : (sites : ℕ) (p q : Protocol) → sites ≤ 8 → Move sites p q → Invariant sites p → Account q
-account-step sites p q h m i = account-of i (change sites p q h m i)
+pub account-step : (house : House) (p q : Protocol) → house .sites ≤ 8 → Move house p q → Invariant house p → Account q
+account-step house p q h m i = account-of i (change house p q h m i)
 
 pub account-fresh : Account freshProtocol
 unfolding freshProtocol noSub

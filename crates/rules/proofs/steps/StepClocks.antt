@@ -8,6 +8,7 @@ use native.Mathlib.Omega.{arith}
 use borrow.Author.Tests.{eqb-true, eqb-false}
 use lib.Dec.{eqb}
 use lib.ListN.{length, getD}
+use Rattle.kinds.specs.declared.House.{House}
 use Rattle.laws.specs.Choice.{by-test, set-not}
 use Rattle.kinds.specs.Stage as stage
 use Rattle.kinds.specs.State.{noSub, pastEntry}
@@ -33,7 +34,7 @@ low-at (a-cons {x = rPart e} p ps) zero h = p
 low-at (a-cons {x = rPart e} p ps) (suc j) h = low-at ps j (omega arith)
 low-at (a-cons {x = rState k} p ps) j h = low-at ps j h
 
-module _ {sites : ℕ} {p : Protocol} (i : Invariant sites p) {q : Protocol} (c : Change sites p q) where
+module _ {house : House} {p : Protocol} (i : Invariant house p) {q : Protocol} (c : Change house p q) where
   -- what is new in a log was not above the clock
   pub log-low : (s : ℕ) → All (RecLow (p .clock s)) (q .log s)
   unfolding entryOf
@@ -115,8 +116,8 @@ module _ {sites : ℕ} {p : Protocol} (i : Invariant sites p) {q : Protocol} (c 
         mark = mark;
       }
 
-pub clocks-step : (sites : ℕ) (p q : Protocol) → sites ≤ 8 → Move sites p q → Invariant sites p → Clocks q
-clocks-step sites p q h m i = clocks-of i (change sites p q h m i)
+pub clocks-step : (house : House) (p q : Protocol) → house .sites ≤ 8 → Move house p q → Invariant house p → Clocks q
+clocks-step house p q h m i = clocks-of i (change house p q h m i)
 
 pub clocks-fresh : Clocks freshProtocol
 unfolding freshProtocol noSub

@@ -3,6 +3,7 @@ use Prim.Native.Nat.{ℕ, _+_, _≤_, _<_}
 use mathlib.Core.Path.{_≡_, refl, sym, _∙_}
 use mathlib.Core.Bool.{Bool, true, false}
 use native.Mathlib.Omega.{arith}
+use Rattle.kinds.specs.declared.House.{House}
 use Rattle.laws.specs.Choice.{set-not}
 use Rattle.kinds.specs.Stage as stage
 use Rattle.kinds.specs.declared.Course.{Course}
@@ -159,7 +160,7 @@ module _ (m y a : Bool) (w k n : ℕ) (c : Course) where
         stages = i .stages;
       }
 
-module _ (sites : ℕ) (p : Protocol) (i : Invariant sites p) where
+module _ (house : House) (p : Protocol) (i : Invariant house p) where
   all : CoursesAt p
   all = of-courses p (i .courses)
 
@@ -239,9 +240,9 @@ module _ (sites : ℕ) (p : Protocol) (i : Invariant sites p) where
       (p .num) t n
       (decided-now _ _ _ _ _ _ _ (all j t) e n) (λ u y. all j u) u)
 
-  step : (q : Protocol) → Move sites p q → CoursesAt q
+  step : (q : Protocol) → Move house p q → CoursesAt q
   unfolding newSub withParticipant withDecision withQueueMark withRequest withStage
-  step q (begin s t d l m n e) = let h = blank p s t (i .account) l (new-tx sites p s t (i .parts) n e s) in
+  step q (begin s t d l m n e) = let h = blank p s t (i .account) l (new-tx house p s t (i .parts) n e s) in
       one s t _ (at-active _ _ _ _ _ _ _ refl (h .made) (h .yes))
   step q (enlist s t r c a l m n o) = let h = all s t .active a in one s t _ (at-active _ _ _ _ _ _ _ a (h .0) (h .1))
   step q (access s t b fs a told w f m) = one s t _ (all s t)
@@ -252,7 +253,7 @@ module _ (sites : ℕ) (p : Protocol) (i : Invariant sites p) where
   step q (install s t a l) = gone s t
   step q (report s n a) = all
   step q (joins a s t d n f) =
-      let h = blank p s t (i .account) (ends i n .1 .0) (new-join sites p a s t d (i .posts) n) in
+      let h = blank p s t (i .account) (ends i n .1 .0) (new-join house p a s t d (i .posts) n) in
       one s t _ (at-active _ _ _ _ _ _ _ refl (h .made) (h .yes))
   step q (full a s t d r n z) = all
   step q (joined a s t r n x o) = reply s t a r 0
@@ -273,8 +274,8 @@ module _ (sites : ℕ) (p : Protocol) (i : Invariant sites p) where
   step q (aborts a s t x d) = gone s t
   step q (passes a s n m x) = all
 
-pub courses-step : (sites : ℕ) (p q : Protocol) → sites ≤ 8 → Move sites p q → Invariant sites p → Courses q
-courses-step sites p q h m i = to-courses q (step sites p i q m)
+pub courses-step : (house : House) (p q : Protocol) → house .sites ≤ 8 → Move house p q → Invariant house p → Courses q
+courses-step house p q h m i = to-courses q (step house p i q m)
 
 pub courses-fresh : Courses freshProtocol
 unfolding freshProtocol noSub

@@ -10,6 +10,7 @@ use native.Mathlib.Omega.{arith}
 use borrow.Author.Tests.{ltb-true, ltb-false, le-leb}
 use lib.Dec.{ltb}
 use lib.ListN.{length}
+use Rattle.kinds.specs.declared.House.{House}
 use Rattle.laws.specs.Choice.{by-test, set-not}
 use Rattle.kinds.specs.Stage as stage
 use Rattle.kinds.specs.declared.Sub.{Sub}
@@ -34,7 +35,8 @@ abbrev Covered : Protocol → ℕ → ℕ → ℕ → List ℕ → Type 0
 Covered p s t u es = Seen p s t u ⊎ Listed es u (p .mask u) (dependent (p .keys s t) (p .keys s u))
 
 -- The list that t makes at s now, and a committed u with a part there: seen, or listed.
-module _ {sites : ℕ} {p : Protocol} (i : Invariant sites p) (s t u : ℕ) (es : List ℕ) (a : AtStage p s t stage.active) (v : Covers p s t es)
+module _ {house : House} {p : Protocol} (i : Invariant house p) (s t u : ℕ) (es : List ℕ) (a : AtStage p s t stage.active)
+    (v : Covers p s t es)
     (n : u ≡ t → ⊥) (z : 0 < p .num u) (h : p .has s u ≡ true) where
   held-t : Held p s t
   held-t f = omega arith
@@ -60,7 +62,7 @@ module _ {sites : ℕ} {p : Protocol} (i : Invariant sites p) (s t u : ℕ) (es 
       go (inl x) = by-held x
       go (inr x) = by-installed x
 
-module _ {sites : ℕ} {p : Protocol} (i : Invariant sites p) {q : Protocol} (c : Change sites p q) where
+module _ {house : House} {p : Protocol} (i : Invariant house p) {q : Protocol} (c : Change house p q) where
   after : Account q
   after = account-of i c
 
@@ -142,9 +144,9 @@ module _ {sites : ℕ} {p : Protocol} (i : Invariant sites p) {q : Protocol} (c 
           let r = v j x l m (seen .1) (rw (i .parts .snap s t h) (seen .0)) is in
           (r .0, rw (i .parts .keys s t h, i .parts .entry-keys s x (seen .1), is) at (r .1))
 
-pub lists-step : (sites : ℕ) (p q : Protocol) → sites ≤ 8 → Move sites p q → Invariant sites p → Lists q
-lists-step sites p q h m i =
-    let c = change sites p q h m i in
+pub lists-step : (house : House) (p q : Protocol) → house .sites ≤ 8 → Move house p q → Invariant house p → Lists q
+lists-step house p q h m i =
+    let c = change house p q h m i in
     record { cover = cover i c; yes = yes i c }
 
 pub lists-fresh : Lists freshProtocol

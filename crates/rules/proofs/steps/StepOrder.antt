@@ -9,6 +9,7 @@ use native.Mathlib.Omega.{arith}
 use borrow.Author.Tests.{ltb-false, eqb-true, eqb-false}
 use lib.Dec.{ltb, eqb}
 use lib.ListN.{length, getD}
+use Rattle.kinds.specs.declared.House.{House}
 use Rattle.laws.specs.Choice.{by-test, set-not, by-same}
 use Rattle.laws.specs.Pair.{precedes, rank}
 use Rattle.kinds.specs.Stage as stage
@@ -99,7 +100,8 @@ open-queued : (b : Sub) → b .course .stage ≡ stage.queued → isQueued b ≡
 unfolding isQueued
 open-queued b e = rw e
 
-module _ {sites : ℕ} (few : sites ≤ 8) {p : Protocol} (i : Invariant sites p) {q : Protocol} (c : Change sites p q) (k : Account q) where
+module _ {house : House} (few : house .sites ≤ 8) {p : Protocol} (i : Invariant house p) {q : Protocol} (c : Change house p q)
+    (k : Account q) where
   -- an open mark stays above what is written
   open-kept : (s t : ℕ) → AtStage p s t stage.queued → All (RecLow (courseAt p s t .number)) (q .log s)
   unfolding entryOf queuedBefore
@@ -218,10 +220,10 @@ module _ {sites : ℕ} (few : sites ≤ 8) {p : Protocol} (i : Invariant sites p
       go (inl a) = old (i .order .held t a)
       go (inr (x, y, e, z, o)) = inl z
 
-pub order-step : (sites : ℕ) (p q : Protocol) → sites ≤ 8 → Move sites p q → Invariant sites p → Order q
-order-step sites p q few m i =
-    let c = change sites p q few m i in
-    let k = account-step sites p q few m i in
+pub order-step : (house : House) (p q : Protocol) → house .sites ≤ 8 → Move house p q → Invariant house p → Order q
+order-step house p q few m i =
+    let c = change house p q few m i in
+    let k = account-step house p q few m i in
     record { queued = queued few i c k; decided = decided few i c k; ascends = ascends few i c k; held = held few i c k }
 
 pub order-fresh : Order freshProtocol

@@ -8,6 +8,7 @@ use native.Mathlib.Omega.{arith}
 use lib.ListN.{length, getD, length-append}
 use Rattle.laws.specs.Choice.{set-not}
 use Rattle.kinds.specs.Sizes as sizes
+use Rattle.kinds.specs.declared.House.{House}
 use Rattle.kinds.specs.Stage as stage
 use Rattle.kinds.specs.declared.Keys.{Keys}
 use Rattle.kinds.specs.declared.Course.{Course}
@@ -57,8 +58,8 @@ one-kept p s t b k = upd₂-cases (λ j u c. Kept (p .live j u) c) (p .live) s t
 abbrev Same : Protocol → Protocol → Type 0
 Same p q = (q .has ≡ p .has) × (q .snap ≡ p .snap) × (q .keys ≡ p .keys) × (q .serial ≡ p .serial) × ((s : ℕ) → inst q s ≡ inst p s)
 
-parts-kept : (sites : ℕ) (p q : Protocol) → Same p q → KeptAll p q → Parts sites p → Parts sites q
-parts-kept sites p q (h, n, b, l, e) k i =
+parts-kept : (house : House) (p q : Protocol) → Same p q → KeptAll p q → Parts house p → Parts house q
+parts-kept house p q (h, n, b, l, e) k i =
     record {
       tx = λ s t x. k s t .tx x ∙ i .tx s t (held s t x);
       has = λ s t x. rw h (i .has s t (held s t x));
@@ -78,11 +79,11 @@ parts-kept sites p q (h, n, b, l, e) k i =
     held s t x f = x (k s t .free f)
 
 -- a part begins, where none has: its transaction's coordinator has one, and gave its serial
-parts-began : (sites : ℕ) (p : Protocol) (s t d mask : ℕ) → (p .has s t ≡ true → ⊥) → (1 ≤ s) × (s ≤ sites)
+parts-began : (house : House) (p : Protocol) (s t d mask : ℕ) → (p .has s t ≡ true → ⊥) → (1 ≤ s) × (s ≤ house .sites)
     → (coordinatorOf t ≡ s) ⊎ (p .has (coordinatorOf t) t ≡ true) → (1 ≤ serialOf t) × (serialOf t ≤ p .serial (coordinatorOf t))
-    → Parts sites p → Parts sites (beganAt p s t d mask)
+    → Parts house p → Parts house (beganAt p s t d mask)
 unfolding newSub
-parts-began sites p s t d mask none here coord ser i =
+parts-began house p s t d mask none here coord ser i =
     record {
       tx = upd₂-cases (λ j u b. (b .course .stage ≡ stage.free → ⊥) → b .tx ≡ u) (p .live) s t _ (λ x. refl) (λ j u n. i .tx j u);
       has = upd₂-both (λ j u b h. (b .course .stage ≡ stage.free → ⊥) → h ≡ true) (p .live) (p .has) s t _ true (λ x. refl)
@@ -100,7 +101,7 @@ parts-began sites p s t d mask none here coord ser i =
       entry-gone =
           λ j k x. old (λ u b. b .course .stage ≡ stage.free) (p .live) j k x (newSub t d mask (length (inst p s))) (i .entry-gone j k x);
       entry-once = i .entry-once;
-      site = upd₂-cases (λ j u h. h ≡ true → (1 ≤ j) × (j ≤ sites)) (p .has) s t true (λ x. here) (λ j u n. i .site j u);
+      site = upd₂-cases (λ j u h. h ≡ true → (1 ≤ j) × (j ≤ house .sites)) (p .has) s t true (λ x. here) (λ j u n. i .site j u);
       coordinator =
           upd₂-cases (λ j u h. h ≡ true → upd₂ (p .has) s t true (coordinatorOf u) u ≡ true) (p .has) s t true (λ x. own coord)
           (λ j u n x. kept₂ (p .has) s t (coordinatorOf u) u (i .coordinator j u x));
@@ -120,9 +121,9 @@ parts-began sites p s t d mask none here coord ser i =
     own (inr h) = kept₂ (p .has) s t (coordinatorOf t) t h
 
 -- serials only grow
-parts-serial : (sites : ℕ) (p : Protocol) (serial : ℕ → ℕ) → ((s : ℕ) → p .serial s ≤ serial s) → Parts sites p
-    → Parts sites (set-serial serial p)
-parts-serial sites p serial g i =
+parts-serial : (house : House) (p : Protocol) (serial : ℕ → ℕ) → ((s : ℕ) → p .serial s ≤ serial s) → Parts house p
+    → Parts house (set-serial serial p)
+parts-serial house p serial g i =
     record {
       tx = i .tx;
       has = i .has;
@@ -139,9 +140,9 @@ parts-serial sites p serial g i =
     }
 
 -- a held part's keys change, in its place and in the account
-parts-access : (sites : ℕ) (p : Protocol) (s t : ℕ) (b : Keys) → Held p s t → Parts sites p
-    → Parts sites (set-keys (upd₂ (p .keys) s t b) (withLive p s t (withKeys (p .live s t) b)))
-parts-access sites p s t b held i =
+parts-access : (house : House) (p : Protocol) (s t : ℕ) (b : Keys) → Held p s t → Parts house p
+    → Parts house (set-keys (upd₂ (p .keys) s t b) (withLive p s t (withKeys (p .live s t) b)))
+parts-access house p s t b held i =
     record {
       tx = upd₂-cases (λ j u b. (b .course .stage ≡ stage.free → ⊥) → b .tx ≡ u) (p .live) s t _ (λ x. i .tx s t held) (λ j u n. i .tx j u);
       has = upd₂-cases (λ j u b. (b .course .stage ≡ stage.free → ⊥) → p .has j u ≡ true) (p .live) s t _ (λ x. i .has s t held)
@@ -196,10 +197,10 @@ once-more l e o n j k x y =
     j x
 
 -- a decided part is installed
-parts-install : (sites : ℕ) (p : Protocol) (s t : ℕ) → Held p s t → Parts sites p
-    → Parts sites (withLive (set-log (upd (p .log) s (p .log s ++ (rPart (entryOf (p .live s t)) ∷ []))) p) s t noSub)
+parts-install : (house : House) (p : Protocol) (s t : ℕ) → Held p s t → Parts house p
+    → Parts house (withLive (set-log (upd (p .log) s (p .log s ++ (rPart (entryOf (p .live s t)) ∷ []))) p) s t noSub)
 unfolding entryOf noSub
-parts-install sites p s t held i =
+parts-install house p s t held i =
     record {
       tx = λ j u x. k j u .tx x ∙ i .tx j u (λ f. x (k j u .free f));
       has = λ j u x. i .has j u (λ f. x (k j u .free f));
@@ -241,46 +242,46 @@ abbrev pub same : {A B C D : Type 0} {a : A} {b : B} {c : C} {d : D} {f : ℕ �
     → (a ≡ a) × (b ≡ b) × (c ≡ c) × (d ≡ d) × ((s : ℕ) → f s ≡ f s)
 same = (refl, refl, refl, refl, λ s. refl)
 
-module _ (sites : ℕ) (p : Protocol) (i : Invariant sites p) where
+module _ (house : House) (p : Protocol) (i : Invariant house p) where
   -- a held part's course changes
   course : (q : Protocol) (s t : ℕ) (c : Course) → Held p s t → Same p q → q .live ≡ upd₂ (p .live) s t (withCourse (p .live s t) c)
-      → Parts sites q
-  course q s t c h e l = parts-kept sites p q e (rw l (one-kept p s t _ (kept-course (p .live s t) c h))) (i .parts)
+      → Parts house q
+  course q s t c h e l = parts-kept house p q e (rw l (one-kept p s t _ (kept-course (p .live s t) c h))) (i .parts)
 
   -- a part is freed
-  gone : (q : Protocol) (s t : ℕ) → Same p q → q .live ≡ upd₂ (p .live) s t noSub → Parts sites q
-  gone q s t e l = parts-kept sites p q e (rw l (one-kept p s t noSub (kept-gone (p .live s t)))) (i .parts)
+  gone : (q : Protocol) (s t : ℕ) → Same p q → q .live ≡ upd₂ (p .live) s t noSub → Parts house q
+  gone q s t e l = parts-kept house p q e (rw l (one-kept p s t noSub (kept-gone (p .live s t)))) (i .parts)
 
   -- no part changes
-  still : (q : Protocol) → Same p q → q .live ≡ p .live → Parts sites q
-  still q e l = parts-kept sites p q e (rw l (λ s t. kept-same (p .live s t))) (i .parts)
+  still : (q : Protocol) → Same p q → q .live ≡ p .live → Parts house q
+  still q e l = parts-kept house p q e (rw l (λ s t. kept-same (p .live s t))) (i .parts)
 
-  began : (s t d : ℕ) → 1 ≤ s → s ≤ sites → p .serial s < sizes.lastSerial → t ≡ txOf s (p .serial s + 1)
-      → Parts sites (beganAt (set-serial (upd (p .serial) s (p .serial s + 1)) p) s t d (maskOf s))
+  began : (s t d : ℕ) → 1 ≤ s → s ≤ house .sites → p .serial s < sizes.lastSerial → t ≡ txOf s (p .serial s + 1)
+      → Parts house (beganAt (set-serial (upd (p .serial) s (p .serial s + 1)) p) s t d (maskOf s))
   began s t d l m n e =
       let c : coordinatorOf t ≡ s = rw e (tx-coordinator s (p .serial s + 1) (omega arith)) in
       let k : serialOf t ≡ p .serial s + 1 = rw e (tx-serial s (p .serial s + 1) (omega arith)) in
-      parts-began sites _ s t d _ (new-tx sites p s t (i .parts) n e s) (l, m) (inl c)
+      parts-began house _ s t d _ (new-tx house p s t (i .parts) n e s) (l, m) (inl c)
       (rw (k, c, upd-same (p .serial) s (p .serial s + 1)) (omega arith))
-      (parts-serial sites p _ (upd-cases (λ j y. p .serial j ≤ y) (p .serial) s _ (omega arith) (λ j z. omega arith)) (i .parts))
+      (parts-serial house p _ (upd-cases (λ j y. p .serial j ≤ y) (p .serial) s _ (omega arith) (λ j z. omega arith)) (i .parts))
 
-  joining : (a s t d : ℕ) → Next p a s (mJoin t d) → Parts sites (beganAt (took p a s) s t d 0)
+  joining : (a s t d : ℕ) → Next p a s (mJoin t d) → Parts house (beganAt (took p a s) s t d 0)
   joining a s t d n =
       let o = said i n in
-      parts-began sites (took p a s) s t d 0 (new-join sites p a s t d (i .posts) n) (ends i n .1) (inr (rw (o .0) (o .1)))
+      parts-began house (took p a s) s t d 0 (new-join house p a s t d (i .posts) n) (ends i n .1) (inr (rw (o .0) (o .1)))
       (i .parts .serial a t (o .1)) (still (took p a s) same refl)
 
-  step : (q : Protocol) → Move sites p q → Parts sites q
+  step : (q : Protocol) → Move house p q → Parts house q
   step q (begin s t d l m n e) = began s t d l m n e
   step q (enlist s t r c a l m n o) = course q s t _ (λ f. omega arith) same refl
-  step q (access s t b fs a told w f m) = parts-access sites p s t b (λ z. omega arith) (i .parts)
+  step q (access s t b fs a told w f m) = parts-access house p s t b (λ z. omega arith) (i .parts)
   step q (request s t es c a l r v) = course q s t _ (λ f. omega arith) same refl
   step q (abort s t c a d) = gone q s t same refl
   step q (cast s t es c a l w v) = course q s t _ (λ f. omega arith) same refl
   step q (decide s t c a l) = course q s t _ (λ f. omega arith) same refl
-  step q (install s t a l) = parts-install sites p s t (λ f. omega arith) (i .parts)
+  step q (install s t a l) = parts-install house p s t (λ f. omega arith) (i .parts)
   step q (report s n a) = still q (refl, refl, refl, refl, inst-report p s n) refl
-  step q (joins a s t d n f) = parts-kept sites _ q same (λ j u. kept-same _) (joining a s t d n)
+  step q (joins a s t d n f) = parts-kept house _ q same (λ j u. kept-same _) (joining a s t d n)
   step q (full a s t d r n z) = still q same refl
   step q (joined a s t r n x o) = course q s t _ (λ f. omega arith) same refl
   step q (prepared a s t n m es x y v) = course q s t _ (λ f. omega arith) same refl
@@ -294,12 +295,12 @@ module _ (sites : ℕ) (p : Protocol) (i : Invariant sites p) where
   step q (aborts a s t x d) = gone q s t same refl
   step q (passes a s n m x) = still q same refl
 
-pub parts-step : (sites : ℕ) (p q : Protocol) → sites ≤ 8 → Move sites p q → Invariant sites p → Parts sites q
-parts-step sites p q h m i = step sites p i q m
+pub parts-step : (house : House) (p q : Protocol) → house .sites ≤ 8 → Move house p q → Invariant house p → Parts house q
+parts-step house p q h m i = step house p i q m
 
-pub parts-fresh : (sites : ℕ) → Parts sites freshProtocol
+pub parts-fresh : (house : House) → Parts house freshProtocol
 unfolding freshProtocol noSub
-parts-fresh sites =
+parts-fresh house =
     record {
       tx = λ s t x. absurd (x refl);
       has = λ s t x. absurd (x refl);

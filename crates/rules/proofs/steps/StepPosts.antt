@@ -6,6 +6,7 @@ use mathlib.Core.Logic.{_⊎_, inl, inr}
 use mathlib.Core.List.{List, [], _∷_, _++_}
 use native.Mathlib.Omega.{arith}
 use lib.ListN.{length, getD, length-append, List·getD-append}
+use Rattle.kinds.specs.declared.House.{House}
 use Rattle.laws.specs.Choice.{set-not}
 use Rattle.kinds.specs.State.{noSub}
 use Rattle.rules.specs.House.{coordinatorOf, inMask}
@@ -41,9 +42,9 @@ once-more l m o n t i j x y =
     (λ e. last-cases (λ j b. IsJoin t b → length l ≡ j) l m (mAbort 0) (λ j k f. absurd (n t j e k f)) (λ f. refl) j y)
     i x
 
-module _ (sites : ℕ) (p q : Protocol) (inv : Invariant sites p) (l : Later p q) (k : MaskedAll sites p q) where
+module _ (house : House) (p q : Protocol) (inv : Invariant house p) (l : Later p q) (k : MaskedAll house p q) where
   -- JOIN: the mask of its coordinator
-  join-later : (a b t d : ℕ) → MsgOk sites p a b (mJoin t d) → MsgOk sites q a b (mJoin t d)
+  join-later : (a b t d : ℕ) → MsgOk house p a b (mJoin t d) → MsgOk house q a b (mJoin t d)
   join-later a b t d (c, h, n, s, x, y) =
       (c, l .has a t h, n, s, (λ z. let g = k a t c .grows h z in g .1 b (x (g .0))), λ e. now e (l .asks t e))
     where
@@ -51,7 +52,7 @@ module _ (sites : ℕ) (p q : Protocol) (inv : Invariant sites p) (l : Later p q
       now e (inl f) = rw (l .asked t f .1) (y f)
       now e (inr (f, m)) = rw (m, c) (x (λ z. let w = rw c at f in omega arith))
 
-  msg-later : (a b : ℕ) (m : Msg) → MsgOk sites p a b m → MsgOk sites q a b m
+  msg-later : (a b : ℕ) (m : Msg) → MsgOk house p a b m → MsgOk house q a b m
   msg-later a b (mJoin t d) h = join-later a b t d h
   msg-later a b (mJoined t r) (c, n, h) = (c, n, λ e. l .has a t (h e))
   msg-later a b (mPrepare t n m) (c, h, e, x, y) = let g = l .asked t h in (c, g .0, e ∙ sym (g .1), rw (g .1) x, y)
@@ -62,14 +63,14 @@ module _ (sites : ℕ) (p q : Protocol) (inv : Invariant sites p) (l : Later p q
   msg-later a b (mCommit t n) (c, e, h) = (c, l .num t (rw e h) ∙ e, h)
   msg-later a b (mAbort t) (c, h) = (c, l .dead t h)
 
-  old : (a b : ℕ) → All (MsgOk sites q a b) (p .post a b)
+  old : (a b : ℕ) → All (MsgOk house q a b) (p .post a b)
   old a b = all-map (msg-later a b) (inv .posts .ok a b)
 
-  grown-ok : (a b : ℕ) (k : List Msg) → Grown (Fit sites p q a b) (p .post a b) k → All (MsgOk sites q a b) k
+  grown-ok : (a b : ℕ) (k : List Msg) → Grown (Fit house p q a b) (p .post a b) k → All (MsgOk house q a b) k
   grown-ok a b k (inl e) = rw e (old a b)
   grown-ok a b k (inr (m, e, f)) = rw e (all-append (old a b) (all-one (f .0)))
 
-  grown-sender : (a b : ℕ) (k : List Msg) → Grown (Fit sites p q a b) (p .post a b) k → 0 < length k → Site sites a × Site sites b
+  grown-sender : (a b : ℕ) (k : List Msg) → Grown (Fit house p q a b) (p .post a b) k → 0 < length k → Site house a × Site house b
   grown-sender a b k (inl e) h = inv .posts .sender a b (rw e at h)
   grown-sender a b k (inr (m, e, f)) h = f .1
 
@@ -78,14 +79,14 @@ module _ (sites : ℕ) (p q : Protocol) (inv : Invariant sites p) (l : Later p q
       → IsJoin t (getD (p .post a b) j (mAbort 0)) → ⊥
   first a b m f t j (d, e) h (c, x) =
       let g : FirstJoin p a b (mJoin t d) = rw e at f in
-      let o : MsgOk sites p a b (mJoin t c) = rw x at (all-at (inv .posts .ok a b) (mAbort 0) j h) in
+      let o : MsgOk house p a b (mJoin t c) = rw x at (all-at (inv .posts .ok a b) (mAbort 0) j h) in
       set-not _ (o .4 (g .0)) (g .1)
 
-  grown-once : (a b : ℕ) (k : List Msg) → Grown (Fit sites p q a b) (p .post a b) k → JoinOnce k
+  grown-once : (a b : ℕ) (k : List Msg) → Grown (Fit house p q a b) (p .post a b) k → JoinOnce k
   grown-once a b k (inl e) = rw e (inv .posts .join-once a b)
   grown-once a b k (inr (m, e, f)) = rw e (once-more (p .post a b) m (inv .posts .join-once a b) (first a b m (f .2)))
 
-  pub posts-of : Mail sites p q → ((a b : ℕ) → (p .taken a b ≤ q .taken a b) × (q .taken a b ≤ length (p .post a b))) → Posts sites q
+  pub posts-of : Mail house p q → ((a b : ℕ) → (p .taken a b ≤ q .taken a b) × (q .taken a b ≤ length (p .post a b))) → Posts house q
   posts-of g w =
       record {
         ok = λ a b. grown-ok a b _ (g a b);
@@ -96,7 +97,8 @@ module _ (sites : ℕ) (p q : Protocol) (inv : Invariant sites p) (l : Later p q
         join-taken = λ s t h n. taken s t n (l .begins s t h);
       }
     where
-      member : (t r : ℕ) → (Held p (coordinatorOf t) t × In (courseAt p (coordinatorOf t) t .mask) r) ⊎ (r ≤ sites) → r ≤ sites
+      member : (t r : ℕ) → (Held p (coordinatorOf t) t × In (courseAt p (coordinatorOf t) t .mask) r) ⊎ (r ≤ house .sites)
+          → r ≤ house .sites
       member t r (inl (h, e)) = inv .posts .members t r h e
       member t r (inr h) = h
 
@@ -114,12 +116,12 @@ module _ (sites : ℕ) (p q : Protocol) (inv : Invariant sites p) (l : Later p q
       taken s t n (inr (inr (d, x, y))) = kept s t (p .taken (coordinatorOf t) s) (x .some) y
           (d, in-range (p .post (coordinatorOf t) s) (p .taken (coordinatorOf t) s) (mAbort 0) (mJoin t d) (x .some) ∙ x .is)
 
-pub posts-step : (sites : ℕ) (p q : Protocol) → sites ≤ 8 → Move sites p q → Invariant sites p → Posts sites q
-posts-step sites p q h m i = posts-of sites p q i (later sites p i q m) (masked sites p i q m) (mail sites p i q m) (takes sites p i q m)
+pub posts-step : (house : House) (p q : Protocol) → house .sites ≤ 8 → Move house p q → Invariant house p → Posts house q
+posts-step house p q h m i = posts-of house p q i (later house p i q m) (masked house p i q m) (mail house p i q m) (takes house p i q m)
 
-pub posts-fresh : (sites : ℕ) → Posts sites freshProtocol
+pub posts-fresh : (house : House) → Posts house freshProtocol
 unfolding freshProtocol noSub
-posts-fresh sites =
+posts-fresh house =
     record {
       ok = λ a b. a-nil;
       count = λ a b. omega arith;

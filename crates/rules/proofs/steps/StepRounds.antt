@@ -9,6 +9,7 @@ use borrow.Author.Tests.{eqb-true, eqb-false}
 use lib.Dec.{eqb}
 use Rattle.laws.specs.Choice.{by-test, unset, set-not}
 use Rattle.kinds.specs.Sizes as sizes
+use Rattle.kinds.specs.declared.House.{House}
 use Rattle.kinds.specs.Stage as stage
 use Rattle.kinds.specs.declared.Sub.{Sub}
 use Rattle.kinds.specs.State.{noSub}
@@ -36,7 +37,7 @@ Frame p q t = (q .asked t ≡ p .asked t) × (q .gathered t ≡ p .gathered t) �
 abbrev same : {A B C D : Type 0} {a : A} {b : B} {c : C} {d : D} → (a ≡ a) × (b ≡ b) × (c ≡ c) × (d ≡ d)
 same = (refl, refl, refl, refl)
 
-module _ {sites : ℕ} {p : Protocol} (i : Invariant sites p) {q : Protocol} (l : Later p q) where
+module _ {house : House} {p : Protocol} (i : Invariant house p) {q : Protocol} (l : Later p q) where
   old : (t : ℕ) → RoundOk p t (courseAt p (coordinatorOf t) t)
   old = of-rounds p (i .rounds)
 
@@ -211,12 +212,13 @@ module _ {sites : ℕ} {p : Protocol} (i : Invariant sites p) {q : Protocol} (l 
               over (inr y) = rw y v
 
 -- A transaction that begins: nothing was asked, nothing heard.
-begun : (sites : ℕ) (p : Protocol) (i : Invariant sites p) (q : Protocol) → sites ≤ sizes.sites → (s t d : ℕ) → 1 ≤ s → s ≤ sites
+begun : (house : House) (p : Protocol) (i : Invariant house p) (q : Protocol) → house .sites ≤ sizes.sites → (s t d : ℕ) → 1 ≤ s
+    → s ≤ house .sites
     → coordinatorOf t ≡ s
     → ((j : ℕ) → p .has j t ≡ true → ⊥) → q .has ≡ upd₂ (p .has) s t true → q .asked ≡ p .asked → q .num ≡ p .num → (n : ℕ)
     → RoundOk q t (newSub t d (maskOf s) n .course)
 unfolding newSub
-begun sites p i q h s t d l m c none e f g n =
+begun house p i q h s t d l m c none e f g n =
     at-active q t _ refl
     (record {
       small = (mask-small s (omega arith), omega arith);
@@ -239,11 +241,11 @@ begun sites p i q h s t d l m c none e f g n =
         (λ z. eqb-true (p .num t) 0 z)
         (λ z. let y = eqb-false (p .num t) 0 z in absurd (unasked (i .account .certed-asked t (i .account .num-certed t (omega arith)))))
 
-module _ (sites : ℕ) (p : Protocol) (h : sites ≤ sizes.sites) (i : Invariant sites p) where
-  step : (q : Protocol) → Move sites p q → Later p q → RoundsAt q
+module _ (house : House) (p : Protocol) (h : house .sites ≤ sizes.sites) (i : Invariant house p) where
+  step : (q : Protocol) → Move house p q → Later p q → RoundsAt q
   step q (begin s t d a b n e) l =
       one i l s t _ (λ u x. same)
-      (λ c. begun sites p i q h s t d a b c (new-tx sites p s t (i .parts) n e) refl refl refl _)
+      (λ c. begun house p i q h s t d a b c (new-tx house p s t (i .parts) n e) refl refl refl _)
   step q (enlist s t r c a x y n o) l = one i l s t _ (λ u x. same) (λ c. enlisted i l s t c r (omega arith) a same)
   step q (access s t b fs a told w f m) l = one i l s t _ (λ u x. same) (λ c. kept-here i l s t c same)
   step q (request s t es c a x r v) l =
@@ -283,8 +285,8 @@ module _ (sites : ℕ) (p : Protocol) (h : sites ≤ sizes.sites) (i : Invariant
   step q (aborts a s t x d) l = gone i l s t (λ u. same)
   step q (passes a s n m x) l = λ u. keep i l u same
 
-pub rounds-step : (sites : ℕ) (p q : Protocol) → sites ≤ 8 → Move sites p q → Invariant sites p → Rounds q
-rounds-step sites p q h m i = to-rounds q (step sites p h i q m (later sites p i q m))
+pub rounds-step : (house : House) (p q : Protocol) → house .sites ≤ 8 → Move house p q → Invariant house p → Rounds q
+rounds-step house p q h m i = to-rounds q (step house p h i q m (later house p i q m))
 
 pub rounds-fresh : Rounds freshProtocol
 unfolding freshProtocol noSub

@@ -7,6 +7,7 @@ use native.Mathlib.Omega.{arith}
 use borrow.Author.Tests.{ltb-true, ltb-false}
 use lib.Dec.{ltb}
 use lib.ListN.{length}
+use Rattle.kinds.specs.declared.House.{House}
 use Rattle.laws.specs.Choice.{by-test, unset, set-not}
 use Rattle.kinds.specs.State.{noSub}
 use Rattle.rules.specs.KeysLaws.{none-written}
@@ -22,7 +23,7 @@ use Rattle.rules.proofs.protocol.Changes.{Change, change, InstalledNow,
 abbrev Wrote : Protocol → Protocol → ℕ → ℕ → ℕ → Type 0
 Wrote p q s t k = (wroteKey (p .keys s t) k ≡ true) ⊎ (Unwritten p s t k × ((u : ℕ) → (u ≡ t → ⊥) → q .keys s u ≡ p .keys s u))
 
-module _ {sites : ℕ} {p : Protocol} (i : Invariant sites p) {q : Protocol} (c : Change sites p q) where
+module _ {house : House} {p : Protocol} (i : Invariant house p) {q : Protocol} (c : Change house p q) where
   wrote : (s t k : ℕ) → Held q s t → wroteKey (q .keys s t) k ≡ true → Held p s t × Wrote p q s t k
   wrote s t k h w = go (c .turns s t)
     where
@@ -102,9 +103,9 @@ module _ {sites : ℕ} {p : Protocol} (i : Invariant sites p) {q : Protocol} (c 
           (λ t. absurd
           (set-not _ (rw (stands i c s j h .1) at x) (i .writers .after s u j k b (ltb-false j (p .snap s u) t) h (rw o at y)))))
 
-pub writers-step : (sites : ℕ) (p q : Protocol) → sites ≤ 8 → Move sites p q → Invariant sites p → Writers q
-writers-step sites p q h m i =
-    let c = change sites p q h m i in
+pub writers-step : (house : House) (p q : Protocol) → house .sites ≤ 8 → Move house p q → Invariant house p → Writers q
+writers-step house p q h m i =
+    let c = change house p q h m i in
     record {
       apart = λ s t u k n a b v. unset _ (apart i c s t u k n a b v);
       after = λ s t j k a l n v. unset _ (after i c s t j k a l n v);

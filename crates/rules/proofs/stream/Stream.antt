@@ -6,6 +6,7 @@ use mathlib.Core.Bool.{true, false}
 use mathlib.Core.Logic.{_⊎_}
 use mathlib.Core.List.{List, [], _∷_, _++_}
 use lib.ListN.{length, getD}
+use Rattle.kinds.specs.declared.House.{House}
 use Rattle.laws.specs.Choice.{pick}
 use Rattle.laws.specs.Pair.{rank}
 use Rattle.kinds.specs.declared.Keys.{Keys}
@@ -58,14 +59,14 @@ WholeAt g s [] = inMask (g .mask) s ≡ false
 WholeAt g s (e ∷ l) = ((inMask (g .mask) s ≡ true) × SameHead g e) ⊎ ((inMask (g .mask) s ≡ false) × (rankOf e ≡ rankOf g → ⊥))
 
 -- g stands at the head of some site, is due and whole
-pub record Emits (sites : ℕ) (m : Merger) (g : Entry) : Type 0 where
+pub record Emits (house : House) (m : Merger) (g : Entry) : Type 0 where
   pub site : ℕ
   pub site-low : 1 ≤ site
-  pub site-high : site ≤ sites
+  pub site-high : site ≤ house .sites
   pub behind : List Entry
   pub head : m .queue site ≡ g ∷ behind
-  pub due : (s : ℕ) → 1 ≤ s → s ≤ sites → DueAt g (m .state s) (m .queue s)
-  pub whole : (s : ℕ) → 1 ≤ s → s ≤ sites → WholeAt g s (m .queue s)
+  pub due : (s : ℕ) → 1 ≤ s → s ≤ house .sites → DueAt g (m .state s) (m .queue s)
+  pub whole : (s : ℕ) → 1 ≤ s → s ≤ house .sites → WholeAt g s (m .queue s)
 
 abbrev pub headKeys : List Entry → Keys
 headKeys [] = noKeys
@@ -106,11 +107,11 @@ emitted m g =
     }
 
 -- The merger's steps, over the logs as they are.
-pub data Merging (sites : ℕ) (p : Protocol) (m : Merger) : Merger → Type 0 where
+pub data Merging (house : House) (p : Protocol) (m : Merger) : Merger → Type 0 where
   takePart : (s : ℕ) (e : Entry) → NextRecord p m s (rPart e) → m .last s < rankOf e → m .state s < e .number
-      → Merging sites p m (tookPart m s e)
-  takeState : (s n : ℕ) → NextRecord p m s (rState n) → m .state s ≤ n → Merging sites p m (tookState m s n)
-  emit : (g : Entry) → Emits sites m g → Merging sites p m (emitted m g)
+      → Merging house p m (tookPart m s e)
+  takeState : (s n : ℕ) → NextRecord p m s (rState n) → m .state s ≤ n → Merging house p m (tookState m s n)
+  emit : (g : Entry) → Emits house m g → Merging house p m (emitted m g)
 
 unfoldable pub freshMerger : Merger
 freshMerger = record { took = λ s. 0; queue = λ s. []; state = λ s. 0; last = λ s. 0; out = [] }
@@ -121,16 +122,16 @@ pub record Stream : Type 0 where
   pub merger : Merger
   pub replayed : ℕ → ℕ
 
-pub data Step (sites : ℕ) (w : Stream) : Stream → Type 0 where
-  moves : (q : Protocol) → Move sites (w .protocol) q → Step sites w (record { protocol = q; merger = w .merger; replayed = w .replayed })
-  merges : (m : Merger) → Merging sites (w .protocol) (w .merger) m
-      → Step sites w (record { protocol = w .protocol; merger = m; replayed = w .replayed })
+pub data Step (house : House) (w : Stream) : Stream → Type 0 where
+  moves : (q : Protocol) → Move house (w .protocol) q → Step house w (record { protocol = q; merger = w .merger; replayed = w .replayed })
+  merges : (m : Merger) → Merging house (w .protocol) (w .merger) m
+      → Step house w (record { protocol = w .protocol; merger = m; replayed = w .replayed })
   replays : (c : ℕ) → w .replayed c < length (w .merger .out)
-      → Step sites w (record { protocol = w .protocol; merger = w .merger; replayed = upd (w .replayed) c (w .replayed c + 1) })
+      → Step house w (record { protocol = w .protocol; merger = w .merger; replayed = upd (w .replayed) c (w .replayed c + 1) })
 
-pub data Steps (sites : ℕ) : Stream → Stream → Type 0 where
-  stop : {w : Stream} → Steps sites w w
-  more : {u v w : Stream} → Steps sites u v → Step sites v w → Steps sites u w
+pub data Steps (house : House) : Stream → Stream → Type 0 where
+  stop : {w : Stream} → Steps house w w
+  more : {u v w : Stream} → Steps house u v → Step house v w → Steps house u w
 
 unfoldable pub freshStream : Stream
 freshStream = record { protocol = freshProtocol; merger = freshMerger; replayed = λ c. 0 }

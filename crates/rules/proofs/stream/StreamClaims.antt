@@ -44,7 +44,7 @@ pub record Prefix (p : Protocol) (m : Merger) (n : ℕ) : Type 0 where
   pub low : (j : ℕ) → j < n → rankIn p (itemAt m j .tx) ≤ lastRank m n
   pub all : (t : ℕ) → 0 < p .num t → rankIn p t ≤ lastRank m n → (j : ℕ) × (j < n) × (itemAt m j .tx ≡ t)
 
-module _ {sites : ℕ} {p : Protocol} {m : Merger} (inv : Invariant sites p) (i : Streamed sites p m) where
+module _ {house : House} {p : Protocol} {m : Merger} (inv : Invariant house p) (i : Streamed house p m) where
   pub item-rank : (j : ℕ) → j < length (m .out) → rankIn p (itemAt m j .tx) ≡ itemRank (itemAt m j)
   item-rank j l = omega (arith, item-number inv i j l)
 
@@ -136,7 +136,7 @@ module _ (m : Merger) (o : House) (k : ℕ) where
       go e (inl (f, v)) = inl (none-more 0 n f e, v)
       go e (inr (j, l, w, v, f)) = inr (j, omega arith, w, v, none-more (j + 1) n f e)
 
-module _ {sites : ℕ} {p : Protocol} {m : Merger} (inv : Invariant sites p) (i : Streamed sites p m) (o : House) (k n : ℕ)
+module _ {house : House} {p : Protocol} {m : Merger} (inv : Invariant house p) (i : Streamed house p m) (o : House) (k n : ℕ)
     (h : n ≤ length (m .out)) where
   q : Prefix p m n
   q = prefix inv i n h

@@ -7,6 +7,7 @@ use native.Mathlib.Nat.{eq-or-lt-of-le}
 use native.Mathlib.Omega.{arith}
 use lib.ListN.{length, getD, take, length-append, take-append-drop}
 use lib.Seq.{getD-append-add}
+use Rattle.kinds.specs.declared.House.{House}
 use Rattle.laws.specs.Pair.{rank}
 use Rattle.kinds.specs.declared.Entry.{Entry}
 use Rattle.kinds.specs.State.{pastEntry}
@@ -58,7 +59,7 @@ parts-ascend before (rPart y ∷ l) (a, o) zero (suc i) x h =
 parts-ascend before (rPart y ∷ l) (a, o) (suc j) (suc i) x h = parts-ascend (before ++ (rPart y ∷ [])) l o j i (omega arith) (omega arith)
 parts-ascend before (rState k ∷ l) (a, o) j i x h = parts-ascend (before ++ (rState k ∷ [])) l o j i x h
 
-module _ {sites : ℕ} (few : sites ≤ 8) {p : Protocol} {m : Merger} (inv : Invariant sites p) (i : Streamed sites p m) where
+module _ {house : House} (few : house .sites ≤ 8) {p : Protocol} {m : Merger} (inv : Invariant house p) (i : Streamed house p m) where
   pub head-low : (s : ℕ) (e : Entry) (l : List Entry) → 1 ≤ s → m .queue s ≡ e ∷ l → coordinatorOf (e .tx) ≤ 8
   head-low s e l h q = low-coordinator few (inv .parts) s (e .tx) (head-real inv i s e l h q .has)
 

@@ -11,6 +11,7 @@ use borrow.Author.Tests.{ltb-true, ltb-false}
 use lib.Dec.{ltb}
 use lib.ListN.{length, length-append, List·getD-append}
 use lib.Seq.{getD-append-seam}
+use Rattle.kinds.specs.declared.House.{House}
 use Rattle.laws.specs.Choice.{by-test, set-not}
 use Rattle.laws.specs.Pair.{rank}
 use Rattle.kinds.specs.Stage as stage
@@ -26,8 +27,8 @@ use Rattle.rules.proofs.stream.Stream.{emitted}
 use Rattle.rules.proofs.stream.StreamInv.{pastItem, itemAt, Out, partsAt, Streamed, Real, gone, parts-at-append, head-real, not-gone}
 use Rattle.rules.proofs.stream.StreamDue.{due-low, due-below, due-behind, head-not-out}
 
-module _ {sites : ℕ} (low : sites ≤ 8) {p : Protocol} {m : Merger} (inv : Invariant sites p) (i : Streamed sites p m) {g : Entry}
-    (d : Emits sites m g) where
+module _ {house : House} (low : house .sites ≤ 8) {p : Protocol} {m : Merger} (inv : Invariant house p) (i : Streamed house p m) {g : Entry}
+    (d : Emits house m g) where
   real : Real p (d .site) g
   real = head-real inv i (d .site) g (d .behind) (d .site-low) (d .head)
 
@@ -35,11 +36,11 @@ module _ {sites : ℕ} (low : sites ≤ 8) {p : Protocol} {m : Merger} (inv : In
   g-low = low-coordinator low (inv .parts) (d .site) (g .tx) (real .has)
 
   -- every clock is at or above g
-  clocks : (s : ℕ) → 1 ≤ s → s ≤ sites → g .number ≤ p .clock s
+  clocks : (s : ℕ) → 1 ≤ s → s ≤ house .sites → g .number ≤ p .clock s
   clocks s l h = due-low low inv i g s l (d .due s l h) (p .clock s) (inv .clocks .log s)
 
   -- A committed transaction that was not emitted is above g, or is g's: its coordinator's log tells.
-  module _ (u : ℕ) (n : 0 < p .num u) (site : (1 ≤ coordinatorOf u) × (coordinatorOf u ≤ sites)) where
+  module _ (u : ℕ) (n : 0 < p .num u) (site : (1 ≤ coordinatorOf u) × (coordinatorOf u ≤ house .sites)) where
     abbrev Ahead : Type 0
     Ahead = (rankOf g < rank (p .num u) (coordinatorOf u)) ⊎ (g .tx ≡ u)
 
@@ -133,7 +134,7 @@ module _ {sites : ℕ} (low : sites ≤ 8) {p : Protocol} {m : Merger} (inv : In
       go e (y ∷ q) f (inl (z, r)) = rw (append-assoc (partsAt s (m .out)) (part s ∷ []) q, ← head-is s y q f r)
       go e (y ∷ q) f (inr (z, r)) = absurd (set-not _ e z)
 
-  pub streamed-emitted : Streamed sites p n
+  pub streamed-emitted : Streamed house p n
   streamed-emitted =
       record {
         source = λ s.

@@ -10,6 +10,7 @@ use borrow.Author.Tests.{ltb-true, ltb-false}
 use lib.Dec.{ltb}
 use lib.ListN.{length, getD, take, drop, length-append, take-append-drop, List·getD-append}
 use lib.Seq.{getD-append-add, getD-append-seam}
+use Rattle.kinds.specs.declared.House.{House}
 use Rattle.laws.specs.Choice.{pick, by-test}
 use Rattle.laws.specs.Pair.{rank}
 use Rattle.kinds.specs.declared.Entry.{Entry}
@@ -67,16 +68,16 @@ SourceAt p m s = Source (m .out) s (p .log s) (m .took s) (m .queue s) (m .state
 
 -- `clock`: no clock is below what was emitted. What was emitted ascends, and is every committed transaction up to its last. `home`: each
 -- item has a site.
-pub record Streamed (sites : ℕ) (p : Protocol) (m : Merger) : Type 0 where
+pub record Streamed (house : House) (p : Protocol) (m : Merger) : Type 0 where
   pub source : (s : ℕ) → SourceAt p m s
-  pub clock : (s i : ℕ) → 1 ≤ s → s ≤ sites → i < length (m .out) → itemAt m i .number ≤ p .clock s
+  pub clock : (s i : ℕ) → 1 ≤ s → s ≤ house .sites → i < length (m .out) → itemAt m i .number ≤ p .clock s
   pub home : (i : ℕ) → i < length (m .out) → (s : ℕ) × In (itemAt m i .mask) s
   pub ascends : (i j : ℕ) → i < j → j < length (m .out) → itemRank (itemAt m i) < itemRank (itemAt m j)
   pub whole : (t i : ℕ) → 0 < p .num t → i < length (m .out) → rank (p .num t) (coordinatorOf t) ≤ itemRank (itemAt m i) → Out m t
 
-pub streamed-fresh : (sites : ℕ) (p : Protocol) → Streamed sites p freshMerger
+pub streamed-fresh : (house : House) (p : Protocol) → Streamed house p freshMerger
 unfolding freshMerger
-streamed-fresh sites p =
+streamed-fresh house p =
     record {
       source = λ s. record { count = omega arith; parts = λ l. refl; ends = refl; below = a-nil };
       clock = λ s i l h n. absurd (omega arith);
@@ -93,7 +94,7 @@ pub record Real (p : Protocol) (s : ℕ) (e : Entry) : Type 0 where
   pub has : p .has s (e .tx) ≡ true
   pub keys : e .keys ≡ p .keys s (e .tx)
 
-pub real-at : {sites : ℕ} {p : Protocol} → Invariant sites p → (s i : ℕ) → i < length (inst p s) → Real p s (at p s i)
+pub real-at : {house : House} {p : Protocol} → Invariant house p → (s i : ℕ) → i < length (inst p s) → Real p s (at p s i)
 real-at i s j l =
     let k = i .account .entry s j l in
     record { number = k .0; committed = k .1; mask = k .2; has = i .parts .entry-has s j l; keys = i .parts .entry-keys s j l }
@@ -129,7 +130,7 @@ item-of s (x ∷ l) j h =
     (λ e. item-more s x l (item-of s l) e j h)
     (λ e. let (i, n, q) = item-of s l j (rw e at h) in rw e (suc i, omega arith, q))
 
-module _ {sites : ℕ} {p : Protocol} {m : Merger} (inv : Invariant sites p) (i : Streamed sites p m) where
+module _ {house : House} {p : Protocol} {m : Merger} (inv : Invariant house p) (i : Streamed house p m) where
   -- The parts that s installed: those emitted, those queued, those not taken.
   abbrev pub gone : ℕ → List Entry
   gone s = partsAt s (m .out)
@@ -182,7 +183,7 @@ module _ {sites : ℕ} {p : Protocol} {m : Merger} (inv : Invariant sites p) (i 
   pub item-mask : (j : ℕ) → j < length (m .out) → itemAt m j .mask ≡ p .mask (itemAt m j .tx)
   item-mask j l = let (s, h) = i .home j l in item-real s j l h .mask
 
-  pub item-low : sites ≤ 8 → (j : ℕ) → j < length (m .out) → coordinatorOf (itemAt m j .tx) ≤ 8
+  pub item-low : house .sites ≤ 8 → (j : ℕ) → j < length (m .out) → coordinatorOf (itemAt m j .tx) ≤ 8
   item-low x j l = let (s, h) = i .home j l in low-coordinator x (inv .parts) s _ (item-real s j l h .has)
 
   -- what was installed and not emitted stands behind the parts emitted

@@ -9,6 +9,7 @@ use borrow.Author.Tests.{eqb-true}
 use lib.Dec.{eqb}
 use lib.ListN.{length, getD, take, length-append}
 use lib.Seq.{take-append-le, take-suc}
+use Rattle.kinds.specs.declared.House.{House}
 use Rattle.laws.specs.Choice.{by-test}
 use Rattle.laws.specs.Pair.{rank}
 use Rattle.kinds.specs.declared.Entry.{Entry}
@@ -61,9 +62,9 @@ module _ {out : List Item} {s : ℕ} {log : List Rec} {took : ℕ} {queue : List
         below = rw k (all-append (all-map (not-above last last state n (omega arith) h) (i .below)) (all-one (omega arith)));
       }
 
-module _ {sites : ℕ} {p : Protocol} {m : Merger} (i : Streamed sites p m) where
+module _ {house : House} {p : Protocol} {m : Merger} (i : Streamed house p m) where
   -- nothing is emitted
-  quiet : (n : Merger) → n .out ≡ m .out → ((s : ℕ) → SourceAt p n s) → Streamed sites p n
+  quiet : (n : Merger) → n .out ≡ m .out → ((s : ℕ) → SourceAt p n s) → Streamed house p n
   quiet n e h =
       record {
         source = h;
@@ -73,7 +74,7 @@ module _ {sites : ℕ} {p : Protocol} {m : Merger} (i : Streamed sites p m) wher
         whole = rw e (i .whole);
       }
 
-  pub took-part : (s : ℕ) (e : Entry) → NextRecord p m s (rPart e) → m .last s < rankOf e → Streamed sites p (tookPart m s e)
+  pub took-part : (s : ℕ) (e : Entry) → NextRecord p m s (rPart e) → m .last s < rankOf e → Streamed house p (tookPart m s e)
   unfolding upd
   took-part s e n h =
       quiet (tookPart m s e) refl
@@ -81,7 +82,7 @@ module _ {sites : ℕ} {p : Protocol} {m : Merger} (i : Streamed sites p m) wher
       (λ t. rw t (rw (eqb-true j s t) (more-part (i .source s) (n .some) e (n .is) h)))
       (λ t. rw t (i .source j)))
 
-  pub took-state : (s k : ℕ) → NextRecord p m s (rState k) → m .state s ≤ k → Streamed sites p (tookState m s k)
+  pub took-state : (s k : ℕ) → NextRecord p m s (rState k) → m .state s ≤ k → Streamed house p (tookState m s k)
   unfolding upd
   took-state s k n h =
       quiet (tookState m s k) refl
@@ -107,9 +108,10 @@ longer {log = log} {took = took} r i =
       below = rw e (i .below);
     }
 
-pub streamed-moved : {sites : ℕ} {p q : Protocol} {m : Merger} → sites ≤ 8 → Invariant sites p → Change sites p q → Streamed sites p m
-    → Streamed sites q m
-streamed-moved {sites} {p} {q} {m} h inv c i =
+pub streamed-moved : {house : House} {p q : Protocol} {m : Merger} → house .sites ≤ 8 → Invariant house p → Change house p q
+    → Streamed house p m
+    → Streamed house q m
+streamed-moved {house} {p} {q} {m} h inv c i =
     record {
       source = λ s. let (r, e) = grown p s (q .log s) (c .logs s) in rw e (longer r (i .source s));
       clock = λ s j l u n. omega (arith, i .clock s j l u n, c .later .clock s);
