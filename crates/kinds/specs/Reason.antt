@@ -7,6 +7,9 @@ short = 1
 abbrev pub malformed : ℕ
 malformed = 2
 
+abbrev pub badTable : ℕ
+badTable = 22
+
 abbrev pub elsewhere : ℕ
 elsewhere = 3
 

@@ -21,9 +21,11 @@ pub type Value = u64;
 // What every key holds at the start.
 pub const FRESH: Value = 0;
 
-// How a house is laid out. Which site a key lives at is asked of it alone.
+// How a house is laid out: how many sites it has, and the first key of each, 0 behind them. Which site a key lives at is asked of it
+// alone.
 pub struct House {
     pub sites: u64,
+    pub firsts: [Key; SITES],
 }
 
 // What a part may see: the first `installs` installs at its site.

@@ -5,6 +5,9 @@ pub const SHORT: u64 = 1;
 // A site, key, desk, count or layout is impossible.
 pub const MALFORMED: u64 = 2;
 
+// The table of first keys is bad.
+pub const BAD_TABLE: u64 = 22;
+
 // The key or the message is for another site.
 pub const ELSEWHERE: u64 = 3;
 

@@ -29,7 +29,7 @@ abbrev pub keyCauses : Bool → ℕ → House → ℕ → ℕ → List Cause
 keyCauses ok room o own k =
     cause (not (eqb room sizes.keys)) reason.malformed
     ∷ cause (not ok) reason.malformed
-    ∷ cause (not (isKey o k)) reason.malformed
+    ∷ cause (not (isKey k)) reason.malformed
     ∷ cause (not (eqb (homeOf o k) own)) reason.elsewhere
     ∷ []
 

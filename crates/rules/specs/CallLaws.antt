@@ -27,7 +27,7 @@ not-both false b e h = absurd (let y : _≡_ {A = ℕ} 0 1 = cc in omega arith)
 pub record KeyClear (ok : Bool) (room : ℕ) (o : House) (own : ℕ) (k : ℕ) : Type 0 where
   pub whole : room ≡ sizes.keys
   pub valid : ok ≡ true
-  pub known : isKey o k ≡ true
+  pub known : isKey k ≡ true
   pub here : homeOf o k ≡ own
 
 pub key-clear : (ok : Bool) (room : ℕ) (o : House) (own : ℕ) (k : ℕ) → keyCode ok room o own k ≡ 0 → KeyClear ok room o own k
@@ -37,7 +37,7 @@ key-clear ok room o own k e =
     record {
       whole = eqb-true room sizes.keys (not-false (eqb room sizes.keys) (clear-at l 0 refl e));
       valid = not-false ok (clear-at l 1 refl e);
-      known = not-false (isKey o k) (clear-at l 2 refl e);
+      known = not-false (isKey k) (clear-at l 2 refl e);
       here = eqb-true (homeOf o k) own (not-false (eqb (homeOf o k) own) (clear-at l 3 refl e));
     }
 

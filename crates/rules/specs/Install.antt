@@ -12,10 +12,11 @@ use Rattle.kinds.specs.Kind as kind
 use Rattle.kinds.specs.declared.Sub.{Sub}
 use Rattle.kinds.specs.declared.Entry.{Entry}
 use Rattle.kinds.specs.declared.RecordHead.{RecordHead}
+use Rattle.kinds.specs.declared.House.{House}
 use Rattle.kinds.specs.declared.Site.{Site}
 use Rattle.kinds.specs.declared.Answer.the-variants.{Done, Installed, Reported}
 use Rattle.kinds.specs.State.{Value, noSub, noEntry, subAt, entryAt, withInstalls}
-use Rattle.rules.specs.House.{houseOk, isSite, coordinatorOf}
+use Rattle.rules.specs.House.{countOk, tableOk, houseOf, noHouse, isSite, coordinatorOf}
 use Rattle.rules.specs.Record.{recordWords}
 use Rattle.rules.specs.Keys.{sortedCount, sortedWords}
 use Rattle.rules.specs.History.{slotOf, forgetInto}
@@ -102,33 +103,35 @@ reportOf s room =
     unless (reportCode (siteOk s) room) s [] (record { answer = Reported n; words = stateWords (s .counters .own) n; site = s; lent = [] })
 
 -- Start: a fresh site; a refused start hands back one that no call accepts.
-unfoldable pub freshSite : ℕ → ℕ → Site
-freshSite sites own =
+unfoldable pub freshSite : House → ℕ → Site
+freshSite o own =
     record {
-      house = record { sites = sites };
+      house = o;
       counters = record { own = own; clock = 0; serial = 0; installs = 0 };
       channels = record { sent = replicate sizes.sites 0; taken = replicate sizes.sites 0 };
       live = replicate sizes.live noSub;
       history = replicate sizes.history noEntry;
     }
 
-abbrev pub startCauses : ℕ → ℕ → ℕ → ℕ → List Cause
-startCauses sites own base lists =
-    cause (not (houseOk (record { sites = sites }))) reason.malformed
-    ∷ cause (not (isSite (record { sites = sites }) own)) reason.malformed
+abbrev pub startCauses : ℕ → List ℕ → ℕ → ℕ → ℕ → List Cause
+startCauses sites table own base lists =
+    cause (not (countOk sites)) reason.malformed
+    ∷ cause (not (eqb (length table) sites)) reason.malformed
+    ∷ cause (not (isSite (houseOf sites table) own)) reason.malformed
     ∷ cause (not (eqb base sizes.keys)) reason.malformed
     ∷ cause (not (eqb lists sizes.lists)) reason.malformed
+    ∷ cause (not (tableOk sites table)) reason.badTable
     ∷ []
 
-unfoldable pub startCode : ℕ → ℕ → ℕ → ℕ → ℕ
-startCode sites own base lists = codeOf (startCauses sites own base lists)
+unfoldable pub startCode : ℕ → List ℕ → ℕ → ℕ → ℕ → ℕ
+startCode sites table own base lists = codeOf (startCauses sites table own base lists)
 
-unfoldable pub startOf : ℕ → ℕ → ℕ → ℕ → Effect
-startOf sites own base lists =
-    let code = startCode sites own base lists in
+unfoldable pub startOf : ℕ → List ℕ → ℕ → ℕ → ℕ → Effect
+startOf sites table own base lists =
+    let code = startCode sites table own base lists in
     pick (eqb code 0)
-    (record { answer = Done; words = []; site = freshSite sites own; lent = [] })
-    (refused code (freshSite 0 0) [])
+    (record { answer = Done; words = []; site = freshSite (houseOf sites table) own; lent = [] })
+    (refused code (freshSite noHouse 0) [])
 
 -- a lent table after it: 0 everywhere, or as it was
 unfoldable pub startTable : ℕ → List ℕ → List ℕ

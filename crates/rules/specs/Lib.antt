@@ -1,5 +1,6 @@
 -- The requirements as definitions: sizes and words,
 pub mod House
+pub mod HouseLaws
 pub mod Desk
 pub mod Message
 pub mod Record

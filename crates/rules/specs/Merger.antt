@@ -20,7 +20,7 @@ use Rattle.kinds.specs.declared.Merger.{Merger}
 use Rattle.kinds.specs.declared.MergerOut.{MergerOut}
 use Rattle.kinds.specs.declared.Answer.{Answer}
 use Rattle.kinds.specs.declared.Answer.the-variants.{Refused, Done, Emitted}
-use Rattle.rules.specs.House.{houseOk, inMask}
+use Rattle.rules.specs.House.{countOk, tableOk, houseOk, houseOf, noHouse, inMask}
 use Rattle.rules.specs.Record.{recordHead, recordWrites, recordWords, partOk, stateOk}
 
 -- What a call does: its answer, the words it writes, the merger and the queues' words after it.
@@ -266,19 +266,23 @@ emitOf g room queues =
     unlessMerger (emitCode g queues room) g queues (emitDue g queues (headsOf queues (g .house .sites)) (leastSite g queues))
 
 -- Start.
-unfoldable pub freshMerger : ℕ → Merger
-freshMerger sites = record { house = record { sites = sites }; sources = replicate sizes.sites pastSource }
+unfoldable pub freshMerger : House → Merger
+freshMerger o = record { house = o; sources = replicate sizes.sites pastSource }
 
-abbrev pub mergerStartCauses : ℕ → ℕ → List Cause
-mergerStartCauses sites given =
-    cause (not (houseOk (record { sites = sites }))) reason.malformed ∷ cause (not (eqb given sizes.queues)) reason.malformed ∷ []
+abbrev pub mergerStartCauses : ℕ → List ℕ → ℕ → List Cause
+mergerStartCauses sites table given =
+    cause (not (countOk sites)) reason.malformed
+    ∷ cause (not (eqb (length table) sites)) reason.malformed
+    ∷ cause (not (eqb given sizes.queues)) reason.malformed
+    ∷ cause (not (tableOk sites table)) reason.badTable
+    ∷ []
 
-unfoldable pub mergerStartCode : ℕ → ℕ → ℕ
-mergerStartCode sites given = codeOf (mergerStartCauses sites given)
+unfoldable pub mergerStartCode : ℕ → List ℕ → ℕ → ℕ
+mergerStartCode sites table given = codeOf (mergerStartCauses sites table given)
 
-unfoldable pub mergerStartOf : ℕ → List ℕ → Merging
-mergerStartOf sites queues =
-    let code = mergerStartCode sites (length queues) in
+unfoldable pub mergerStartOf : ℕ → List ℕ → List ℕ → Merging
+mergerStartOf sites table queues =
+    let code = mergerStartCode sites table (length queues) in
     pick (eqb code 0)
-    (doneMerger (freshMerger sites) (replicate (length queues) 0))
-    (refusedMerger code (freshMerger 0) queues)
+    (doneMerger (freshMerger (houseOf sites table)) (replicate (length queues) 0))
+    (refusedMerger code (freshMerger noHouse) queues)

@@ -17,6 +17,7 @@ use Rattle.laws.specs.Choice.{by-test, every-at, some}
 use Rattle.laws.specs.Pair.{precedes}
 use Rattle.laws.specs.Scan.{all-below, all-below-at, allBelow}
 use Rattle.rules.specs.House.{houseOk}
+use Rattle.rules.specs.HouseLaws.{house-passed}
 use Rattle.rules.specs.Merger.{emitCode, mergeCode, mergePartCode, mergerOk, placeWords, queuedOk, queuedPart, sourceAt, sourceOk}
 use Rattle.rules.specs.MergerWords.{above}
 use Rattle.rules.specs.MessageLaws.{site-clear}
@@ -37,13 +38,6 @@ pub state-long : (o : House) (m : List ℕ) → stateOk o m ≡ true → sizes.r
 unfolding stateOk
 state-long o m e = shape-clear m (every-at (stateTests o m) 0 e) .long
 
--- a house has 1 to 8 sites
-pub house-clear : (o : House) → houseOk o ≡ true → (1 ≤ o .sites) × (o .sites ≤ sizes.sites)
-unfolding houseOk
-house-clear o e =
-    let l = leb 1 (o .sites) ∷ leb (o .sites) sizes.sites ∷ [] in
-    (leb-true _ _ (every-at l 0 e), leb-true _ _ (every-at l 1 e))
-
 -- What a possible state is: queued parts are well made and of their site.
 pub record QueuedClear (o : House) (queues : List ℕ) (i j : ℕ) : Type 0 where
   pub short : getD (placeWords queues i j) word.length 0 ≤ sizes.part
@@ -52,6 +46,7 @@ pub record QueuedClear (o : House) (queues : List ℕ) (i j : ℕ) : Type 0 wher
 
 pub record MergerClear (g : Merger) (queues : List ℕ) : Type 0 where
   pub size : length queues ≡ sizes.queues
+  pub house : houseOk (g .house) ≡ true
   pub some : 1 ≤ g .house .sites
   pub few : g .house .sites ≤ sizes.sites
   pub counts : (i : ℕ) → i < g .house .sites → sourceAt g i .queued ≤ sizes.queue
@@ -101,23 +96,23 @@ merger-clear g queues e =
     let t : ℕ → Bool = λ i. sourceOk (g .house) queues (sourceAt g i) i in
     let l = eqb (length queues) sizes.queues ∷ houseOk (g .house) ∷ allBelow t sizes.sites ∷ [] in
     let each : (i : ℕ) → i < sizes.sites → t i ≡ true = λ i b. all-below-at t sizes.sites i (every-at l 2 e) b in
-    let h = house-clear (g .house) (every-at l 1 e) in
+    let (some, few, table) = house-passed (g .house) (every-at l 1 e) in
     record {
       size = eqb-true _ _ (every-at l 0 e);
-      some = h .0;
-      few = h .1;
-      counts = λ i b. source-clear (g .house) queues (sourceAt g i) i (each i (omega (arith, h .1))) .0;
-      parts = λ i j b. source-clear (g .house) queues (sourceAt g i) i (each i (omega (arith, h .1))) .1 j;
+      house = every-at l 1 e;
+      some = some;
+      few = few;
+      counts = λ i b. source-clear (g .house) queues (sourceAt g i) i (each i (omega arith)) .0;
+      parts = λ i j b. source-clear (g .house) queues (sourceAt g i) i (each i (omega arith)) .1 j;
       rest = λ i b k. source-rest (g .house) queues (sourceAt g i) i b (each i k);
     }
 
 pub clear-merger : (g : Merger) (queues : List ℕ) → MergerClear g queues → mergerOk g queues ≡ true
-unfolding mergerOk houseOk
+unfolding mergerOk
 clear-merger g queues c =
     rw (
       eq-eqb _ _ (c .size),
-      le-leb _ _ (c .some),
-      le-leb _ _ (c .few),
+      c .house,
       ← all-below (λ i. sourceOk (g .house) queues (sourceAt g i) i) sizes.sites each,
     )
   where

@@ -14,6 +14,7 @@ use Rattle.kinds.specs.declared.Merger.{Merger}
 use Rattle.kinds.specs.declared.RecordHead.{RecordHead}
 use Rattle.laws.specs.Choice.{by-test, every, every-at}
 use Rattle.laws.specs.Scan.{all-below, all-below-at, allBelow, foldBelow, split-last}
+use Rattle.rules.specs.HouseLaws.{key-low, home-rises}
 use Rattle.rules.specs.House.{coordinatorOf, inMask, isMask, isSite, isTx, serialOf, homeOf, wholeHouse}
 use Rattle.rules.specs.Merger.{Merging, dueCode, dueHead, emitCode, emitDue, emitOf, headAt, headIn, headsOf, joinedWrites, leastSite}
 use Rattle.rules.specs.Merger.{mergedHead, mergedWords, noHead, partWrites, placeWords, popMerger, popQueues, queuedPart, writesIn}
@@ -60,11 +61,11 @@ head-part o queues i c =
       getD-take n w word.writeCount 0 (omega arith),
     ))
 
--- Keys that ascend, from low and below high.
-pub record KeysAscend (ws : List ℕ) (n low high : ℕ) : Type 0 where
+-- Keys that ascend, of sites above low and up to high.
+pub record KeysAscend (o : House) (ws : List ℕ) (n low high : ℕ) : Type 0 where
   pub above : (k : ℕ) → suc k < n → writeKey ws k < writeKey ws (suc k)
-  pub from : (k : ℕ) → k < n → low ≤ writeKey ws k
-  pub to : (k : ℕ) → k < n → writeKey ws k < high
+  pub from : (k : ℕ) → k < n → low < homeOf o (writeKey ws k)
+  pub to : (k : ℕ) → k < n → homeOf o (writeKey ws k) ≤ high
 
 ascends : (ws : List ℕ) (k : ℕ) → keyAscends ws (suc k) ≡ true → writeKey ws k < writeKey ws (suc k)
 unfolding keyAscends
@@ -72,12 +73,15 @@ ascends ws k e =
     let z : suc k - 1 ≡ k = omega arith in
     ltb-true (writeKey ws k) (writeKey ws (suc k)) (rw (ne-eqb (suc k) 0 (λ q. omega arith), z) at e)
 
-key-of-site : (o : House) (k s : ℕ) → homeOf o k ≡ s + 1 → (sizes.siteKeys * s ≤ k) × (k < sizes.siteKeys * (s + 1))
-unfolding homeOf
-key-of-site o k s e = (omega arith, omega arith)
+-- a key of a lower site is below
+key-below : (o : House) (k m mid : ℕ) → homeOf o k ≤ mid → mid < homeOf o m → k < m
+key-below o k m mid a b =
+    by-test (ltb k m)
+    (λ t. ltb-true k m t)
+    (λ t. absurd (omega (arith, home-rises o m k (ltb-false k m t))))
 
 part-ascending : (o : House) (m : List ℕ) (s : ℕ) → partOk o m ≡ true → recordHead m .site ≡ s + 1
-    → KeysAscend (recordWrites m) (recordHead m .count) (sizes.siteKeys * s) (sizes.siteKeys * (s + 1))
+    → KeysAscend o (recordWrites m) (recordHead m .count) s (s + 1)
 unfolding partWriteOk
 part-ascending o m s p e =
     let ws = recordWrites m in
@@ -89,12 +93,12 @@ part-ascending o m s p e =
     λ k h. eqb-true (homeOf o (writeKey ws k)) (recordHead m .site) (every-at (l k) 1 (good k h)) ∙ e in
     record {
       above = λ k h. ascends ws k (every-at (l (suc k)) 0 (good (suc k) h));
-      from = λ k h. key-of-site o (writeKey ws k) s (home k h) .0;
-      to = λ k h. key-of-site o (writeKey ws k) s (home k h) .1;
+      from = λ k h. omega (arith, home k h);
+      to = λ k h. omega (arith, home k h);
     }
 
 -- one list behind another
-module _ (ws p : List ℕ) (a : ℕ) (e : length ws ≡ sizes.write * a) where
+module _ (o : House) (ws p : List ℕ) (a : ℕ) (e : length ws ≡ sizes.write * a) where
   key-left : (k : ℕ) → k < a → writeKey (ws ++ p) k ≡ writeKey ws k
   key-left k h = List·getD-append ws p 0 (sizes.write * k + word.writeKey) (omega arith)
 
@@ -113,8 +117,8 @@ module _ (ws p : List ℕ) (a : ℕ) (e : length ws ≡ sizes.write * a) where
       let y : writeKey (ws ++ p) k ≡ writeKey p (k - a) = ap (writeKey (ws ++ p)) z ∙ key-right (k - a) in
       rw y (g (k - a) (omega arith) z))
 
-  append-ascending : (b low mid high : ℕ) → low ≤ mid → mid ≤ high → KeysAscend ws a low mid → KeysAscend p b mid high
-      → KeysAscend (ws ++ p) (a + b) low high
+  append-ascending : (b low mid high : ℕ) → low ≤ mid → mid ≤ high → KeysAscend o ws a low mid → KeysAscend o p b mid high
+      → KeysAscend o (ws ++ p) (a + b) low high
   append-ascending b low mid high x y s t =
       record {
         above = λ k h. by-test (ltb (suc k) a)
@@ -124,19 +128,19 @@ module _ (ws p : List ℕ) (a : ℕ) (e : length ws ≡ sizes.write * a) where
             (λ u. let v = ltb-true k a u in
             let z : suc k ≡ a + 0 = omega arith in
             let w : writeKey (ws ++ p) (suc k) ≡ writeKey p 0 = ap (writeKey (ws ++ p)) z ∙ key-right 0 in
-            rw (w, key-left k v) (omega (arith, s .to k v, t .from 0 (omega arith))))
+            rw (w, key-left k v) (key-below o _ _ mid (s .to k v) (t .from 0 (omega arith))))
             (λ u. let v = ltb-false k a u in
             let z : k ≡ a + (k - a) = omega arith in
             let r : suc k ≡ a + suc (k - a) = omega arith in
             let w : writeKey (ws ++ p) k ≡ writeKey p (k - a) = ap (writeKey (ws ++ p)) z ∙ key-right (k - a) in
-            let o : writeKey (ws ++ p) (suc k) ≡ writeKey p (suc (k - a)) = ap (writeKey (ws ++ p)) r ∙ key-right (suc (k - a)) in
-            rw (w, o) (t .above (k - a) (omega arith))));
-        from = λ k h. key-cases (λ i. low ≤ i) b k h (λ l. s .from k l) (λ j l q. omega (arith, t .from j l));
-        to = λ k h. key-cases (λ i. i < high) b k h (λ l. omega (arith, s .to k l)) (λ j l q. t .to j l);
+            let v : writeKey (ws ++ p) (suc k) ≡ writeKey p (suc (k - a)) = ap (writeKey (ws ++ p)) r ∙ key-right (suc (k - a)) in
+            rw (w, v) (t .above (k - a) (omega arith))));
+        from = λ k h. key-cases (λ i. low < homeOf o i) b k h (λ l. s .from k l) (λ j l q. omega (arith, t .from j l));
+        to = λ k h. key-cases (λ i. homeOf o i ≤ high) b k h (λ l. omega (arith, s .to k l)) (λ j l q. t .to j l);
       }
 
-no-writes : (low high : ℕ) → KeysAscend [] 0 low high
-no-writes low high = record { above = λ k h. absurd (omega arith); from = λ k h. absurd (omega arith); to = λ k h. absurd (omega arith) }
+no-writes : (o : House) (low high : ℕ) → KeysAscend o [] 0 low high
+no-writes o low high = record { above = λ k h. absurd (omega arith); from = λ k h. absurd (omega arith); to = λ k h. absurd (omega arith) }
 
 pub halved : (n k : ℕ) → n ≡ sizes.write * k → n / sizes.write ≡ k
 halved n k e = omega arith
@@ -146,7 +150,7 @@ pub PartsGood : House → List ℕ → ℕ → ℕ → Type 0
 PartsGood o queues mask n = (i : ℕ) → i < n → inMask mask (i + 1) ≡ true → QueuedClear o queues i 0
 
 writes-ascending : (o : House) (queues : List ℕ) (mask n i : ℕ) → PartsGood o queues mask n → i < n
-    → KeysAscend (partWrites queues mask i) (writesIn (partWrites queues mask i)) (sizes.siteKeys * i) (sizes.siteKeys * (i + 1))
+    → KeysAscend o (partWrites queues mask i) (writesIn (partWrites queues mask i)) i (i + 1)
 unfolding partWrites PartsGood
 writes-ascending o queues mask n i f h =
     by-test (inMask mask (i + 1))
@@ -154,16 +158,16 @@ writes-ascending o queues mask n i f h =
     let m = queuedPart queues i 0 in
     rw (t, halved (length (recordWrites m)) (recordHead m .count) (part-passed-good o m (c .part) .size))
     (part-ascending o m i (c .part) (c .site)))
-    (λ t. rw t (no-writes (sizes.siteKeys * i) (sizes.siteKeys * (i + 1))))
+    (λ t. rw t (no-writes o i (i + 1)))
 
 good-fits : (o : House) (queues : List ℕ) (mask n : ℕ) → PartsGood o queues mask n → HeadsFit queues mask n
 unfolding HeadsFit HeadFits PartsGood
 good-fits o queues mask n f i h t = queued-fits o queues i (f i h t)
 
 joined-ascending : (o : House) (queues : List ℕ) (mask n : ℕ) → PartsGood o queues mask n
-    → KeysAscend (joinedWrites queues mask n) (writesIn (joinedWrites queues mask n)) 0 (sizes.siteKeys * n)
+    → KeysAscend o (joinedWrites queues mask n) (writesIn (joinedWrites queues mask n)) 0 n
 unfolding joinedWrites foldBelow PartsGood
-joined-ascending o queues mask zero f = no-writes 0 0
+joined-ascending o queues mask zero f = no-writes o 0 0
 joined-ascending o queues mask (suc n) f =
     let b : PartsGood o queues mask n = λ i h. f i (omega arith) in
     let ws = joinedWrites queues mask n in
@@ -172,25 +176,25 @@ joined-ascending o queues mask (suc n) f =
     let v = part-writes queues mask n (head-fits queues mask (suc n) n (good-fits o queues mask (suc n) f) (omega arith)) in
     let c : writesIn (ws ++ p) ≡ writesIn ws + writesIn p =
     halved (length (ws ++ p)) (writesIn ws + writesIn p) (length-append ws p ∙ omega arith) in
-    let z : sizes.siteKeys * (n + 1) ≡ sizes.siteKeys * suc n = omega arith in
+    let z : n + 1 ≡ suc n = omega arith in
     rw (c, ← z)
-    (append-ascending ws p (writesIn ws) (omega arith) (writesIn p) 0 (sizes.siteKeys * n) (sizes.siteKeys * (n + 1)) (omega arith)
-    (omega arith)
+    (append-ascending o ws p (writesIn ws) (omega arith) (writesIn p) 0 n (n + 1) (omega arith) (omega arith)
     (joined-ascending o queues mask n b)
     (writes-ascending o queues mask (suc n) n f (omega arith)))
 
 -- The checks of the merged record.
-key-rises : (ws : List ℕ) (k n : ℕ) → KeysAscend ws n 0 sizes.keys → k < n → keyAscends ws k ≡ true
+key-rises : (o : House) (ws : List ℕ) (k n high : ℕ) → KeysAscend o ws n 0 high → k < n → keyAscends ws k ≡ true
 unfolding keyAscends
-key-rises ws zero n a h = refl
-key-rises ws (suc k) n a h =
+key-rises o ws zero n high a h = refl
+key-rises o ws (suc k) n high a h =
     let z : suc k - 1 ≡ k = omega arith in
     rw (ne-eqb (suc k) 0 (λ q. omega arith), z, lt-ltb (writeKey ws k) (writeKey ws (suc k)) (a .above k h))
 
-merged-writes : (ws : List ℕ) (n : ℕ) → KeysAscend ws n 0 sizes.keys → allBelow (mergedWriteOk ws) n ≡ true
+merged-writes : (o : House) (ws : List ℕ) (n high : ℕ) → high ≤ sizes.sites → KeysAscend o ws n 0 high → allBelow (mergedWriteOk ws) n ≡ true
 unfolding mergedWriteOk
-merged-writes ws n a =
-    sym (all-below (mergedWriteOk ws) n (λ k h. rw (key-rises ws k n a h, lt-ltb (writeKey ws k) sizes.keys (a .to k h))))
+merged-writes o ws n high b a =
+    sym (all-below (mergedWriteOk ws) n (λ k h.
+    rw (key-rises o ws k n high a h, lt-ltb (writeKey ws k) sizes.keys (key-low o _ (writeKey ws k) (omega (arith, a .to k h)) refl))))
 
 wider-pair : (o : House) (r : RecordHead) → o .sites ≤ sizes.sites → pairOk o r ≡ true → pairOk wholeHouse r ≡ true
 unfolding pairOk isTx isSite isMask wholeHouse
@@ -221,7 +225,7 @@ merged-good o queues n r h l p f =
     record {
       size = omega arith;
       head = rw (wider-pair o r h p, le-leb (writesIn ws) sizes.mergedWrites (omega arith));
-      writes = merged-writes ws (writesIn ws) (record { above = a .above; from = a .from; to = λ k b. omega (arith, a .to k b) });
+      writes = merged-writes o ws (writesIn ws) n l a;
     }
 
 part-head : (o : House) (m : List ℕ) → partOk o m ≡ true → every (partHeadTests o (recordHead m)) ≡ true

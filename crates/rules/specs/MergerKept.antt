@@ -15,7 +15,8 @@ use Rattle.kinds.specs.declared.Source.{Source}
 use Rattle.laws.specs.Choice.{by-test, pick, some}
 use Rattle.laws.specs.Overlay.{putAt}
 use Rattle.laws.specs.Scan.{foldBelow, split-last}
-use Rattle.rules.specs.House.{inMask}
+use Rattle.rules.specs.HouseLaws.{house-passed}
+use Rattle.rules.specs.House.{inMask, houseOk}
 use Rattle.rules.specs.Merger.{dueCode, emitCode, emitDue, emitOf, freshMerger, headIn, headsOf, leastHead, mergeCode, mergeOf}
 use Rattle.rules.specs.Merger.{mergePart, mergePartCode, mergeState, mergeStateCode, pastSource, placeAt, placeWords, popMerger}
 use Rattle.rules.specs.Merger.{popMergerAt, popQueues, popSource, queuedPart, sourceAt, withSource}
@@ -45,16 +46,18 @@ moved-clear o a b i j k e c =
     }
 
 -- Start.
-pub fresh-holds : (n k : ℕ) → 1 ≤ n → n ≤ sizes.sites → k ≡ sizes.queues → Holds (freshMerger n) (replicate k 0)
+pub fresh-holds : (o : House) (k : ℕ) → houseOk o ≡ true → k ≡ sizes.queues → Holds (freshMerger o) (replicate k 0)
 unfolding freshMerger
-fresh-holds n k a b e =
+fresh-holds o k t e =
+    let (some, few, table) = house-passed o t in
     record {
       sized = refl;
       clear =
           record {
             size = length-replicate k 0 ∙ e;
-            some = a;
-            few = b;
+            house = t;
+            some = some;
+            few = few;
             counts = λ i h. rw (none i (omega arith)) (omega arith);
             parts = λ i j h l. absurd (let z = none i (omega arith) in omega arith);
             rest = λ i h l. none i l;
@@ -91,6 +94,7 @@ module _ (g : Merger) (queues m : List ℕ) (i : ℕ) (s : Source) (c : Holds g 
         clear =
             record {
               size = c .clear .size;
+              house = c .clear .house;
               some = c .clear .some;
               few = c .clear .few;
               counts = λ k h. counted k h (omega (arith, c .clear .counts i b));
@@ -162,6 +166,7 @@ module _ (g : Merger) (queues m : List ℕ) (i : ℕ) (s : Source) (c : Holds g 
           clear =
               record {
                 size = length-put (placeAt i (sourceAt g i .queued)) queues m (omega (arith, c .clear .size)) ∙ c .clear .size;
+                house = c .clear .house;
                 some = c .clear .some;
                 few = c .clear .few;
                 counts = λ k h. counted k h (omega arith);
@@ -266,6 +271,7 @@ pop-kept g queues mask c f =
       clear =
           record {
             size = length-popped queues mask n (c .clear .size) u ∙ c .clear .size;
+            house = rw o (c .clear .house);
             some = rw o (c .clear .some);
             few = rw o u;
             counts = λ i h. let k : i < n = rw o at h in

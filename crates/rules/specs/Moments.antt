@@ -57,7 +57,7 @@ pub record AtPart (s : Site) (possible : Bool) (out : List ℕ) (tx : ℕ) : Typ
 pub record AtKey (s : Site) (room tx key : ℕ) : Type 0 where
   pub whole : room ≡ sizes.keys
   pub is-possible : siteOk s ≡ true
-  pub known : isKey (s .house) key ≡ true
+  pub known : isKey key ≡ true
   pub here : homeOf (s .house) key ≡ s .counters .own
   pub held : placeOf (s .live) tx < sizes.live
 
@@ -79,8 +79,8 @@ pub record ByMoment (a : Answer) (mine forbidden : Bool) : Type 0 where
 -- No call is refused n.
 pub record Never (n : ℕ) : Type 0 where
   pub call : (w : World) (c : Call) → step w c .answer ≡ Refused n → ⊥
-  pub start : (sites own base lists : ℕ) → startOf sites own base lists .answer ≡ Refused n → ⊥
-  pub merger-start : (sites : ℕ) (queues : List ℕ) → mergerStartOf sites queues .answer ≡ Refused n → ⊥
+  pub start : (sites : ℕ) (table : List ℕ) (own base lists : ℕ) → startOf sites table own base lists .answer ≡ Refused n → ⊥
+  pub merger-start : (sites : ℕ) (table queues : List ℕ) → mergerStartOf sites table queues .answer ≡ Refused n → ⊥
   pub copy-start : (copy : List ℕ) → copyStartOf copy .answer ≡ Refused n → ⊥
 
 -- the claim; a read, a write and a message belong to no coordinator, so they are never 26

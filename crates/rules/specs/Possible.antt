@@ -24,9 +24,9 @@ use Rattle.rules.specs.World.{Call, World, Member, Lawful, freshWorld, s
 abbrev pub Impossible : House → Call → Type 0
 Impossible o (world.begin s d) = (isSite o s ≡ false) ⊎ (isDesk d ≡ false)
 Impossible o (world.enlist s out tx site) = (isSite o s ≡ false) ⊎ (isSite o site ≡ false)
-Impossible o (world.read s tx key) = (isSite o s ≡ false) ⊎ (isKey o key ≡ false)
-Impossible o (world.write s tx key v) = (isSite o s ≡ false) ⊎ (isKey o key ≡ false)
-Impossible o (world.search s p key) = (isSite o s ≡ false) ⊎ (isKey o key ≡ false)
+Impossible o (world.read s tx key) = (isSite o s ≡ false) ⊎ (isKey key ≡ false)
+Impossible o (world.write s tx key v) = (isSite o s ≡ false) ⊎ (isKey key ≡ false)
+Impossible o (world.search s p key) = (isSite o s ≡ false) ⊎ (isKey key ≡ false)
 Impossible o (world.commit s out tx) = isSite o s ≡ false
 Impossible o (world.abandon s out tx) = isSite o s ≡ false
 Impossible o (world.message s out m) = (isSite o s ≡ false) ⊎ (messageOk o m ≡ false)

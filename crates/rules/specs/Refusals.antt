@@ -2,6 +2,7 @@
 -- and not only of those that a list leaves.
 use Prim.Native.Nat.{ℕ, _-_}
 use mathlib.Core.Path.{_≡_}
+use mathlib.Core.Logic.{_⊎_}
 use mathlib.Core.Bool.{Bool, true, false, not}
 use mathlib.Core.List.{List, [], _∷_, _++_}
 use lib.Dec.{eqb, leb, ltb}
@@ -46,7 +47,7 @@ use Rattle.rules.specs.World.{World, Call, step}
 unfoldable pub RefusedLeaves : Type 0
 RefusedLeaves = (w : World) (c : Call) (n : ℕ) → step w c .answer ≡ Refused n → (step w c .words ≡ []) × (step w c .world ≡ w)
 
--- The order of the table's causes. It keeps places for 22, 29, 21, 23 and 24, which no call is refused with (numbersOf).
+-- The order of the table's causes. It keeps places for 29, 21, 23 and 24, which no call is refused with (numbersOf).
 unfoldable pub order : List ℕ
 order =
     reason.short
@@ -202,11 +203,13 @@ pub record ByFirst (a : Answer) (l : List Cause) : Type 0 where
 -- the claim: in any state, of the fourteen calls and the three starts
 pub record FirstCause : Type 0 where
   pub call : (w : World) (c : Call) → ByFirst (step w c .answer) (causesOf w c)
-  pub start : (sites own base lists : ℕ) → ByFirst (startOf sites own base lists .answer) (startCauses sites own base lists)
-  pub merger-start : (sites : ℕ) (queues : List ℕ) → ByFirst (mergerStartOf sites queues .answer) (mergerStartCauses sites (length queues))
+  pub start : (sites : ℕ) (table : List ℕ) (own base lists : ℕ)
+      → ByFirst (startOf sites table own base lists .answer) (startCauses sites table own base lists)
+  pub merger-start : (sites : ℕ) (table queues : List ℕ)
+      → ByFirst (mergerStartOf sites table queues .answer) (mergerStartCauses sites table (length queues))
   pub copy-start : (copy : List ℕ) → ByFirst (copyStartOf copy .answer) (copyStartCauses copy)
 
--- The numbers that each call is ever refused with; a start is refused 2 only.
+-- The numbers that each call is ever refused with; a start of a site or of the merger is refused 2 or 22, one of a copy 2 only.
 abbrev pub numbersOf : Call → List ℕ
 numbersOf (world.begin s d) = 2 ∷ 12 ∷ 13 ∷ []
 numbersOf (world.enlist s out tx site) = 1 ∷ 2 ∷ 5 ∷ 26 ∷ 27 ∷ 13 ∷ []
@@ -226,6 +229,8 @@ numbersOf (world.value c key) = 2 ∷ []
 -- the claim, of the fourteen calls and the three starts: a number that the list lacks is never answered
 pub record OwnNumbers : Type 0 where
   pub call : (w : World) (c : Call) (n : ℕ) → lacks n (numbersOf c) ≡ true → step w c .answer ≡ Refused n → ⊥
-  pub start : (sites own base lists n : ℕ) → startOf sites own base lists .answer ≡ Refused n → n ≡ 2
-  pub merger-start : (sites : ℕ) (queues : List ℕ) (n : ℕ) → mergerStartOf sites queues .answer ≡ Refused n → n ≡ 2
+  pub start : (sites : ℕ) (table : List ℕ) (own base lists n : ℕ) → startOf sites table own base lists .answer ≡ Refused n
+      → (n ≡ 2) ⊎ (n ≡ 22)
+  pub merger-start : (sites : ℕ) (table queues : List ℕ) (n : ℕ) → mergerStartOf sites table queues .answer ≡ Refused n
+      → (n ≡ 2) ⊎ (n ≡ 22)
   pub copy-start : (copy : List ℕ) (n : ℕ) → copyStartOf copy .answer ≡ Refused n → n ≡ 2

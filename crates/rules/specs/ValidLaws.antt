@@ -21,7 +21,8 @@ use Rattle.kinds.specs.declared.Entry.{Entry}
 use Rattle.kinds.specs.declared.Counters.{Counters}
 use Rattle.kinds.specs.declared.Site.{Site}
 use Rattle.kinds.specs.State.{pastSub, pastEntry, subAt, entryAt}
-use Rattle.rules.specs.House.{houseOk, isSite, isTx, homeOf, isMask, inMask, participants, participants-sites}
+use Rattle.rules.specs.HouseLaws.{house-passed, range-is, key-low}
+use Rattle.rules.specs.House.{houseOk, isSite, isTx, homeOf, inRange, isMask, inMask, participants, participants-sites}
 use Rattle.rules.specs.Desk.{isDesk, writeLimit}
 use Rattle.rules.specs.Keys.{keysAt, keysOk}
 use Rattle.rules.specs.History.{forgotten, remembered, slotOf, recall}
@@ -36,6 +37,7 @@ pub record ValidHouse (o : House) (own : ℕ) : Type 0 where
   pub few-sites : o .sites ≤ 8
   pub own-low : 1 ≤ own
   pub own-high : own ≤ o .sites
+  pub range : (k : ℕ) → eqb (homeOf o k) own ≡ inRange o own k
 
 -- A part's keys: at most 16 read and 16 written, each of this site, and so below 2,048.
 pub record ValidKeys (o : House) (own : ℕ) (b : Keys) : Type 0 where
@@ -75,11 +77,6 @@ pub record ValidSite (s : Site) : Type 0 where
   pub serial : s .counters .serial < 4294967296
   pub part : (i : ℕ) → i < 16 → ValidSub (s .house) (s .counters .own) (subAt s i)
   pub entry : (i : ℕ) → i < 32 → ValidEntry (s .house) (s .counters .own) (ltb i (remembered (s .counters .installs))) (entryAt s i)
-
--- a key of a site of the house is below 2,048
-pub key-low : (o : House) (own k : ℕ) → own ≤ 8 → homeOf o k ≡ own → k < 2048
-unfolding homeOf
-key-low o own k h e = omega arith
 
 -- a mask of sites of the house is below 256
 pub mask-low : (o : House) (m : ℕ) → o .sites ≤ 8 → isMask o m ≡ true → m < 256
@@ -131,13 +128,17 @@ participants-lack-two mask s r h l q k t u =
     )
 
 pub valid-house : (o : House) (own : ℕ) → houseOk o ≡ true → isSite o own ≡ true → ValidHouse o own
-unfolding houseOk isSite
+unfolding isSite
 valid-house o own t u =
+    let (some, few, table) = house-passed o t in
+    let low = leb-true 1 own (every-at (leb 1 own ∷ leb own (o .sites) ∷ []) 0 u) in
+    let high = leb-true own (o .sites) (every-at (leb 1 own ∷ leb own (o .sites) ∷ []) 1 u) in
     record {
-      some-sites = leb-true 1 (o .sites) (every-at (leb 1 (o .sites) ∷ leb (o .sites) 8 ∷ []) 0 t);
-      few-sites = leb-true (o .sites) 8 (every-at (leb 1 (o .sites) ∷ leb (o .sites) 8 ∷ []) 1 t);
-      own-low = leb-true 1 own (every-at (leb 1 own ∷ leb own (o .sites) ∷ []) 0 u);
-      own-high = leb-true own (o .sites) (every-at (leb 1 own ∷ leb own (o .sites) ∷ []) 1 u);
+      some-sites = some;
+      few-sites = few;
+      own-low = low;
+      own-high = high;
+      range = λ k. range-is o some few table own k low high;
     }
 
 pub keys-here : (o : House) (own : ℕ) (keys : List ℕ) (n j : ℕ) → keysAt o own keys n ≡ true → j < n → homeOf o (getD keys j 0) ≡ own

@@ -62,15 +62,19 @@ pub record World : Type 0 where
   pub merged : ℕ → ℕ
   pub replayed : ℕ → ℕ
 
--- a fresh house, as the start calls leave it; a site that it lacks refuses every call
+-- the first keys of a house: what its start calls are handed
+abbrev pub firstsOf : House → List ℕ
+firstsOf o = take (o .sites) (o .firsts)
+
+-- a fresh house, as the start calls leave it, all handed one table; a site that it lacks refuses every call
 unfoldable pub freshWorld : House → World
 freshWorld o =
     record {
-      site = λ s. startOf (o .sites) s sizes.keys sizes.lists .site;
-      base = λ s. startTable (startCode (o .sites) s sizes.keys sizes.lists) (replicate sizes.keys 0);
-      lists = λ s. startTable (startCode (o .sites) s sizes.keys sizes.lists) (replicate sizes.lists 0);
-      merger = mergerStartOf (o .sites) (replicate sizes.queues 0) .merger;
-      queues = mergerStartOf (o .sites) (replicate sizes.queues 0) .queues;
+      site = λ s. startOf (o .sites) (firstsOf o) s sizes.keys sizes.lists .site;
+      base = λ s. startTable (startCode (o .sites) (firstsOf o) s sizes.keys sizes.lists) (replicate sizes.keys 0);
+      lists = λ s. startTable (startCode (o .sites) (firstsOf o) s sizes.keys sizes.lists) (replicate sizes.lists 0);
+      merger = mergerStartOf (o .sites) (firstsOf o) (replicate sizes.queues 0) .merger;
+      queues = mergerStartOf (o .sites) (firstsOf o) (replicate sizes.queues 0) .queues;
       copy = λ c. copyStartOf (replicate sizes.copy 0) .copy;
       sent = [];
       log = λ s. [];

@@ -176,7 +176,7 @@ starts s d tx y x =
           };
     }
 
-module _ {house : House} (few : house .sites ≤ 8) (tx d : ℕ) where
+module _ (house : House) (few : house .sites ≤ 8) (tx d : ℕ) where
   abbrev Ends : World → List Fact → Type 0
   Ends w b = (isDesk d ≡ true) × Stands (OneDesk tx d) house w b
 
@@ -236,7 +236,7 @@ desks-kept house list good lawful tx d y =
     let l = y .calls ++ (world.begin (y .at) d ∷ y .more) in
     let lawful′ : Lawful (freshWorld house) l = rw (y .split) at lawful in
     let fresh = fresh-stands house good in
-    let (known, x) = through few tx d (y .calls) (y .more) (y .at) (freshWorld house) [] lawful′ (y .answers) fresh in
+    let (known, x) = through house few tx d (y .calls) (y .more) (y .at) (freshWorld house) [] lawful′ (y .answers) fresh in
     rw (y .split)
     (record {
       known = known;

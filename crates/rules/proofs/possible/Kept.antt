@@ -14,6 +14,7 @@ use Rattle.kinds.specs.State.{Value, subAt, noSub, pastSub, noEntry, pastEntry}
 use Rattle.kinds.specs.declared.House.{House}
 use Rattle.kinds.specs.declared.Site.{Site}
 use Rattle.rules.specs.House.{houseOk, isSite, inMask, coordinatorOf, GoodHouse}
+use Rattle.rules.specs.HouseLaws.{good-passes}
 use Rattle.rules.specs.Desk.{isDesk}
 use Rattle.rules.specs.Message.{messageOk}
 use Rattle.rules.specs.Live.{placeOf, freePlace, stageAt}
@@ -28,7 +29,7 @@ use Rattle.rules.specs.Commit.{requestCode, commitOf, abandonOf}
 use Rattle.rules.specs.Deliver.{arrivalCode, messageOf}
 use Rattle.rules.specs.Install.{freshSite, startCode}
 use Rattle.rules.specs.CallLaws.{access-clear, enlist-clear, request-clear, arrival-clear}
-use Rattle.rules.specs.World.{World, Call, step, siteStep, logStep, mergerStep, mergeStep, copyStep, replayStep, freshWorld}
+use Rattle.rules.specs.World.{World, Call, step, siteStep, logStep, mergerStep, mergeStep, copyStep, replayStep, firstsOf, freshWorld}
 use Rattle.rules.specs.World as world
 use Rattle.rules.proofs.lists.Tables.{upd-both, upd-cases, All, a-nil, all-append}
 use Rattle.rules.proofs.protocol.ProtocolTables.{Protocol}
@@ -181,11 +182,10 @@ module _ {house : House} {w : World} {p : Protocol} (r : Refines house w p) (i :
 -- A fresh house.
 module _ (house : House) (s : ℕ) (good : GoodHouse house) (low : 1 ≤ s) (high : s ≤ house .sites) where
   abbrev fresh : Site
-  fresh = freshSite (house .sites) s
+  fresh = freshSite house s
 
   house-ok : houseOk house ≡ true
-  unfolding houseOk
-  house-ok = rw (le-leb 1 (house .sites) (good .some), le-leb (house .sites) sizes.sites (good .few))
+  house-ok = good-passes house good
 
   here-ok : isSite house s ≡ true
   unfolding isSite
@@ -217,7 +217,7 @@ pub fresh-kept : (house : House) → GoodHouse house → Kept house (freshWorld 
 unfolding freshWorld
 fresh-kept house good =
     record {
-      site = λ s a b. rw (started house s good a b, fresh-table (startCode (house .sites) s sizes.keys sizes.lists) sizes.lists)
+      site = λ s a b. rw (started house s good a b, fresh-table (startCode (house .sites) (firstsOf house) s sizes.keys sizes.lists) sizes.lists)
           (fresh-handed house s good a b);
       pass = a-nil;
     }

@@ -75,11 +75,11 @@ module _ {house : House} {w : World} {b : List Fact} (x : Stands (More house) ho
   calls-possible (world.enlist s out tx a) q =
       none-or s (λ t. rw (site-house s t) at (enlist-why (w .site s) (valid s t) (length out) tx a 2 q refl))
   calls-possible (world.read s tx k) q =
-      none-or s (λ t. rw (site-house s t) at (read-why (w .site s) (valid s t) (w .base s) tx k (base-long s t) 2 q refl))
-  calls-possible (world.write s tx k v) q = none-or s (λ t. rw (site-house s t) at (write-why (w .site s) (valid s t) tx k v 2 q refl))
+      none-or s (λ t. read-why (w .site s) (valid s t) (w .base s) tx k (base-long s t) 2 q refl)
+  calls-possible (world.write s tx k v) q = none-or s (λ t. write-why (w .site s) (valid s t) tx k v 2 q refl)
   calls-possible (world.search s p k) q =
       let snapshot : Snapshot = record { installs = p } in
-      none-or s (λ t. rw (site-house s t) at (search-why (w .site s) (valid s t) (w .base s) snapshot k (base-long s t) 2 q refl))
+      none-or s (λ t. search-why (w .site s) (valid s t) (w .base s) snapshot k (base-long s t) 2 q refl)
   calls-possible (world.commit s out tx) q =
       none-else s (λ t. commit-why (w .site s) (valid s t) (length out) (w .lists s) tx (site-ok s t) 2 q refl)
   calls-possible (world.abandon s out tx) q = none-else s (λ t. abandon-why (w .site s) (valid s t) (length out) tx 2 q refl)

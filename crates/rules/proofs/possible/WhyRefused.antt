@@ -101,19 +101,19 @@ module _ (s : Site) (ok : siteOk s ≡ true) where
 
   -- read and write: the key
   access-why : (room k place st : ℕ) → room ≡ sizes.keys
-      → Only (isKey (s .house) k ≡ false) (accessCode (siteOk s) room (s .house) (s .counters .own) k place st)
+      → Only (isKey k ≡ false) (accessCode (siteOk s) room (s .house) (s .counters .own) k place st)
   unfolding accessCode
   access-why room k place st e q =
       fails _ (rw (ok, eq-eqb room sizes.keys e) at (caused (accessCauses (siteOk s) room (s .house) (s .counters .own) k place st) q))
 
   pub read-why : (base : List Value) (t k : ℕ) → length base ≡ sizes.keys
-      → Refuses (Only (isKey (s .house) k ≡ false)) (readOf s base t k .answer)
+      → Refuses (Only (isKey k ≡ false)) (readOf s base t k .answer)
   unfolding readOf readAt readCode readVersion
   read-why base t k size =
       let place = placeOf (s .live) t in
       let b = subAt s place in
       let lost = isForgotten (s .counters .installs) (b .snapshot) in
-      let X = isKey (s .house) k ≡ false in
+      let X = isKey k ≡ false in
       unless-refuses (Only X) (accessCode (siteOk s) (length base) (s .house) (s .counters .own) k place (stageAt (s .live) place)) s [] _
       (λ z. access-why (length base) k place (stageAt (s .live) place) size)
       (λ z. by-test (wroteKey (b .keys) k)
@@ -123,24 +123,24 @@ module _ (s : Site) (ok : siteOk s ≡ true) where
       (λ y. other-cause (readCauses lost (readKey (b .keys) k) (b .keys .read)) refl) (λ y. accepted-refuses (Only X) _ refl))))
 
   pub search-why : (base : List Value) (p : Snapshot) (k : ℕ) → length base ≡ sizes.keys
-      → Refuses (Only (isKey (s .house) k ≡ false)) (searchOf s base p k)
+      → Refuses (Only (isKey k ≡ false)) (searchOf s base p k)
   unfolding searchOf keyCode
   search-why base p k size =
-      let P = Only (isKey (s .house) k ≡ false) in
+      let P = Only (isKey k ≡ false) in
       let causes = keyCauses (siteOk s) (length base) (s .house) (s .counters .own) k in
       by-test (eqb (codeOf causes) 0)
       (λ h. rw h (accepted-refuses P _ refl))
       (λ h. rw h
       (refused-refuses P (codeOf causes) (λ e. fails _ (rw (ok, eq-eqb (length base) sizes.keys size) at (caused causes e)))))
 
-  pub write-why : (t k : ℕ) (v : Value) → Refuses (Only (isKey (s .house) k ≡ false)) (writeOf s t k v .answer)
+  pub write-why : (t k : ℕ) (v : Value) → Refuses (Only (isKey k ≡ false)) (writeOf s t k v .answer)
   unfolding writeOf writeAt writeCodeAt writeCode written quietly
   write-why t k v =
       let place = placeOf (s .live) t in
       let b = subAt s place in
       let n = s .counters .installs in
       let lost = isForgotten n (b .snapshot) in
-      let X = isKey (s .house) k ≡ false in
+      let X = isKey k ≡ false in
       unless-refuses (Only X) (accessCode (siteOk s) sizes.keys (s .house) (s .counters .own) k place (stageAt (s .live) place)) s [] _
       (λ z. access-why sizes.keys k place (stageAt (s .live) place) refl)
       (λ z. by-test (wroteKey (b .keys) k)

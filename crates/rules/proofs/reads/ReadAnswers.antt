@@ -15,6 +15,7 @@ use Rattle.kinds.specs.declared.Site.{Site}
 use Rattle.kinds.specs.declared.Answer.the-variants.{Refused, Found}
 use Rattle.kinds.specs.State.{Value, subAt}
 use Rattle.rules.specs.House.{homeOf}
+use Rattle.rules.specs.HouseLaws.{key-low}
 use Rattle.rules.specs.Keys.{wroteKey, wroteValue, readKey}
 use Rattle.rules.specs.Live.{stageAt, placeOf}
 use Rattle.rules.specs.History.{isForgotten, versionOf}
@@ -52,10 +53,6 @@ found a v e = ap (onFound 0 (λ n. n)) e
 pub not-found : (n : ℕ) (v : Value) → Refused n ≡ Found v → ⊥
 not-found n v e = let z : _≡_ {A = ℕ} 0 1 = ap (onFound 0 (λ n. 1)) e in omega arith
 
-pub low-key : (house : House) (k s : ℕ) → home house k ≡ s → s ≤ sizes.sites → k < sizes.keys
-unfolding homeOf
-low-key house k s e h = omega arith
-
 module _ {house : House} {w : World} {p : Protocol} (r : Refines house w p) (i : Invariant house p) (b : BasesAre house w p) (s t k : ℕ)
     (v : Value) where
   abbrev site : Site
@@ -85,7 +82,7 @@ module _ {house : House} {w : World} {p : Protocol} (r : Refines house w p) (i :
       let size : p .live s t .snapshot .installs ≤ length (inst p s) = omega (arith, i .parts .low s t (i .parts .has s t h)) in
       rw (a .part, a .installs, ← e)
       (version-left (site .history) (inst p s) (w .base s) (p .live s t .snapshot) k (a .history) size kept
-      (b s k (a .low) (a .high) (low-key house k s (a .home) (omega (arith, r .few, a .high)))))
+      (b s k (a .low) (a .high) (key-low house s k (omega (arith, r .few, a .high)) (a .home))))
 
   reads-seen : Reaches r s t k → wroteKey (subAt site spot .keys) k ≡ false
       → readCode (isForgotten (site .counters .installs) (subAt site spot .snapshot)) (readKey (subAt site spot .keys) k)

@@ -8,7 +8,7 @@ use Rattle.kinds.specs.Sizes as sizes
 use Rattle.kinds.specs.declared.House.{House}
 use Rattle.rules.specs.History.{forgotten}
 use Rattle.rules.specs.Install.{startCode}
-use Rattle.rules.specs.World.{World, freshWorld}
+use Rattle.rules.specs.World.{World, firstsOf, freshWorld}
 use Rattle.rules.specs.Reads.{ReadsRight}
 use Rattle.rules.proofs.protocol.Protocol.{freshProtocol}
 use Rattle.rules.proofs.book.BookKept.{at-same}
@@ -57,7 +57,7 @@ call-reads few w v u c h i z ss e j m =
 bases-fresh : (house : House) → BasesAre house (freshWorld house) freshProtocol
 unfolding freshWorld freshProtocol forgotten
 bases-fresh house s k l h low =
-    rw (fresh-table (startCode (house .sites) s sizes.keys sizes.lists) sizes.keys)
+    rw (fresh-table (startCode (house .sites) (firstsOf house) s sizes.keys sizes.lists) sizes.keys)
     (getD-replicate {A = ℕ} sizes.keys k 0 0 low ∙ sym (left-none _ k))
 
 pub fresh-reads : (house : House) → Reads house (freshWorld house) freshStream

@@ -16,6 +16,7 @@ use Rattle.kinds.specs.declared.Snapshot.{Snapshot}
 use Rattle.kinds.specs.declared.Answer.the-variants.{Refused, Searched}
 use Rattle.kinds.specs.State.{Value}
 use Rattle.rules.specs.House.{homeOf}
+use Rattle.rules.specs.HouseLaws.{key-low}
 use Rattle.rules.specs.KeysLaws.{by-order}
 use Rattle.rules.specs.History.{forgotten, isForgotten, searchIn}
 use Rattle.rules.specs.SearchLaws.{search-same}
@@ -40,7 +41,6 @@ use Rattle.rules.proofs.reads.Versions.{leftBelow, left-same, left-sinc
 use Rattle.rules.proofs.reads.MovesTold.{Stays, stays-steps}
 use Rattle.rules.proofs.reads.BasesKept.{BasesAre}
 use Rattle.rules.proofs.reads.LeftInstalls.{Counted, left-of}
-use Rattle.rules.proofs.reads.ReadAnswers.{low-key}
 use Rattle.rules.proofs.reads.ReadsRight.{Reads, call-reads, fresh-reads}
 
 -- The call.
@@ -72,7 +72,7 @@ module _ {house : House} {w : World} {p : Protocol} (r : Refines house w p) (b :
       let y = r .site s l h in
       let lives = ap (λ (h : House). homeOf h k) (sym (y .house-is)) ∙ c .here ∙ y .counters .own-is in
       let many = y .counters .installs-are in
-      let base = b s k l h (low-key house k s lives (omega (arith, r .few))) in
+      let base = b s k l h (key-low house s k (omega (arith, r .few)) lives) in
       record {
         lives = lives;
         value = λ few.

@@ -13,14 +13,15 @@ use Rattle.kinds.specs.declared.House.{House}
 use Rattle.kinds.specs.Word as word
 use Rattle.kinds.specs.State.{Value}
 use Rattle.kinds.specs.declared.Answer.the-variants.{Standing}
-use Rattle.rules.specs.House.{coordinatorOf, houseOk, GoodHouse}
+use Rattle.rules.specs.House.{coordinatorOf, GoodHouse}
+use Rattle.rules.specs.HouseLaws.{good-passes}
 use Rattle.rules.specs.Merger.{sourceAt, pastSource, freshMerger, mergerStartCode, mergerStartOf}
 use Rattle.rules.specs.MergerKept.{fresh-holds}
 use Rattle.rules.specs.Copy.{copyNumber, copyCoordinator, copyValue, valueCode, valueOf, copyStartOf}
 use Rattle.rules.specs.World.{World, freshWorld}
 use Rattle.rules.proofs.lists.Tables.{a-nil}
 use Rattle.rules.proofs.protocol.ProtocolTables.{Protocol}
-use Rattle.rules.proofs.refine.RefineFresh.{refines-fresh}
+use Rattle.rules.proofs.refine.RefineFresh.{merger-started, refines-fresh}
 use Rattle.rules.proofs.stream.Stream as stream
 use Rattle.rules.proofs.stream.Stream.{Stream, freshStream}
 use Rattle.rules.proofs.stream.StreamInv.{pastItem, itemAt, item-number, item-committed}
@@ -33,14 +34,9 @@ use Rattle.rules.proofs.refine.RefineReplay.{end-number, end-coordinato
 abbrev zeros : ℕ → List ℕ
 zeros n = replicate n 0
 
-merger-started : (n : ℕ) → 1 ≤ n → n ≤ sizes.sites
-    → (mergerStartOf n (zeros sizes.queues) .merger ≡ freshMerger n) × (mergerStartOf n (zeros sizes.queues) .queues ≡ zeros sizes.queues)
-unfolding mergerStartOf mergerStartCode houseOk
-merger-started n a b = rw (le-leb 1 n a, le-leb n sizes.sites b) (refl, refl)
-
-fresh-source : (n i : ℕ) → i < sizes.sites → sourceAt (freshMerger n) i ≡ pastSource
+fresh-source : (o : House) (i : ℕ) → i < sizes.sites → sourceAt (freshMerger o) i ≡ pastSource
 unfolding freshMerger
-fresh-source n i h = getD-replicate sizes.sites i pastSource pastSource h
+fresh-source o i h = getD-replicate sizes.sites i pastSource pastSource h
 
 copy-started : copyStartOf (zeros sizes.copy) .copy ≡ zeros sizes.copy
 unfolding copyStartOf
@@ -59,21 +55,21 @@ fresh-copy house =
     }
 
 fresh-merger : (house : House) → GoodHouse house
-    → MergerIs house (freshMerger (house .sites)) (zeros sizes.queues) stream.freshMerger
+    → MergerIs house (freshMerger house) (zeros sizes.queues) stream.freshMerger
 unfolding freshMerger stream.freshMerger
 fresh-merger house good =
     let few = good .few in
     record {
       house-is = refl;
-      holds = fresh-holds (house .sites) sizes.queues (good .some) few refl;
-      source = λ i l. rw (fresh-source (house .sites) i (omega arith))
+      holds = fresh-holds house sizes.queues (good-passes house good) refl;
+      source = λ i l. rw (fresh-source house i (omega arith))
           (record { queued = refl; state-is = refl; last-is = refl; low = omega arith; words = λ j h. absurd (omega arith) });
     }
 
 pub stream-fresh : (house : House) → GoodHouse house → StreamIs house (freshWorld house) freshStream
 unfolding freshWorld freshStream stream.freshMerger
 stream-fresh house good =
-    let (g, q) = merger-started (house .sites) (good .some) (good .few) in
+    let (g, q) = merger-started house good in
     record {
       refines = refines-fresh house good;
       merger = rw (g, q) (fresh-merger house good);

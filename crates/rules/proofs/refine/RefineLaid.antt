@@ -17,13 +17,14 @@ use Rattle.kinds.specs.declared.House.{House}
 use Rattle.kinds.specs.declared.Keys.{Keys}
 use Rattle.rules.specs.MergerJoin.{halved}
 use Rattle.rules.specs.House.{inMask, homeOf}
+use Rattle.rules.specs.HouseLaws.{home-positive}
 use Rattle.rules.specs.Keys.{wroteKey, wroteValue, sortedKey, sortedCount}
 use Rattle.rules.specs.KeysLaws.{by-order, words-length, sorted-low, sorted-wrote, wrote-sorted, word-key, word-value}
 use Rattle.rules.specs.Record.{writeKey, writeValue}
 use Rattle.rules.specs.Merger.{writesIn}
 use Rattle.rules.specs.Copy.{copyValue, putWrites}
 use Rattle.rules.proofs.stream.Stream.{Item}
-use Rattle.rules.proofs.stream.StreamClaims.{leaves, positive-site}
+use Rattle.rules.proofs.stream.StreamClaims.{leaves}
 use Rattle.rules.proofs.refine.RefineMerger.{keyWords, siteWrites, itemWrites, Placed}
 
 -- the value at key k after the first n writes over v
@@ -170,7 +171,7 @@ module _ {house : House} (x : Item) (c : Placed house x) (k : ℕ) (h : k < size
 
     beyond : (n : ℕ) → homeOf o k ≤ n → laid (itemWrites n x) k (writesIn (itemWrites n x)) v ≡ leaves o k v x
     unfolding itemWrites foldBelow
-    beyond zero l = absurd (omega (arith, positive-site o k))
+    beyond zero l = absurd (omega (arith, home-positive o k))
     beyond (suc n) l =
         rw (
           item-count n x,
@@ -183,6 +184,6 @@ module _ {house : House} (x : Item) (c : Placed house x) (k : ℕ) (h : k < size
     pub laid-item : laid (itemWrites (house .sites) x) k (writesIn (itemWrites (house .sites) x)) v ≡ leaves o k v x
     laid-item =
         by-order (house .sites) (homeOf o k)
-        (λ a. let n : inMask (x .mask) (homeOf o k) ≡ false = unset _ (λ t. omega (arith, c .few (homeOf o k) (positive-site o k) t)) in
+        (λ a. let n : inMask (x .mask) (homeOf o k) ≡ false = unset _ (λ t. omega (arith, c .few (homeOf o k) (home-positive o k) t)) in
         below (house .sites) a ∙ rw n)
         (λ a. beyond (house .sites) a)

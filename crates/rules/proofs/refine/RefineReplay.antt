@@ -189,7 +189,8 @@ module _ {house : House} {w : World} {v : Stream} (x : StreamIs house w v) (z : 
         let n : w .replayed c ≡ f .place = x .replayed c ∙ sym is-next in
         let b : getD (w .stream) (f .place) [] ≡ ws =
         rw (x .emitted)
-        (map-at (itemWords (house .sites)) (m .out) pastItem (f .place) (omega (arith, length-map (m .out) (itemWords (house .sites)), f .below)) .1)
+        (map-at (itemWords (house .sites)) (m .out) pastItem (f .place)
+        (omega (arith, length-map (m .out) (itemWords (house .sites)), f .below)) .1)
         ∙ sym (f .words) in
         rw (n, lt-ltb (f .place) (length (w .stream)) (f .there), b, words-same ws) (ap (λ (k : ℕ). k + 1) is-next)
 

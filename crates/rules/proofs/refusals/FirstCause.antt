@@ -317,16 +317,18 @@ call-by w (world.replay c m) = replay-by (w .copy c) m
 call-by w (world.value c key) = value-by (w .copy c) key
 
 -- The starts.
-pub start-by : (sites own base lists : ℕ) → ByFirst (startOf sites own base lists .answer) (startCauses sites own base lists)
+pub start-by : (sites : ℕ) (table : List ℕ) (own base lists : ℕ)
+    → ByFirst (startOf sites table own base lists .answer) (startCauses sites table own base lists)
 unfolding startOf startCode order
-start-by sites own base lists =
-    let l = startCauses sites own base lists in
+start-by sites table own base lists =
+    let l = startCauses sites table own base lists in
     by-first _ l refl (alone-by l Done _ refl (λ z. rw z) (λ n. rw (ne-eqb _ 0 n)))
 
-pub merger-start-by : (sites : ℕ) (queues : List ℕ) → ByFirst (mergerStartOf sites queues .answer) (mergerStartCauses sites (length queues))
+pub merger-start-by : (sites : ℕ) (table queues : List ℕ)
+    → ByFirst (mergerStartOf sites table queues .answer) (mergerStartCauses sites table (length queues))
 unfolding mergerStartOf mergerStartCode order
-merger-start-by sites queues =
-    let l = mergerStartCauses sites (length queues) in
+merger-start-by sites table queues =
+    let l = mergerStartCauses sites table (length queues) in
     by-first _ l refl (alone-by l Done _ refl (λ z. rw z) (λ n. rw (ne-eqb _ 0 n)))
 
 pub copy-start-by : (copy : List ℕ) → ByFirst (copyStartOf copy .answer) (copyStartCauses copy)

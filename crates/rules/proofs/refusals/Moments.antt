@@ -1,6 +1,7 @@
 -- What is refused 26 and what 27: past 1, 2 and 5 the first cause of the coordinator's calls is one of these two, or comes behind them.
 use Prim.Native.Nat.{ℕ}
 use mathlib.Core.Path.{_≡_, refl, sym, _∙_}
+use mathlib.Core.Logic.{_⊎_, inl, inr}
 use mathlib.Core.Bool.{Bool, true, false, not}
 use mathlib.Core.List.{List}
 use native.Mathlib.Omega.{arith}
@@ -140,6 +141,10 @@ no-six (world.value c key) = refl
 not-two : _≡_ {A = ℕ} 6 2 → ⊥
 not-two e = omega arith
 
+not-either : (_≡_ {A = ℕ} 6 2) ⊎ (_≡_ {A = ℕ} 6 22) → ⊥
+not-either (inl e) = omega arith
+not-either (inr e) = omega arith
+
 pub wrong-moments : WrongMoments
 wrong-moments =
     record {
@@ -151,8 +156,8 @@ wrong-moments =
       message = message-moment;
       retired = record {
         call = λ w c. own-numbers .call w c 6 (no-six c);
-        start = λ sites own base lists q. not-two (own-numbers .start sites own base lists 6 q);
-        merger-start = λ sites queues q. not-two (own-numbers .merger-start sites queues 6 q);
+        start = λ sites table own base lists q. not-either (own-numbers .start sites table own base lists 6 q);
+        merger-start = λ sites table queues q. not-either (own-numbers .merger-start sites table queues 6 q);
         copy-start = λ copy q. not-two (own-numbers .copy-start copy 6 q);
       };
     }

@@ -1,6 +1,7 @@
 -- Each call's own numbers: its causes stand in the order of its list, so a number that the list lacks is none of them.
 use Prim.Native.Nat.{ℕ}
 use mathlib.Core.Path.{_≡_, refl, sym, ap, _∙_}
+use mathlib.Core.Logic.{_⊎_, inl, inr}
 use mathlib.Core.Bool.{true}
 use mathlib.Core.List.{List, [], _∷_}
 use borrow.Author.Tests.{eqb-true, eqb-false, ne-eqb}
@@ -58,20 +59,29 @@ own-order w (world.emit out) = refl
 own-order w (world.replay c m) = refl
 own-order w (world.value c key) = refl
 
--- a start has causes of number 2 only
+-- the start of a copy has causes of number 2 only, the other two also of 22
 only-two : (a : Answer) (l : List Cause) (n : ℕ) → ByFirst a l → inOrder (2 ∷ []) l ≡ true → a ≡ Refused n → n ≡ 2
 only-two a l n x t q =
     by-test (eqb n 2)
     (λ e. eqb-true n 2 e)
     (λ e. absurd (by-own a l (2 ∷ []) n x t (rw (ne-eqb 2 n (λ z. eqb-false n 2 e (sym z)))) q))
 
+two-or : (a : Answer) (l : List Cause) (n : ℕ) → ByFirst a l → inOrder (2 ∷ 22 ∷ []) l ≡ true → a ≡ Refused n → (n ≡ 2) ⊎ (n ≡ 22)
+two-or a l n x t q =
+    by-test (eqb n 2)
+    (λ e. inl (eqb-true n 2 e))
+    (λ e. by-test (eqb n 22)
+    (λ f. inr (eqb-true n 22 f))
+    (λ f. absurd (by-own a l (2 ∷ 22 ∷ []) n x t
+    (rw (ne-eqb 2 n (λ z. eqb-false n 2 e (sym z)), ne-eqb 22 n (λ z. eqb-false n 22 f (sym z)))) q)))
+
 pub own-numbers : OwnNumbers
 own-numbers =
     record {
       call = λ w c n. by-own (step w c .answer) (causesOf w c) (numbersOf c) n (first-cause .call w c) (own-order w c);
-      start = λ sites own base lists n.
-          only-two _ (startCauses sites own base lists) n (first-cause .start sites own base lists) refl;
-      merger-start = λ sites queues n.
-          only-two _ (mergerStartCauses sites (length queues)) n (first-cause .merger-start sites queues) refl;
+      start = λ sites table own base lists n.
+          two-or _ (startCauses sites table own base lists) n (first-cause .start sites table own base lists) refl;
+      merger-start = λ sites table queues n.
+          two-or _ (mergerStartCauses sites table (length queues)) n (first-cause .merger-start sites table queues) refl;
       copy-start = λ copy n. only-two _ (copyStartCauses copy) n (first-cause .copy-start copy) refl;
     }

@@ -17,6 +17,7 @@ use Rattle.kinds.specs.State.{Value, fresh}
 use Rattle.kinds.specs.declared.House.{House}
 use Rattle.kinds.specs.declared.Keys.{Keys}
 use Rattle.rules.specs.House.{coordinatorOf, inMask, homeOf}
+use Rattle.rules.specs.HouseLaws.{home-positive}
 use Rattle.rules.specs.Keys.{wroteKey, wroteValue}
 use Rattle.rules.proofs.protocol.ProtocolTables.{Protocol}
 use Rattle.rules.proofs.protocol.Invariants.{In, Invariant}
@@ -104,10 +105,6 @@ pub left-more : (o : House) (k : ℕ) (v : Value) (l : List Item) (x : Item) →
 left-more o k v [] x = refl
 left-more o k v (y ∷ l) x = left-more o k (leaves o k v y) l x
 
-pub positive-site : (o : House) (k : ℕ) → 1 ≤ homeOf o k
-unfolding homeOf
-positive-site o k = omega arith
-
 module _ (m : Merger) (o : House) (k : ℕ) where
   abbrev value : ℕ → Value
   value n = leftIn o k fresh (take n (m .out))
@@ -146,7 +143,7 @@ module _ {house : House} {p : Protocol} {m : Merger} (inv : Invariant house p) (
   wrote j l e =
       let t = itemAt m j .tx in
       let a : inMask (itemAt m j .mask) (homeOf o k) ≡ true = picked-left _ _ e in
-      let b : In (itemAt m j .mask) (homeOf o k) = (positive-site o k, a) in
+      let b : In (itemAt m j .mask) (homeOf o k) = (home-positive o k, a) in
       let c : itemAt m j .keys (homeOf o k) ≡ p .keys (homeOf o k) t = q .parts j (homeOf o k) l b in
       let d : wroteKey (itemAt m j .keys (homeOf o k)) k ≡ true = picked-right (inMask (itemAt m j .mask) (homeOf o k)) _ e in (
         (
