@@ -12,6 +12,7 @@ use Rattle.rules.specs.World.{Member}
 use Rattle.rules.specs.Book.{Fact, began, used, wrote, committed, installed, replayed}
 use Rattle.rules.specs.Claim.{Demand3, Committed, Dependent, on-write-of-other, Parts, Saw, NoneHalfSeen}
 use Rattle.rules.proofs.demand.Theorem.{demand3}
+use Rattle.rules.proofs.houses.Placed.{keys-placed}
 use Rattle.played.specs.Script.{even}
 use Rattle.played.specs.Second.{secondCalls, secondBook, spanning, halfSeeing, later}
 use Rattle.played.specs.Seen.{SawBoth, SawHalf}
@@ -146,7 +147,7 @@ saw-half = ((half-touches, half-parts .0, half-parts .1, half-saw-1), half-misse
 -- claim (C) of this list
 none-half-seen : NoneHalfSeen secondBook
 unfolding Demand3
-none-half-seen = rw (← second-book) (demand3 (even 2) secondCalls (record { some = lit< tt; few = lit< tt }) second-lawful .half-seen)
+none-half-seen = rw (← second-book) (demand3 (even 2) secondCalls (keys-placed .even-good 2 (lit< tt) (lit< tt)) second-lawful .half-seen)
 
 pub none-committed : (n c : ℕ) → Committed secondBook halfSeeing n c → ⊥
 none-committed n c m =
