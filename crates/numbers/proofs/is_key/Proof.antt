@@ -1,15 +1,12 @@
--- The test of the site.
+-- Below 2,048.
 use Rattle.rules.specs.House.{isKey}
 use borrow.Author.Needs.{needs}
 use Rattle.numbers.proofs.is_key.Statement.{statement}
 use Rattle.numbers.proofs.is_key.Tie as tie
 
-home-of-requires : tie.Need-home-of-requires
-home-of-requires c κs = search needs
-
 returns : tie.Need-returns
 unfolding isKey
-returns c = rw (c .home-of .ensures)
+returns c = search needs
 
 pub is-key-spec : {M : Type 1} → statement M
-is-key-spec = tie.close (tie.spec home-of-requires returns)
+is-key-spec = tie.close (tie.spec returns)
