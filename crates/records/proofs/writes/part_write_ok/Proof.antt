@@ -1,8 +1,8 @@
 -- Each return is the test that failed, or the last.
 use borrow.Author.Needs.{needs}
-use borrow.Author.Tests.{not-true, not-false}
+use borrow.Author.Tests.{not-true, not-false, le-leb, lt-leb}
 use Rattle.laws.specs.Choice.{pick-self}
-use Rattle.rules.specs.Record.{partWriteOk}
+use Rattle.rules.specs.Record.{writeKey}
 use Rattle.records.proofs.writes.part_write_ok.Statement.{statement}
 use Rattle.records.proofs.writes.part_write_ok.Tie as tie
 
@@ -10,7 +10,6 @@ key-ascends-requires : tie.Need-key-ascends-requires
 key-ascends-requires c κs = search needs
 
 returns : tie.Need-returns
-unfolding partWriteOk
 returns c = search (← c .before .key-ascends .ensures, not-true (c .before .key-ascends .result) (c .if1 .taken), needs)
 
 mul-key : tie.Need-mul-key
@@ -25,20 +24,6 @@ mul-key-2 c = search needs
 shared-slice-read-key : tie.Need-shared-slice-read-key
 shared-slice-read-key c = search needs
 
-home-of-requires : tie.Need-home-of-requires
-home-of-requires c κs = search needs
-
-returns-2 : tie.Need-returns-2
-unfolding partWriteOk
-returns-2 c =
-    search (
-      ← c .home-of .ensures,
-      ← c .before .before .before .key-ascends .ensures,
-      not-false (c .before .before .before .key-ascends .result) (c .before .before .if1 .left),
-      pick-self,
-      needs,
-    )
-
 pub part-write-ok-spec : {M : Type 1} → statement M
 part-write-ok-spec =
     tie.close
@@ -48,6 +33,4 @@ part-write-ok-spec =
     mul-key
     add-key
     mul-key-2
-    shared-slice-read-key
-    home-of-requires
-    returns-2)
+    shared-slice-read-key)
