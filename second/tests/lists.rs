@@ -15,6 +15,7 @@ use second::house::House;
 use second::probe::random;
 use second::scripts::generate;
 use second::sizes::*;
+use second::table::{even, Table};
 use second::tally::Tally;
 use second::world::{Answer, Call};
 
@@ -176,13 +177,27 @@ fn found(house: &mut Probed, [site, snapshot, key]: [u64; 3]) -> Option<[u64; 2]
     Some([value.parse().ok()?, count.parse().ok()?])
 }
 
+/// The last key of each site, as the lines before the last `house` say.
+fn lasts_of(probe: &str) -> Vec<u64> {
+    let (head, tail) = probe.rsplit_once("house ").unwrap();
+    let sites: u64 = tail.lines().next().unwrap().parse().unwrap();
+    let mut firsts = even(8);
+    for line in head.lines().filter_map(|line| line.strip_prefix("table ")) {
+        let (place, first) = line.split_once(' ').unwrap();
+        firsts[place.parse::<usize>().unwrap() - 1] = first.parse().unwrap();
+    }
+    let table = Table::start(sites, &firsts[..sites as usize]).unwrap();
+    (1..=sites).map(|site| table.keys(site).end - 1).collect()
+}
+
 /// A version that equals the base value is taken for no hit.
-fn end_of(house: &mut Probed, [site, snapshot, key]: [u64; 3]) -> Option<End> {
+fn end_of(house: &mut Probed, lasts: &[u64], [site, snapshot, key]: [u64; 3]) -> Option<End> {
     let [value, count] = found(house, [site, snapshot, key])?;
     let [base, _] = found(house, [site, 0, key])?;
     // Hardly ever do entries have each of the site's last keys.
-    let last = site * SITE_KEYS;
-    let visible = (last - 4..last).filter_map(|key| Some(found(house, [site, snapshot, key])?[1]));
+    let last = lasts[site as usize - 1];
+    let visible = (last.saturating_sub(3)..=last)
+        .filter_map(|key| Some(found(house, [site, snapshot, key])?[1]));
     let visible = visible.max()?;
     Some(match count {
         0 => End::NothingVisible,
@@ -197,11 +212,12 @@ fn end_of(house: &mut Probed, [site, snapshot, key]: [u64; 3]) -> Option<End> {
 fn random_searches_do_not_all_end_alike() {
     let mut ends: BTreeMap<End, u64> = BTreeMap::new();
     for seed in PROBES {
-        let mut house = Probed::of(1);
-        for line in random::probe(seed, 1_500).lines() {
+        let (mut house, text) = (Probed::of(1), random::probe(seed, 1_500));
+        let lasts = lasts_of(&text);
+        for line in text.lines() {
             if let Some(numbers) = line.strip_prefix("search ") {
                 let numbers: Vec<u64> = numbers.split(' ').map(|it| it.parse().unwrap()).collect();
-                if let Some(end) = end_of(&mut house, numbers.try_into().unwrap()) {
+                if let Some(end) = end_of(&mut house, &lasts, numbers.try_into().unwrap()) {
                     *ends.entry(end).or_default() += 1;
                 }
             }

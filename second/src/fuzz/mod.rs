@@ -5,6 +5,7 @@
 
 mod choose;
 mod forge;
+mod starts;
 
 use crate::answer::Refusal;
 use crate::book::Book;
@@ -15,6 +16,7 @@ use crate::merger::Merger;
 use crate::random::Random;
 use crate::site::Site;
 use crate::sizes::*;
+use crate::table::{even, Table};
 use crate::tally::Tally;
 use crate::world::{Answer, Call, World};
 
@@ -39,6 +41,7 @@ enum Before {
 pub struct Fuzz {
     random: Random,
     world: World,
+    table: Table,
     book: Book,
     tally: Tally,
     /// Every message ever written; a log for each site; the stream for each copy.
@@ -78,20 +81,22 @@ impl Fuzz {
     fn new(seed: u64, trace: bool) -> Self {
         let mut random = Random::new(seed);
         let sites = random.between(1, SITES as u64);
-        let mut world = World::start(sites).expect("1 to 8 sites");
+        let firsts = if random.chance(40) { even(sites) } else { random.firsts(sites) };
+        let mut world = World::start(sites, &firsts).expect("a good table");
         if random.chance(20) {
             near_the_ends(&mut world, &mut random);
         }
         let mute = (random.between(1, 24), random.between(1, 8));
         Fuzz {
             book: Book::of(&world),
+            table: world.merger.table,
             world,
             tally: Tally::default(),
             posted: Vec::new(),
             logs: vec![Spool::default(); sites as usize],
             stream: Vec::new(),
             replayed: vec![0; COPIES],
-            keys: [2, 5, 40, SITE_KEYS][random.below(4) as usize],
+            keys: [2, 5, 40, KEYS][random.below(4) as usize],
             lone: random.chance(25),
             proofing: [10, 50, 90][random.below(3) as usize],
             filling: [0, 6, 30][random.below(3) as usize],
@@ -109,6 +114,9 @@ impl Fuzz {
         }
         if self.random.chance(1) {
             return self.forged_join();
+        }
+        if self.random.chance(1) {
+            return self.forged_start();
         }
         let (handed, source) = self.choose();
         let call = source.call(&handed);

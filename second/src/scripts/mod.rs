@@ -13,6 +13,7 @@ mod noise;
 mod profile;
 mod scenes;
 mod steps;
+mod tables;
 
 use std::fmt::Write;
 
@@ -22,7 +23,6 @@ use crate::desk::Desk;
 use crate::house::{House, Observer, Running};
 use crate::random::Random;
 use crate::site::{Part, Site};
-use crate::sizes::*;
 use crate::tally::Tally;
 use crate::world::{Answer, Call, World};
 
@@ -36,6 +36,11 @@ struct Watcher {
 }
 
 impl Observer for Watcher {
+    fn start(&mut self, world: &World) {
+        self.book = Book::of(world);
+        self.tally.table(&world.merger.table);
+    }
+
     fn called(
         &mut self,
         call: &Call,
@@ -182,11 +187,6 @@ impl Generator {
         }
         let step = self.random.between(1, self.sites() - 1);
         (site - 1 + step) % self.sites() + 1
-    }
-
-    /// A key of a site within the profile's range.
-    fn key_of(&mut self, site: u64) -> u64 {
-        (site - 1) * SITE_KEYS + self.random.below(self.profile.keys)
     }
 
     /// Live parts with their sites, all or those that a condition picks.
