@@ -39,7 +39,7 @@ fn scripts_reach_all_that_they_can() {
     for seed in 1..=150 {
         tally.add(&generate(seed, None).tally);
     }
-    for number in [2, 3, 5, 27, 7, 8, 9, 10, 11, 12, 15, 17] {
+    for number in [2, 22, 3, 5, 27, 7, 8, 9, 10, 11, 12, 15, 17] {
         assert!(tally.get("any line", &format!("refused {number:2}")) > 0, "refusal {number}");
     }
     for number in [1, 4, 6, 26, 13, 14, 16] {
@@ -53,6 +53,15 @@ fn scripts_reach_all_that_they_can() {
     assert!(tally.get("desk house", "refused 12") > 0);
     assert!(tally.get("desk proofing", "refused 12") > 0);
     assert_both_desks(&tally);
+    assert_all_tables(&tally);
+    assert_eq!(tally.get("line sites", "ok"), 150);
+    assert_eq!(tally.get("line sites", "refused 22"), tally.get("any line", "refused 22"));
+}
+
+fn assert_all_tables(tally: &Tally) {
+    for kind in ["even", "uneven", "site of one"] {
+        assert!(tally.get("table", kind) > 5, "{kind}");
+    }
 }
 
 /// Both desks begin and meet their limits, at coordinators and at participants; a
@@ -90,6 +99,7 @@ fn random_lists_keep_the_book_and_tell_the_wrong_site_from_the_wrong_stage() {
     assert_eq!(tally.total("refused  6"), 0, "a call gave 6");
     assert!(tally.get("read", "refused 11") > 0);
     assert_both_desks(&tally);
+    assert_all_tables(&tally);
 }
 
 const PROBES: std::ops::RangeInclusive<u64> = 1..=12;

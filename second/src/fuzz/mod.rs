@@ -86,12 +86,14 @@ impl Fuzz {
         if random.chance(20) {
             near_the_ends(&mut world, &mut random);
         }
+        let mut tally = Tally::default();
+        tally.table(&world.merger.table);
         let mute = (random.between(1, 24), random.between(1, 8));
         Fuzz {
             book: Book::of(&world),
             table: world.merger.table,
             world,
-            tally: Tally::default(),
+            tally,
             posted: Vec::new(),
             logs: vec![Spool::default(); sites as usize],
             stream: Vec::new(),
@@ -150,9 +152,10 @@ impl Fuzz {
     /// record ascends, a due record is whole. Of the coordinator's calls, 26 falls
     /// only at another site and 27 only at the coordinator; 26 falls in no other call.
     /// A search is refused 2 or 3. A begin is refused 2 for a site or a desk that is
-    /// none, whatever else applies, and for nothing else.
+    /// none, whatever else applies, and for nothing else. None of these calls gives 22.
     fn is_out_of_reach(&self, call: &Call, refusal: Refusal) -> bool {
         match *call {
+            _ if refusal == Refusal::BadTable => true,
             Call::Begin { site, desk } => {
                 let possible = is_site(site, self.world.sites.len() as u64);
                 let possible = possible && Desk::of(desk).is_some();

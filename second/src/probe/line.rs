@@ -62,6 +62,10 @@ pub fn parse(line: &str) -> Result<Option<Line>, String> {
     let mut words = line.split(' ');
     let verb = words.next().unwrap_or_default().to_string();
     let numbers = words.map(number).collect::<Option<Vec<u64>>>().ok_or("not a number")?;
+    // `merger` wants a field and a value; with one number it is a remark.
+    if verb == "merger" && numbers.len() == 1 {
+        return Ok(None);
+    }
     let known = VERBS.iter().any(|&(name, count)| name == verb && count == numbers.len());
     if known {
         Ok(Some(Line { verb, numbers }))

@@ -5,7 +5,7 @@
 //! 4 (`take` hands in the next message), 13 (counts are too long to spend),
 //! 14 and 16 (logs ascend, and a due record is whole) and 26 (the program asks
 //! the coordinator), nor reasons 5 and 13; and `take` never gives 27, since a
-//! channel brings its messages in turn.
+//! channel brings its messages in turn. No line but `sites` gives 22.
 
 mod desks;
 mod end;
@@ -86,6 +86,7 @@ pub fn generate(seed: u64, lines: Option<u64>) -> Script {
 fn is_out_of_reach(line: &str, refusal: Refusal) -> bool {
     match refusal {
         Refusal::WrongStage => line.starts_with("take"),
+        Refusal::BadTable => !line.starts_with("sites "),
         Refusal::BufferTooShort | Refusal::NotNext | Refusal::NotCoordinator => true,
         Refusal::CountSpent | Refusal::NotAbove | Refusal::PartsDisagree => true,
         _ => false,

@@ -107,7 +107,7 @@ impl Profile {
         }
         profile.firsts = match random.below(20) {
             0..=9 => None,
-            10 | 11 => Some(even(profile.sites)),
+            10 => Some(even(profile.sites)),
             _ => Some(random.firsts(profile.sites)),
         };
         profile
