@@ -269,17 +269,12 @@ fn at<T>(list: &mut [T], number: u64) -> Option<&mut T> {
     list.get_mut(place)
 }
 
-/// A short buffer goes before a state or a lent table past its size.
-fn site_call(
-    handed: &mut Handed,
-    line: &Line,
-    words: Words,
-    lent: &Lent,
-    out: &mut [u64],
-) -> Result<Answer, Refusal> {
+/// The outgoing words that a call of a site wants, and whether what else it is lent has
+/// its length.
+fn lengths(verb: &str, lent: &Lent) -> (usize, bool) {
     let tables = lent.places == PLACES && lent.slots == SLOTS;
     let (base, lists) = (lent.base == KEYS, lent.lists == LISTS);
-    let (wanted, whole) = match line.verb.as_str() {
+    let (wanted, whole) = match verb {
         "enlist" | "abandon" => (SEND_BUFFER, true),
         "commit" | "message" => (SEND_BUFFER, lists),
         "install" => (PART_BUFFER, base),
@@ -288,8 +283,20 @@ fn site_call(
         "start" => (0, base && lists),
         _ => (0, true),
     };
+    (wanted, tables && whole)
+}
+
+/// A short buffer goes before a state or a lent table past its size.
+fn site_call(
+    handed: &mut Handed,
+    line: &Line,
+    words: Words,
+    lent: &Lent,
+    out: &mut [u64],
+) -> Result<Answer, Refusal> {
+    let (wanted, whole) = lengths(&line.verb, lent);
     require(out.len() >= wanted, Refusal::BufferTooShort)?;
-    require(tables && whole, Refusal::Impossible)?;
+    require(whole, Refusal::Impossible)?;
     if let ("start", &[_, sites, own]) = (line.verb.as_str(), line.numbers.as_slice()) {
         *handed = Handed::new(Site::start(sites, words.table.firsts(sites), own)?);
         return Ok(Answer::Done);

@@ -105,11 +105,16 @@ impl Profile {
         if random.chance(30) {
             profile.laggard = Some(random.between(1, profile.sites));
         }
-        profile.firsts = match random.below(20) {
-            0..=9 => None,
-            10 => Some(even(profile.sites)),
-            _ => Some(random.firsts(profile.sites)),
-        };
+        profile.firsts = firsts(random, profile.sites);
         profile
+    }
+}
+
+/// Q3.7: half of the houses get none; the default may be given too.
+fn firsts(random: &mut Random, sites: u64) -> Option<Vec<u64>> {
+    match random.below(20) {
+        0..=9 => None,
+        10 => Some(even(sites)),
+        _ => Some(random.firsts(sites)),
     }
 }
