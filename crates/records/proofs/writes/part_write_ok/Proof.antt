@@ -2,7 +2,6 @@
 use borrow.Author.Needs.{needs}
 use borrow.Author.Tests.{not-true, not-false, le-leb, lt-leb}
 use Rattle.laws.specs.Choice.{pick-self}
-use Rattle.rules.specs.Record.{writeKey}
 use Rattle.records.proofs.writes.part_write_ok.Statement.{statement}
 use Rattle.records.proofs.writes.part_write_ok.Tie as tie
 
@@ -24,6 +23,18 @@ mul-key-2 c = search needs
 shared-slice-read-key : tie.Need-shared-slice-read-key
 shared-slice-read-key c = search needs
 
+returns-2 : tie.Need-returns-2
+returns-2 c =
+    let ascends = c .before .before .before .key-ascends in
+    let if1 = c .before .before .if1 in
+    search (← ascends .ensures, not-false (ascends .result) (if1 .left), lt-leb _ _ (c .if2 .taken), needs)
+
+returns-3 : tie.Need-returns-3
+returns-3 c =
+    let ascends = c .before .before .before .key-ascends in
+    let if1 = c .before .before .if1 in
+    search (← ascends .ensures, not-false (ascends .result) (if1 .left), le-leb _ _ (c .if2 .left), pick-self, needs)
+
 pub part-write-ok-spec : {M : Type 1} → statement M
 part-write-ok-spec =
     tie.close
@@ -33,4 +44,6 @@ part-write-ok-spec =
     mul-key
     add-key
     mul-key-2
-    shared-slice-read-key)
+    shared-slice-read-key
+    returns-2
+    returns-3)
