@@ -1,4 +1,5 @@
--- A line of a script (H1 to H20): a verb and up to four decimal numbers below 2^64, with one space between; anything else is Bad.
+-- A line of a script (H1 to H20): a verb and up to nine decimal numbers below 2^64, with one space between; anything else is Bad.
+-- Only `sites` takes more than four: behind its number of sites stand up to eight first keys.
 use Prim.Native.Nat.{ℕ, suc, _+_, _-_, _*_, _≤_, _<_}
 use mathlib.Core.Path.{_≡_}
 use mathlib.Core.List.{List, [], _∷_}
@@ -28,25 +29,65 @@ unfoldable pub grown : ℕ → ℕ → ℕ → Grown
 grown ended v x = pick (eqb ended 0) (letter v x) (digit v x)
 
 unfoldable pub start : Scan
-start = record { ended = 0; begun = 0; word = 0; back1 = 0; back2 = 0; back3 = 0; back4 = 0 }
+start = record {
+  ended = 0;
+  begun = 0;
+  word = 0;
+  back1 = 0;
+  back2 = 0;
+  back3 = 0;
+  back4 = 0;
+  back5 = 0;
+  back6 = 0;
+  back7 = 0;
+  back8 = 0;
+  back9 = 0;
+}
+
+-- the same ended words, with another count, mark and present word
+abbrev pub going : Scan → ℕ → ℕ → ℕ → Scan
+going s ended begun word = record {
+  ended = ended;
+  begun = begun;
+  word = word;
+  back1 = s .back1;
+  back2 = s .back2;
+  back3 = s .back3;
+  back4 = s .back4;
+  back5 = s .back5;
+  back6 = s .back6;
+  back7 = s .back7;
+  back8 = s .back8;
+  back9 = s .back9;
+}
 
 abbrev pub spoilt : Scan → Scan
-spoilt s =
-    record { ended = 5; begun = s .begun; word = s .word; back1 = s .back1; back2 = s .back2; back3 = s .back3; back4 = s .back4 }
+spoilt s = going s 10 (s .begun) (s .word)
 
 abbrev pub nextWord : Scan → Scan
-nextWord s =
-    record { ended = s .ended + 1; begun = 0; word = 0; back1 = s .word; back2 = s .back1; back3 = s .back2; back4 = s .back3 }
+nextWord s = record {
+  ended = s .ended + 1;
+  begun = 0;
+  word = 0;
+  back1 = s .word;
+  back2 = s .back1;
+  back3 = s .back2;
+  back4 = s .back3;
+  back5 = s .back4;
+  back6 = s .back5;
+  back7 = s .back6;
+  back8 = s .back7;
+  back9 = s .back8;
+}
 
 unfoldable pub took : Scan → Grown → Scan
-took s (grew.To v) =
-    record { ended = s .ended; begun = 1; word = v; back1 = s .back1; back2 = s .back2; back3 = s .back3; back4 = s .back4 }
+took s (grew.To v) = going s (s .ended) 1 v
 took s grew.Spoilt = spoilt s
 
 -- the scan with one byte more: a space ends a word that has begun, another byte belongs to the word
 unfoldable pub stepped : Scan → ℕ → Scan
 stepped s b =
-    pick (leb 5 (s .ended)) s
+    pick (leb 10 (s .ended)) s
     (pick (eqb b 32)
     (pick (eqb (s .begun) 0) (spoilt s) (nextWord s))
     (took s (grown (s .ended) (s .word) b)))
@@ -66,7 +107,7 @@ noneOf verb =
 
 unfoldable pub oneOf : ℕ → ℕ → Command
 oneOf verb a =
-    pick (eqb verb (verbOf (115 ∷ 105 ∷ 116 ∷ 101 ∷ 115 ∷ []))) (command.Sites a)  -- sites
+    pick (eqb verb (verbOf (115 ∷ 105 ∷ 116 ∷ 101 ∷ 115 ∷ []))) (command.Sites a 0)  -- sites, with no first keys
     (pick (eqb verb (verbOf (98 ∷ 101 ∷ 103 ∷ 105 ∷ 110 ∷ []))) (command.Begin a 0)  -- begin, for the house
     (pick (eqb verb (verbOf (99 ∷ 111 ∷ 109 ∷ 109 ∷ 105 ∷ 116 ∷ []))) (command.Commit a)  -- commit
     (pick (eqb verb (verbOf (97 ∷ 98 ∷ 97 ∷ 110 ∷ 100 ∷ 111 ∷ 110 ∷ []))) (command.Abandon a)  -- abandon
@@ -78,21 +119,40 @@ oneOf verb a =
 
 unfoldable pub twoOf : ℕ → ℕ → ℕ → Command
 twoOf verb a b =
-    pick (eqb verb (verbOf (98 ∷ 101 ∷ 103 ∷ 105 ∷ 110 ∷ []))) (command.Begin a b)  -- begin
+    pick (eqb verb (verbOf (115 ∷ 105 ∷ 116 ∷ 101 ∷ 115 ∷ []))) (command.Sites a 1)  -- sites
+    (pick (eqb verb (verbOf (98 ∷ 101 ∷ 103 ∷ 105 ∷ 110 ∷ []))) (command.Begin a b)  -- begin
     (pick (eqb verb (verbOf (101 ∷ 110 ∷ 108 ∷ 105 ∷ 115 ∷ 116 ∷ []))) (command.Enlist a b)  -- enlist
     (pick (eqb verb (verbOf (116 ∷ 97 ∷ 107 ∷ 101 ∷ []))) (command.Take a b)  -- take
     (pick (eqb verb (verbOf (118 ∷ 97 ∷ 108 ∷ 117 ∷ 101 ∷ []))) (command.Value a b)  -- value
-    command.Bad)))
+    command.Bad))))
 
 unfoldable pub threeOf : ℕ → ℕ → ℕ → ℕ → Command
 threeOf verb a b c =
-    pick (eqb verb (verbOf (114 ∷ 101 ∷ 97 ∷ 100 ∷ []))) (command.Read a b c)  -- read
-    command.Bad
+    pick (eqb verb (verbOf (115 ∷ 105 ∷ 116 ∷ 101 ∷ 115 ∷ []))) (command.Sites a 2)  -- sites
+    (pick (eqb verb (verbOf (114 ∷ 101 ∷ 97 ∷ 100 ∷ []))) (command.Read a b c)  -- read
+    command.Bad)
 
 unfoldable pub fourOf : ℕ → ℕ → ℕ → ℕ → ℕ → Command
 fourOf verb a b c d =
-    pick (eqb verb (verbOf (119 ∷ 114 ∷ 105 ∷ 116 ∷ 101 ∷ []))) (command.Write a b c d)  -- write
+    pick (eqb verb (verbOf (115 ∷ 105 ∷ 116 ∷ 101 ∷ 115 ∷ []))) (command.Sites a 3)  -- sites
+    (pick (eqb verb (verbOf (119 ∷ 114 ∷ 105 ∷ 116 ∷ 101 ∷ []))) (command.Write a b c d)  -- write
+    command.Bad)
+
+-- a verb with more than four numbers, of which so many stand behind the first
+unfoldable pub manyOf : ℕ → ℕ → ℕ → Command
+manyOf verb a behind =
+    pick (eqb verb (verbOf (115 ∷ 105 ∷ 116 ∷ 101 ∷ 115 ∷ []))) (command.Sites a behind)  -- sites
     command.Bad
+
+-- the command of a line with more than four numbers
+unfoldable pub longOf : Scan → Command
+longOf s =
+    pick (eqb (s .ended) 5) (manyOf (s .back5) (s .back4) 4)
+    (pick (eqb (s .ended) 6) (manyOf (s .back6) (s .back5) 5)
+    (pick (eqb (s .ended) 7) (manyOf (s .back7) (s .back6) 6)
+    (pick (eqb (s .ended) 8) (manyOf (s .back8) (s .back7) 7)
+    (pick (eqb (s .ended) 9) (manyOf (s .back9) (s .back8) 8)
+    command.Bad))))
 
 -- the command of a line whose last word has a byte
 unfoldable pub commandOf : Scan → Command
@@ -103,7 +163,25 @@ commandOf s =
     (pick (eqb (s .ended) 2) (twoOf (s .back2) (s .back1) (s .word))
     (pick (eqb (s .ended) 3) (threeOf (s .back3) (s .back2) (s .back1) (s .word))
     (pick (eqb (s .ended) 4) (fourOf (s .back4) (s .back3) (s .back2) (s .back1) (s .word))
-    command.Bad)))))
+    (longOf s))))))
+
+-- the first keys of a `sites` line that gives more than four
+unfoldable pub longTableOf : Scan → List ℕ
+longTableOf s =
+    pick (eqb (s .ended) 6) (s .back4 ∷ s .back3 ∷ s .back2 ∷ s .back1 ∷ s .word ∷ 0 ∷ 0 ∷ 0 ∷ [])
+    (pick (eqb (s .ended) 7) (s .back5 ∷ s .back4 ∷ s .back3 ∷ s .back2 ∷ s .back1 ∷ s .word ∷ 0 ∷ 0 ∷ [])
+    (pick (eqb (s .ended) 8) (s .back6 ∷ s .back5 ∷ s .back4 ∷ s .back3 ∷ s .back2 ∷ s .back1 ∷ s .word ∷ 0 ∷ [])
+    (pick (eqb (s .ended) 9) (s .back7 ∷ s .back6 ∷ s .back5 ∷ s .back4 ∷ s .back3 ∷ s .back2 ∷ s .back1 ∷ s .word ∷ [])
+    (0 ∷ 0 ∷ 0 ∷ 0 ∷ 0 ∷ 0 ∷ 0 ∷ 0 ∷ []))))
+
+-- the first keys of a `sites` line in their order, 0 behind those given
+unfoldable pub tableOf : Scan → List ℕ
+tableOf s =
+    pick (eqb (s .ended) 2) (s .word ∷ 0 ∷ 0 ∷ 0 ∷ 0 ∷ 0 ∷ 0 ∷ 0 ∷ [])
+    (pick (eqb (s .ended) 3) (s .back1 ∷ s .word ∷ 0 ∷ 0 ∷ 0 ∷ 0 ∷ 0 ∷ 0 ∷ [])
+    (pick (eqb (s .ended) 4) (s .back2 ∷ s .back1 ∷ s .word ∷ 0 ∷ 0 ∷ 0 ∷ 0 ∷ 0 ∷ [])
+    (pick (eqb (s .ended) 5) (s .back3 ∷ s .back2 ∷ s .back1 ∷ s .word ∷ 0 ∷ 0 ∷ 0 ∷ 0 ∷ [])
+    (longTableOf s))))
 
 -- the scan after n bytes more, from the byte at `from` on
 unfoldable pub readOn : List ℕ → ℕ → ℕ → Scan → Scan

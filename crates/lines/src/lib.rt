@@ -1,8 +1,9 @@
-// Lines of a script (H1 to H20 and Q10.7): a verb and up to four numbers, with one space between two words. A line is read byte by
+// Lines of a script (H1 to H20 and Q10.7): a verb and up to nine numbers, with one space between two words. A line is read byte by
 // byte, so none is too long, whatever zeros stand before a number.
 mod verb;
 
 use verb::four;
+use verb::many;
 use verb::none;
 use verb::one;
 use verb::three;
@@ -10,10 +11,12 @@ use verb::two;
 ghost use mathlib.Core.Path.{_≡_};
 ghost use Prim.Native.Nat.{_+_, _-_, _≤_, _<_};
 ghost use lib.ListN.{length};
-ghost use Rattle.lines.specs.Line.{letter as letterOf, digit as digitOf, grown, start as startOf, stepped, commandOf, readOn, Ends};
+ghost use Rattle.lines.specs.Line.{letter as letterOf, digit as digitOf, grown, start as startOf, stepped, readOn, Ends};
+ghost use Rattle.lines.specs.Line.{commandOf, longOf, tableOf, longTableOf};
 
 pub enum Command {
-    Sites(u64),
+    // How many sites, and how many first keys the line gives behind that number.
+    Sites(u64, u64),
     Begin(u64, u64),
     Enlist(u64, u64),
     Read(u64, u64, u64),
@@ -34,7 +37,7 @@ const NEWLINE: u8 = 10;
 
 const SPACE: u8 = 32;
 // A line of this many ended words is none of a script's.
-const BAD: u64 = 5;
+const BAD: u64 = 10;
 
 // The largest number, and without its last digit.
 const LAST: u64 = 18446744073709551615;
@@ -53,6 +56,11 @@ pub struct Scan {
     pub back2: u64,
     pub back3: u64,
     pub back4: u64,
+    pub back5: u64,
+    pub back6: u64,
+    pub back7: u64,
+    pub back8: u64,
+    pub back9: u64,
 }
 
 // A word with one byte more, if it has such a byte.
@@ -72,6 +80,11 @@ pub fn start() -> Scan
         back2: 0,
         back3: 0,
         back4: 0,
+        back5: 0,
+        back6: 0,
+        back7: 0,
+        back8: 0,
+        back9: 0,
     }
 }
 
@@ -144,6 +157,11 @@ pub fn step(s: Scan, b: u8) -> Scan
             back2: s.back1,
             back3: s.back2,
             back4: s.back3,
+            back5: s.back4,
+            back6: s.back5,
+            back7: s.back6,
+            back8: s.back7,
+            back9: s.back8,
         };
     }
     let g = grow(ended, s.word, b);
@@ -158,6 +176,29 @@ pub fn step(s: Scan, b: u8) -> Scan
             t
         }
     }
+}
+
+// The command of a line with more than four numbers.
+fn long(s: Scan) -> Command
+    ensures { λ r. ⌜ r ≡ longOf s ⌝ }
+{
+    let ended = s.ended;
+    if ended == 5 {
+        return many(s.back5, s.back4, 4);
+    }
+    if ended == 6 {
+        return many(s.back6, s.back5, 5);
+    }
+    if ended == 7 {
+        return many(s.back7, s.back6, 6);
+    }
+    if ended == 8 {
+        return many(s.back8, s.back7, 7);
+    }
+    if ended == 9 {
+        return many(s.back9, s.back8, 8);
+    }
+    Command::Bad
 }
 
 // The command that a line is.
@@ -184,7 +225,65 @@ pub fn told(s: Scan) -> Command
     if ended == 4 {
         return four(s.back4, s.back3, s.back2, s.back1, s.word);
     }
-    Command::Bad
+    long(s)
+}
+
+// The first keys of a `sites` line that gives more than four.
+fn long_table(s: Scan) -> [u64; 8]
+    ensures { λ r. ⌜ r ≡ longTableOf s ⌝ }
+{
+    let ended = s.ended;
+    if ended == 6 {
+        return [s.back4, s.back3, s.back2, s.back1, s.word, 0, 0, 0];
+    }
+    if ended == 7 {
+        return [s.back5, s.back4, s.back3, s.back2, s.back1, s.word, 0, 0];
+    }
+    if ended == 8 {
+        return [
+            s.back6,
+            s.back5,
+            s.back4,
+            s.back3,
+            s.back2,
+            s.back1,
+            s.word,
+            0,
+        ];
+    }
+    if ended == 9 {
+        return [
+            s.back7,
+            s.back6,
+            s.back5,
+            s.back4,
+            s.back3,
+            s.back2,
+            s.back1,
+            s.word,
+        ];
+    }
+    [0; 8]
+}
+
+// The first keys of a `sites` line in their order, and 0 behind those that it gives.
+pub fn table(s: Scan) -> [u64; 8]
+    ensures { λ r. ⌜ r ≡ tableOf s ⌝ }
+{
+    let ended = s.ended;
+    if ended == 2 {
+        return [s.word, 0, 0, 0, 0, 0, 0, 0];
+    }
+    if ended == 3 {
+        return [s.back1, s.word, 0, 0, 0, 0, 0, 0];
+    }
+    if ended == 4 {
+        return [s.back2, s.back1, s.word, 0, 0, 0, 0, 0];
+    }
+    if ended == 5 {
+        return [s.back3, s.back2, s.back1, s.word, 0, 0, 0, 0];
+    }
+    long_table(s)
 }
 
 // How far a scan went: to a newline, or to the end of what there is.

@@ -46,6 +46,11 @@ fn behind_verb() -> Scan {
         back2: 0,
         back3: 0,
         back4: 0,
+        back5: 0,
+        back6: 0,
+        back7: 0,
+        back8: 0,
+        back9: 0,
     }
 }
 

@@ -42,7 +42,7 @@ returns-4 : tie.Need-returns-4
 unfolding stepped took
 returns-4 c =
     simp (
-      lt-leb 5 _ (else1 (c .before .before) .if1 .left),
+      lt-leb 10 _ (else1 (c .before .before) .if1 .left),
       ne-eqb _ 32 (else2 (c .before) .if2 .left),
       ← c .before .before .before .grow .ensures,
       c .before .g .given .1,
@@ -52,7 +52,7 @@ returns-5 : tie.Need-returns-5
 unfolding stepped took
 returns-5 c =
     simp (
-      lt-leb 5 _ (else1-2 (c .before) .if1 .left),
+      lt-leb 10 _ (else1-2 (c .before) .if1 .left),
       ne-eqb _ 32 (c .before .before .before .if2 .left),
       ← c .before .before .grow .ensures,
       c .enum-told .given .1,

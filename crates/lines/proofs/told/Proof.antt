@@ -44,9 +44,12 @@ returns-6 : tie.Need-returns-6
 unfolding commandOf
 returns-6 c = search (eq-eqb, ne-eqb, ← c .four .ensures, needs)
 
+long-requires : tie.Need-long-requires
+long-requires c κs = search needs
+
 returns-7 : tie.Need-returns-7
 unfolding commandOf
-returns-7 c = search (eq-eqb, ne-eqb, needs)
+returns-7 c = search (eq-eqb, ne-eqb, ← c .long .ensures, needs)
 
 pub told-spec : {M : Type 1} → statement M
 told-spec =
@@ -63,4 +66,5 @@ told-spec =
     returns-5
     four-requires
     returns-6
+    long-requires
     returns-7)
