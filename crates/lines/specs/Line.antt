@@ -6,7 +6,7 @@ use mathlib.Core.List.{List, [], _∷_}
 use mathlib.Core.Logic.{⊎-elim}
 use native.Mathlib.Nat.{eq-or-lt-of-le}
 use native.Mathlib.Omega.{arith}
-use lib.ListN.{length, getD}
+use lib.ListN.{length, getD, set}
 use lib.Dec.{ltb, leb, eqb}
 use Rattle.laws.specs.Choice.{pick}
 use Rattle.laws.specs.Scan.{foldBelow}
@@ -14,6 +14,7 @@ use Rattle.lines.specs.declared.Command.{Command}
 use Rattle.lines.specs.declared.Command.the-variants as command
 use Rattle.lines.specs.declared.Grown.{Grown}
 use Rattle.lines.specs.declared.Grown.the-variants as grew
+use Rattle.lines.specs.declared.Place.{Place}
 use Rattle.lines.specs.declared.Scan.{Scan}
 
 -- a letter more of a verb of at most seven
@@ -29,68 +30,35 @@ unfoldable pub grown : ℕ → ℕ → ℕ → Grown
 grown ended v x = pick (eqb ended 0) (letter v x) (digit v x)
 
 unfoldable pub start : Scan
-start = record {
-  ended = 0;
-  begun = 0;
-  word = 0;
-  back1 = 0;
-  back2 = 0;
-  back3 = 0;
-  back4 = 0;
-  back5 = 0;
-  back6 = 0;
-  back7 = 0;
-  back8 = 0;
-  back9 = 0;
-}
+start = record { ended = 0; begun = 0; word = 0; words = 0 ∷ 0 ∷ 0 ∷ 0 ∷ 0 ∷ 0 ∷ 0 ∷ 0 ∷ 0 ∷ [] }
 
--- the same ended words, with another count, mark and present word
-abbrev pub going : Scan → ℕ → ℕ → ℕ → Scan
-going s ended begun word = record {
-  ended = ended;
-  begun = begun;
-  word = word;
-  back1 = s .back1;
-  back2 = s .back2;
-  back3 = s .back3;
-  back4 = s .back4;
-  back5 = s .back5;
-  back6 = s .back6;
-  back7 = s .back7;
-  back8 = s .back8;
-  back9 = s .back9;
-}
+-- a scan of its place and its ended words, and the place of a scan
+unfoldable pub scanOf : Place → List ℕ → Scan
+scanOf p ws = record { ended = p .ended; begun = p .begun; word = p .word; words = ws }
+
+unfoldable pub placeOf : Scan → Place
+placeOf s = record { ended = s .ended; begun = s .begun; word = s .word }
+
+unfoldable pub took : Place → Grown → Place
+took p (grew.To v) = record { ended = p .ended; begun = 1; word = v }
+took p grew.Spoilt = record { ended = 10; begun = p .begun; word = p .word }
 
 abbrev pub spoilt : Scan → Scan
-spoilt s = going s 10 (s .begun) (s .word)
+spoilt s = record { ended = 10; begun = s .begun; word = s .word; words = s .words }
 
 abbrev pub nextWord : Scan → Scan
-nextWord s = record {
-  ended = s .ended + 1;
-  begun = 0;
-  word = 0;
-  back1 = s .word;
-  back2 = s .back1;
-  back3 = s .back2;
-  back4 = s .back3;
-  back5 = s .back4;
-  back6 = s .back5;
-  back7 = s .back6;
-  back8 = s .back7;
-  back9 = s .back8;
-}
+nextWord s = record { ended = s .ended + 1; begun = 0; word = 0; words = set (s .words) (s .ended) (s .word) }
 
-unfoldable pub took : Scan → Grown → Scan
-took s (grew.To v) = going s (s .ended) 1 v
-took s grew.Spoilt = spoilt s
+-- a space ends a word that has begun, but for the ninth number: no word is behind it
+unfoldable pub spaced : Scan → Scan
+spaced s = pick (eqb (s .begun) 0) (spoilt s) (pick (leb 9 (s .ended)) (spoilt s) (nextWord s))
 
--- the scan with one byte more: a space ends a word that has begun, another byte belongs to the word
+-- the scan with one byte more: a byte that is no space belongs to the word
 unfoldable pub stepped : Scan → ℕ → Scan
 stepped s b =
     pick (leb 10 (s .ended)) s
-    (pick (eqb b 32)
-    (pick (eqb (s .begun) 0) (spoilt s) (nextWord s))
-    (took s (grown (s .ended) (s .word) b)))
+    (pick (eqb b 32) (spaced s)
+    (scanOf (took (placeOf s) (grown (s .ended) (s .word) b)) (s .words)))
 
 -- a verb's number
 abbrev pub verbFrom : ℕ → List ℕ → ℕ
@@ -144,44 +112,29 @@ manyOf verb a behind =
     pick (eqb verb (verbOf (115 ∷ 105 ∷ 116 ∷ 101 ∷ 115 ∷ []))) (command.Sites a behind)  -- sites
     command.Bad
 
--- the command of a line with more than four numbers
-unfoldable pub longOf : Scan → Command
-longOf s =
-    pick (eqb (s .ended) 5) (manyOf (s .back5) (s .back4) 4)
-    (pick (eqb (s .ended) 6) (manyOf (s .back6) (s .back5) 5)
-    (pick (eqb (s .ended) 7) (manyOf (s .back7) (s .back6) 6)
-    (pick (eqb (s .ended) 8) (manyOf (s .back8) (s .back7) 7)
-    (pick (eqb (s .ended) 9) (manyOf (s .back9) (s .back8) 8)
-    command.Bad))))
-
 -- the command of a line whose last word has a byte
 unfoldable pub commandOf : Scan → Command
 commandOf s =
     pick (eqb (s .begun) 0) command.Bad
     (pick (eqb (s .ended) 0) (noneOf (s .word))
-    (pick (eqb (s .ended) 1) (oneOf (s .back1) (s .word))
-    (pick (eqb (s .ended) 2) (twoOf (s .back2) (s .back1) (s .word))
-    (pick (eqb (s .ended) 3) (threeOf (s .back3) (s .back2) (s .back1) (s .word))
-    (pick (eqb (s .ended) 4) (fourOf (s .back4) (s .back3) (s .back2) (s .back1) (s .word))
-    (longOf s))))))
+    (pick (eqb (s .ended) 1) (oneOf (getD (s .words) 0 0) (s .word))
+    (pick (eqb (s .ended) 2) (twoOf (getD (s .words) 0 0) (getD (s .words) 1 0) (s .word))
+    (pick (eqb (s .ended) 3) (threeOf (getD (s .words) 0 0) (getD (s .words) 1 0) (getD (s .words) 2 0) (s .word))
+    (pick (eqb (s .ended) 4) (fourOf (getD (s .words) 0 0) (getD (s .words) 1 0) (getD (s .words) 2 0) (getD (s .words) 3 0) (s .word))
+    (pick (ltb 9 (s .ended)) command.Bad
+    (manyOf (getD (s .words) 0 0) (getD (s .words) 1 0) (s .ended - 1))))))))
 
--- the first keys of a `sites` line that gives more than four
-unfoldable pub longTableOf : Scan → List ℕ
-longTableOf s =
-    pick (eqb (s .ended) 6) (s .back4 ∷ s .back3 ∷ s .back2 ∷ s .back1 ∷ s .word ∷ 0 ∷ 0 ∷ 0 ∷ [])
-    (pick (eqb (s .ended) 7) (s .back5 ∷ s .back4 ∷ s .back3 ∷ s .back2 ∷ s .back1 ∷ s .word ∷ 0 ∷ 0 ∷ [])
-    (pick (eqb (s .ended) 8) (s .back6 ∷ s .back5 ∷ s .back4 ∷ s .back3 ∷ s .back2 ∷ s .back1 ∷ s .word ∷ 0 ∷ [])
-    (pick (eqb (s .ended) 9) (s .back7 ∷ s .back6 ∷ s .back5 ∷ s .back4 ∷ s .back3 ∷ s .back2 ∷ s .back1 ∷ s .word ∷ [])
-    (0 ∷ 0 ∷ 0 ∷ 0 ∷ 0 ∷ 0 ∷ 0 ∷ 0 ∷ []))))
+-- a line's word by its place: an ended one, the present one, or 0 behind it
+unfoldable pub wordAt : Scan → ℕ → ℕ
+wordAt s at =
+    pick (ltb (s .ended) at) 0
+    (pick (eqb (s .ended) at) (s .word)
+    (pick (leb 9 at) 0 (getD (s .words) at 0)))
 
 -- the first keys of a `sites` line in their order, 0 behind those given
 unfoldable pub tableOf : Scan → List ℕ
 tableOf s =
-    pick (eqb (s .ended) 2) (s .word ∷ 0 ∷ 0 ∷ 0 ∷ 0 ∷ 0 ∷ 0 ∷ 0 ∷ [])
-    (pick (eqb (s .ended) 3) (s .back1 ∷ s .word ∷ 0 ∷ 0 ∷ 0 ∷ 0 ∷ 0 ∷ 0 ∷ [])
-    (pick (eqb (s .ended) 4) (s .back2 ∷ s .back1 ∷ s .word ∷ 0 ∷ 0 ∷ 0 ∷ 0 ∷ 0 ∷ [])
-    (pick (eqb (s .ended) 5) (s .back3 ∷ s .back2 ∷ s .back1 ∷ s .word ∷ 0 ∷ 0 ∷ 0 ∷ 0 ∷ [])
-    (longTableOf s))))
+    wordAt s 2 ∷ wordAt s 3 ∷ wordAt s 4 ∷ wordAt s 5 ∷ wordAt s 6 ∷ wordAt s 7 ∷ wordAt s 8 ∷ wordAt s 9 ∷ []
 
 -- the scan after n bytes more, from the byte at `from` on
 unfoldable pub readOn : List ℕ → ℕ → ℕ → Scan → Scan

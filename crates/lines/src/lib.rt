@@ -12,7 +12,7 @@ ghost use mathlib.Core.Path.{_≡_};
 ghost use Prim.Native.Nat.{_+_, _-_, _≤_, _<_};
 ghost use lib.ListN.{length};
 ghost use Rattle.lines.specs.Line.{letter as letterOf, digit as digitOf, grown, start as startOf, stepped, readOn, Ends};
-ghost use Rattle.lines.specs.Line.{commandOf, longOf, tableOf, longTableOf};
+ghost use Rattle.lines.specs.Line.{scanOf, spaced, took, commandOf, wordAt, tableOf};
 
 pub enum Command {
     // How many sites, and how many first keys the line gives behind that number.
@@ -38,6 +38,10 @@ const NEWLINE: u8 = 10;
 const SPACE: u8 = 32;
 // A line of this many ended words is none of a script's.
 const BAD: u64 = 10;
+// How many words can end: a verb and eight numbers. A ninth number is the last word of its line.
+const WORDS: usize = 9;
+
+const FULL: u64 = 9;
 
 // The largest number, and without its last digit.
 const LAST: u64 = 18446744073709551615;
@@ -46,21 +50,20 @@ const TENTH: u64 = 1844674407370955161;
 // A verb of seven letters is at least this.
 const LONGEST: u64 = 281474976710656;
 
-// What has been read of a line: how many words ended, whether the present one has begun (0 or 1), it, and those before it, the
-// last first. A verb is its letters as digits to the base 256.
+// What has been read of a line: how many words ended, whether the present one has begun (0 or 1), the present one, and the ended
+// ones in their order, the verb first. A verb is its letters as digits to the base 256.
 pub struct Scan {
     pub ended: u64,
     pub begun: u64,
     pub word: u64,
-    pub back1: u64,
-    pub back2: u64,
-    pub back3: u64,
-    pub back4: u64,
-    pub back5: u64,
-    pub back6: u64,
-    pub back7: u64,
-    pub back8: u64,
-    pub back9: u64,
+    pub words: [u64; WORDS],
+}
+
+// Where a scan stands: all of it but its ended words.
+pub struct Place {
+    pub ended: u64,
+    pub begun: u64,
+    pub word: u64,
 }
 
 // A word with one byte more, if it has such a byte.
@@ -76,15 +79,7 @@ pub fn start() -> Scan
         ended: 0,
         begun: 0,
         word: 0,
-        back1: 0,
-        back2: 0,
-        back3: 0,
-        back4: 0,
-        back5: 0,
-        back6: 0,
-        back7: 0,
-        back8: 0,
-        back9: 0,
+        words: [0; WORDS],
     }
 }
 
@@ -134,71 +129,62 @@ fn grow(ended: u64, word: u64, b: u8) -> Grown
     digit(word, b)
 }
 
-// The scan with one byte more.
-pub fn step(s: Scan, b: u8) -> Scan
-    ensures { λ r. ⌜ r ≡ stepped s b ⌝ }
+// The scan with one byte more. Its ended words are lent, so that no byte copies them.
+pub fn step(p: Place, words: &mut [u64; WORDS], b: u8) -> Place
+    ensures { λ r. ⌜ scanOf r (now (words .exit)) ≡ stepped (scanOf p (now (words .entry))) b ⌝ }
 {
-    let ended = s.ended;
-    let begun = s.begun;
+    let ended = p.ended;
     if BAD <= ended {
-        return s;
+        return p;
     }
-    let mut t = s;
     if b == SPACE {
-        if begun == 0 {
-            t.ended = BAD;
-            return t;
-        }
-        return Scan {
-            ended: ended + 1,
-            begun: 0,
-            word: 0,
-            back1: s.word,
-            back2: s.back1,
-            back3: s.back2,
-            back4: s.back3,
-            back5: s.back4,
-            back6: s.back5,
-            back7: s.back6,
-            back8: s.back7,
-            back9: s.back8,
-        };
+        return end_word(p, words);
     }
-    let g = grow(ended, s.word, b);
-    match g {
-        Grown::To(word) => {
-            t.begun = 1;
-            t.word = word;
-            t
-        }
-        Grown::Spoilt => {
-            t.ended = BAD;
-            t
-        }
+    grow_word(p, b)
+}
+
+// A space ends a word that has begun, and spoils any other line.
+fn end_word(p: Place, words: &mut [u64; WORDS]) -> Place
+    ensures { λ r. ⌜ scanOf r (now (words .exit)) ≡ spaced (scanOf p (now (words .entry))) ⌝ }
+{
+    let ended = p.ended;
+    let mut q = p;
+    if p.begun == 0 {
+        q.ended = BAD;
+        return q;
+    }
+    if FULL <= ended {
+        q.ended = BAD;
+        return q;
+    }
+    let i = ended as usize;
+    words[i] = p.word;
+    let next = ended + 1;
+    Place {
+        ended: next,
+        begun: 0,
+        word: 0,
     }
 }
 
-// The command of a line with more than four numbers.
-fn long(s: Scan) -> Command
-    ensures { λ r. ⌜ r ≡ longOf s ⌝ }
+// Another byte belongs to the word.
+fn grow_word(p: Place, b: u8) -> Place
+    ensures { λ r. ⌜ r ≡ took p (grown (p .ended) (p .word) b) ⌝ }
 {
-    let ended = s.ended;
-    if ended == 5 {
-        return many(s.back5, s.back4, 4);
+    let ended = p.ended;
+    let mut q = p;
+    let g = grow(ended, p.word, b);
+    match g {
+        Grown::To(word) => {
+            q.begun = 1;
+            q.word = word;
+            q
+        }
+        Grown::Spoilt => {
+            q.ended = BAD;
+            q
+        }
     }
-    if ended == 6 {
-        return many(s.back6, s.back5, 5);
-    }
-    if ended == 7 {
-        return many(s.back7, s.back6, 6);
-    }
-    if ended == 8 {
-        return many(s.back8, s.back7, 7);
-    }
-    if ended == 9 {
-        return many(s.back9, s.back8, 8);
-    }
-    Command::Bad
 }
 
 // The command that a line is.
@@ -207,6 +193,7 @@ pub fn told(s: Scan) -> Command
 {
     let ended = s.ended;
     let begun = s.begun;
+    let words = s.words;
     if begun == 0 {
         return Command::Bad;
     }
@@ -214,76 +201,55 @@ pub fn told(s: Scan) -> Command
         return none(s.word);
     }
     if ended == 1 {
-        return one(s.back1, s.word);
+        return one(words[0], s.word);
     }
     if ended == 2 {
-        return two(s.back2, s.back1, s.word);
+        return two(words[0], words[1], s.word);
     }
     if ended == 3 {
-        return three(s.back3, s.back2, s.back1, s.word);
+        return three(words[0], words[1], words[2], s.word);
     }
     if ended == 4 {
-        return four(s.back4, s.back3, s.back2, s.back1, s.word);
+        return four(words[0], words[1], words[2], words[3], s.word);
     }
-    long(s)
+    if FULL < ended {
+        return Command::Bad;
+    }
+    many(words[0], words[1], ended - 1)
 }
 
-// The first keys of a `sites` line that gives more than four.
-fn long_table(s: Scan) -> [u64; 8]
-    ensures { λ r. ⌜ r ≡ longTableOf s ⌝ }
+// A line's word by its place: an ended one, the present one, or 0 behind it.
+fn word_at(s: Scan, at: u64) -> u64
+    ensures { λ r. ⌜ r ≡ wordAt s at ⌝ }
 {
     let ended = s.ended;
-    if ended == 6 {
-        return [s.back4, s.back3, s.back2, s.back1, s.word, 0, 0, 0];
+    if ended < at {
+        return 0;
     }
-    if ended == 7 {
-        return [s.back5, s.back4, s.back3, s.back2, s.back1, s.word, 0, 0];
+    if ended == at {
+        return s.word;
     }
-    if ended == 8 {
-        return [
-            s.back6,
-            s.back5,
-            s.back4,
-            s.back3,
-            s.back2,
-            s.back1,
-            s.word,
-            0,
-        ];
+    if FULL <= at {
+        return 0;
     }
-    if ended == 9 {
-        return [
-            s.back7,
-            s.back6,
-            s.back5,
-            s.back4,
-            s.back3,
-            s.back2,
-            s.back1,
-            s.word,
-        ];
-    }
-    [0; 8]
+    let i = at as usize;
+    let words = s.words;
+    words[i]
 }
 
 // The first keys of a `sites` line in their order, and 0 behind those that it gives.
 pub fn table(s: Scan) -> [u64; 8]
     ensures { λ r. ⌜ r ≡ tableOf s ⌝ }
 {
-    let ended = s.ended;
-    if ended == 2 {
-        return [s.word, 0, 0, 0, 0, 0, 0, 0];
-    }
-    if ended == 3 {
-        return [s.back1, s.word, 0, 0, 0, 0, 0, 0];
-    }
-    if ended == 4 {
-        return [s.back2, s.back1, s.word, 0, 0, 0, 0, 0];
-    }
-    if ended == 5 {
-        return [s.back3, s.back2, s.back1, s.word, 0, 0, 0, 0];
-    }
-    long_table(s)
+    let key1 = word_at(s, 2);
+    let key2 = word_at(s, 3);
+    let key3 = word_at(s, 4);
+    let key4 = word_at(s, 5);
+    let key5 = word_at(s, 6);
+    let key6 = word_at(s, 7);
+    let key7 = word_at(s, 8);
+    let key8 = word_at(s, 9);
+    [key1, key2, key3, key4, key5, key6, key7, key8]
 }
 
 // How far a scan went: to a newline, or to the end of what there is.
@@ -298,15 +264,28 @@ pub fn read(s: Scan, text: &[u8], from: usize, to: usize) -> Reached
     ensures { λ r. ⌜ r .scan ≡ readOn (now (text .entry)) from (r .at - from) s ⌝ }
     ensures { λ r. ⌜ Ends (now (text .entry)) from to (r .at) ⌝ }
 {
-    let mut t = s;
+    let mut words = s.words;
+    let mut p = Place {
+        ended: s.ended,
+        begun: s.begun,
+        word: s.word,
+    };
     let mut i = from;
     while i < to {
         let b = text[i];
         if b == NEWLINE {
-            return Reached { at: i, scan: t };
+            break;
         }
-        t = step(t, b);
+        p = step(p, &mut words, b);
         i += 1;
     }
-    Reached { at: i, scan: t }
+    Reached {
+        at: i,
+        scan: Scan {
+            ended: p.ended,
+            begun: p.begun,
+            word: p.word,
+            words,
+        },
+    }
 }

@@ -42,15 +42,7 @@ fn behind_verb() -> Scan {
         ended: 1,
         begun: 0,
         word: 0,
-        back1: 0,
-        back2: 0,
-        back3: 0,
-        back4: 0,
-        back5: 0,
-        back6: 0,
-        back7: 0,
-        back8: 0,
-        back9: 0,
+        words: [0; 9],
     }
 }
 
