@@ -143,7 +143,7 @@ pub fn step(p: Place, words: &mut [u64; WORDS], b: u8) -> Place
     grow_word(p, b)
 }
 
-// A space ends a word that has begun, and spoils any other line.
+// A space ends a word that has begun and is not the ninth number; elsewhere it spoils the line.
 fn end_word(p: Place, words: &mut [u64; WORDS]) -> Place
     ensures { λ r. ⌜ scanOf r (now (words .exit)) ≡ spaced (scanOf p (now (words .entry))) ⌝ }
 {

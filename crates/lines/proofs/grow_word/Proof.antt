@@ -1,6 +1,5 @@
 -- The answer follows what the byte made of the word.
 use borrow.Author.Needs.{needs}
-use borrow.Author.Tests.{eq-eqb, le-leb, le-ltb, lt-leb, lt-ltb, ne-eqb}
 use Rattle.lines.specs.Line.{took}
 use Rattle.lines.proofs.grow_word.Statement.{statement}
 use Rattle.lines.proofs.grow_word.Tie as tie

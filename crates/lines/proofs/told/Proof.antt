@@ -1,20 +1,20 @@
 -- The tests are those of the rule, and each answer is the callee's.
 use borrow.Author.Needs.{needs}
-use borrow.Author.Tests.{eq-eqb, le-leb, le-ltb, lt-leb, lt-ltb, ne-eqb}
+use borrow.Author.Tests.{eq-eqb, le-ltb, lt-ltb, ne-eqb}
 use Rattle.lines.specs.Line.{commandOf}
 use Rattle.lines.proofs.told.Statement.{statement}
 use Rattle.lines.proofs.told.Tie as tie
 
 returns : tie.Need-returns
 unfolding commandOf
-returns c = search (lt-ltb, le-ltb, le-leb, lt-leb, eq-eqb, ne-eqb, needs)
+returns c = search (eq-eqb, ne-eqb, needs)
 
 none-requires : tie.Need-none-requires
 none-requires c κs = search needs
 
 returns-2 : tie.Need-returns-2
 unfolding commandOf
-returns-2 c = search (lt-ltb, le-ltb, le-leb, lt-leb, eq-eqb, ne-eqb, ← c .none .ensures, needs)
+returns-2 c = search (eq-eqb, ne-eqb, ← c .none .ensures, needs)
 
 array-read-one : tie.Need-array-read-one
 array-read-one c = search needs
@@ -24,7 +24,7 @@ one-requires c κs = search needs
 
 returns-3 : tie.Need-returns-3
 unfolding commandOf
-returns-3 c = search (lt-ltb, le-ltb, le-leb, lt-leb, eq-eqb, ne-eqb, ← c .one .ensures, needs)
+returns-3 c = search (eq-eqb, ne-eqb, ← c .one .ensures, needs)
 
 array-read-two : tie.Need-array-read-two
 array-read-two c = search needs
@@ -37,7 +37,7 @@ two-requires c κs = search needs
 
 returns-4 : tie.Need-returns-4
 unfolding commandOf
-returns-4 c = search (lt-ltb, le-ltb, le-leb, lt-leb, eq-eqb, ne-eqb, ← c .two .ensures, needs)
+returns-4 c = search (eq-eqb, ne-eqb, ← c .two .ensures, needs)
 
 array-read-three : tie.Need-array-read-three
 array-read-three c = search needs
@@ -53,7 +53,7 @@ three-requires c κs = search needs
 
 returns-5 : tie.Need-returns-5
 unfolding commandOf
-returns-5 c = search (lt-ltb, le-ltb, le-leb, lt-leb, eq-eqb, ne-eqb, ← c .three .ensures, needs)
+returns-5 c = search (eq-eqb, ne-eqb, ← c .three .ensures, needs)
 
 array-read-four : tie.Need-array-read-four
 array-read-four c = search needs
@@ -72,11 +72,11 @@ four-requires c κs = search needs
 
 returns-6 : tie.Need-returns-6
 unfolding commandOf
-returns-6 c = search (lt-ltb, le-ltb, le-leb, lt-leb, eq-eqb, ne-eqb, ← c .four .ensures, needs)
+returns-6 c = search (eq-eqb, ne-eqb, ← c .four .ensures, needs)
 
 returns-7 : tie.Need-returns-7
 unfolding commandOf
-returns-7 c = search (lt-ltb, le-ltb, le-leb, lt-leb, eq-eqb, ne-eqb, needs)
+returns-7 c = search (lt-ltb, le-ltb, eq-eqb, ne-eqb, needs)
 
 array-read-many : tie.Need-array-read-many
 array-read-many c = search needs
@@ -92,7 +92,7 @@ many-requires c κs = search needs
 
 returns-8 : tie.Need-returns-8
 unfolding commandOf
-returns-8 c = search (lt-ltb, le-ltb, le-leb, lt-leb, eq-eqb, ne-eqb, ← c .many .ensures, needs)
+returns-8 c = search (lt-ltb, le-ltb, eq-eqb, ne-eqb, ← c .many .ensures, needs)
 
 pub told-spec : {M : Type 1} → statement M
 told-spec =
