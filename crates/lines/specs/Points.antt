@@ -10,38 +10,45 @@ use Rattle.lines.specs.Line.{fourOf, manyOf, scanOf, placeOf, spaced, wo
 write-line : lineOf
     (119 ∷ 114 ∷ 105 ∷ 116 ∷ 101 ∷ 32 ∷ 49 ∷ 32 ∷ 52 ∷ 50 ∷ 57 ∷ 52 ∷ 57 ∷ 54 ∷ 55 ∷ 50 ∷ 57 ∷ 55 ∷ 32 ∷ 53 ∷ 32 ∷ 55 ∷ 48 ∷ 48 ∷ [])
     ≡ command.Write 1 4294967297 5 700
-unfolding lineOf readOn foldBelow stepped took grown letter digit start commandOf noneOf oneOf twoOf threeOf fourOf manyOf scanOf placeOf spaced
+unfolding lineOf readOn foldBelow stepped took grown letter digit start scanOf placeOf spaced
+    commandOf noneOf oneOf twoOf threeOf fourOf manyOf
 write-line = refl
 
 -- merge 01
 zeros-line : lineOf (109 ∷ 101 ∷ 114 ∷ 103 ∷ 101 ∷ 32 ∷ 48 ∷ 49 ∷ []) ≡ command.Merge 1
-unfolding lineOf readOn foldBelow stepped took grown letter digit start commandOf noneOf oneOf twoOf threeOf fourOf manyOf scanOf placeOf spaced
+unfolding lineOf readOn foldBelow stepped took grown letter digit start scanOf placeOf spaced
+    commandOf noneOf oneOf twoOf threeOf fourOf manyOf
 zeros-line = refl
 
 -- emit, and a space behind it
 space-line : lineOf (101 ∷ 109 ∷ 105 ∷ 116 ∷ 32 ∷ []) ≡ command.Bad
-unfolding lineOf readOn foldBelow stepped took grown letter digit start commandOf noneOf oneOf twoOf threeOf fourOf manyOf scanOf placeOf spaced
+unfolding lineOf readOn foldBelow stepped took grown letter digit start scanOf placeOf spaced
+    commandOf noneOf oneOf twoOf threeOf fourOf manyOf
 space-line = refl
 
 -- begin 1, and begin 1 1: the desk may stand behind the site
 begin-line : lineOf (98 ∷ 101 ∷ 103 ∷ 105 ∷ 110 ∷ 32 ∷ 49 ∷ []) ≡ command.Begin 1 0
-unfolding lineOf readOn foldBelow stepped took grown letter digit start commandOf noneOf oneOf twoOf threeOf fourOf manyOf scanOf placeOf spaced
+unfolding lineOf readOn foldBelow stepped took grown letter digit start scanOf placeOf spaced
+    commandOf noneOf oneOf twoOf threeOf fourOf manyOf
 begin-line = refl
 
 desk-line : lineOf (98 ∷ 101 ∷ 103 ∷ 105 ∷ 110 ∷ 32 ∷ 49 ∷ 32 ∷ 49 ∷ []) ≡ command.Begin 1 1
-unfolding lineOf readOn foldBelow stepped took grown letter digit start commandOf noneOf oneOf twoOf threeOf fourOf manyOf scanOf placeOf spaced
+unfolding lineOf readOn foldBelow stepped took grown letter digit start scanOf placeOf spaced
+    commandOf noneOf oneOf twoOf threeOf fourOf manyOf
 desk-line = refl
 
 -- nothing
 empty-line : lineOf [] ≡ command.Bad
-unfolding lineOf readOn foldBelow stepped took grown letter digit start commandOf noneOf oneOf twoOf threeOf fourOf manyOf scanOf placeOf spaced
+unfolding lineOf readOn foldBelow stepped took grown letter digit start scanOf placeOf spaced
+    commandOf noneOf oneOf twoOf threeOf fourOf manyOf
 empty-line = refl
 
 -- sites 3, and its table
 sites-line : lineOf
     (115 ∷ 105 ∷ 116 ∷ 101 ∷ 115 ∷ 32 ∷ 51 ∷ [])
     ≡ command.Sites 3 0
-unfolding lineOf readOn foldBelow stepped took grown letter digit start commandOf noneOf oneOf twoOf threeOf fourOf manyOf scanOf placeOf spaced
+unfolding lineOf readOn foldBelow stepped took grown letter digit start scanOf placeOf spaced
+    commandOf noneOf oneOf twoOf threeOf fourOf manyOf
 sites-line = refl
 
 sites-table : tableOf
@@ -54,7 +61,8 @@ sites-table = refl
 keys-line : lineOf
     (115 ∷ 105 ∷ 116 ∷ 101 ∷ 115 ∷ 32 ∷ 51 ∷ 32 ∷ 48 ∷ 32 ∷ 49 ∷ 48 ∷ 48 ∷ 32 ∷ 57 ∷ 48 ∷ 48 ∷ [])
     ≡ command.Sites 3 3
-unfolding lineOf readOn foldBelow stepped took grown letter digit start commandOf noneOf oneOf twoOf threeOf fourOf manyOf scanOf placeOf spaced
+unfolding lineOf readOn foldBelow stepped took grown letter digit start scanOf placeOf spaced
+    commandOf noneOf oneOf twoOf threeOf fourOf manyOf
 keys-line = refl
 
 keys-table : tableOf
@@ -67,7 +75,8 @@ keys-table = refl
 eight-line : lineOf
     (115 ∷ 105 ∷ 116 ∷ 101 ∷ 115 ∷ 32 ∷ 56 ∷ 32 ∷ 48 ∷ 32 ∷ 49 ∷ 32 ∷ 50 ∷ 32 ∷ 51 ∷ 32 ∷ 52 ∷ 32 ∷ 53 ∷ 32 ∷ 54 ∷ 32 ∷ 55 ∷ [])
     ≡ command.Sites 8 8
-unfolding lineOf readOn foldBelow stepped took grown letter digit start commandOf noneOf oneOf twoOf threeOf fourOf manyOf scanOf placeOf spaced
+unfolding lineOf readOn foldBelow stepped took grown letter digit start scanOf placeOf spaced
+    commandOf noneOf oneOf twoOf threeOf fourOf manyOf
 eight-line = refl
 
 eight-table : tableOf
@@ -81,12 +90,14 @@ eight-table = refl
 nine-line : lineOf
     (115 ∷ 105 ∷ 116 ∷ 101 ∷ 115 ∷ 32 ∷ 56 ∷ 32 ∷ 48 ∷ 32 ∷ 49 ∷ 32 ∷ 50 ∷ 32 ∷ 51 ∷ 32 ∷ 52 ∷ 32 ∷ 53 ∷ 32 ∷ 54 ∷ 32 ∷ 55 ∷ 32 ∷ 56 ∷ [])
     ≡ command.Bad
-unfolding lineOf readOn foldBelow stepped took grown letter digit start commandOf noneOf oneOf twoOf threeOf fourOf manyOf scanOf placeOf spaced
+unfolding lineOf readOn foldBelow stepped took grown letter digit start scanOf placeOf spaced
+    commandOf noneOf oneOf twoOf threeOf fourOf manyOf
 nine-line = refl
 
 -- write 1 2 3 4 5: only `sites` takes more than four numbers
 write-five-line : lineOf
     (119 ∷ 114 ∷ 105 ∷ 116 ∷ 101 ∷ 32 ∷ 49 ∷ 32 ∷ 50 ∷ 32 ∷ 51 ∷ 32 ∷ 52 ∷ 32 ∷ 53 ∷ [])
     ≡ command.Bad
-unfolding lineOf readOn foldBelow stepped took grown letter digit start commandOf noneOf oneOf twoOf threeOf fourOf manyOf scanOf placeOf spaced
+unfolding lineOf readOn foldBelow stepped took grown letter digit start scanOf placeOf spaced
+    commandOf noneOf oneOf twoOf threeOf fourOf manyOf
 write-five-line = refl
