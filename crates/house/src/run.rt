@@ -38,11 +38,11 @@ ghost use mathlib.Core.Path.{_≡_};
 ghost use lib.ListN.{length};
 ghost use Rattle.kinds.specs.Sizes as sizes;
 
-// What a line before an accepted `sites` leaves: the house, once it is accepted.
+// What a line before an accepted `sites` leaves: the house, once it is accepted. A `sites` that gives first keys is refused.
 fn opened(d: Play, c: Command, page: &mut [u8; PAGE]) -> Play {
-    if let Command::Sites(n) = c {
+    if let Command::Sites(n, given) = c {
         let house = House { sites: n };
-        if numbers::house_ok(house) {
+        if given == 0 && numbers::house_ok(house) {
             let mut e = d;
             e.house = house;
             return answered(e, page, Answer::Done);
