@@ -12,7 +12,7 @@ use Rattle.kinds.specs.Sizes as sizes
 use Rattle.kinds.specs.State.{Value}
 use Rattle.kinds.specs.declared.Answer.{Answer}
 use Rattle.kinds.specs.declared.House.{House}
-use Rattle.rules.specs.House.{coordinatorOf}
+use Rattle.rules.specs.House.{houseOf, evenTable, coordinatorOf}
 use Rattle.rules.specs.Message.{messageHead}
 use Rattle.rules.specs.World.{World, Call, step, freshWorld}
 use Rattle.rules.specs.World as world
@@ -88,9 +88,9 @@ linesOf script = map (λ (t : Told). t .line) script
 unfoldable pub answersOf : List Told → List Answer
 answersOf script = map (λ (t : Told). t .answer) script
 
--- a house of n sites
+-- a house of n sites with the even table
 abbrev pub even : ℕ → House
-even n = record { sites = n }
+even n = houseOf n (evenTable n)
 
 -- the calls that a script makes in a fresh house
 unfoldable pub callsOf : House → List Told → List Call
