@@ -13,6 +13,7 @@ use Rattle.kinds.specs.Sizes as sizes
 use Rattle.kinds.specs.declared.Core.{Core}
 use Rattle.kinds.specs.declared.Reply.{Reply}
 use Rattle.kinds.specs.declared.Site.{Site}
+use Rattle.rules.specs.House.{noHouse}
 use Rattle.rules.specs.Effect.{Effect}
 use Rattle.rules.specs.World as world
 use Rattle.rules.specs.World.{World, Call, step, siteStep, logStep, upd}
@@ -27,7 +28,7 @@ use Rattle.calls.specs.Places.{lineEffect, messageEffect, LineLeaves, Me
 
 -- the core of the site in place i
 abbrev pub coreIn : List Core → ℕ → Core
-coreIn cores i = getD cores i (freshCore 0 0)
+coreIn cores i = getD cores i (freshCore noHouse 0)
 
 -- the site in place i is the world's site i + 1
 pub record SitesMatch (w : World) (cores : List Core) (t : Words) : Type 0 where
@@ -99,7 +100,7 @@ matched w v cores t u i out left e b l r h low a n =
 
     own-site : siteIn i (coreIn (set cores i (r .core)) i) u ≡ v .site (i + 1)
     own-site =
-        rw (getD-set-same cores i (r .core) (freshCore 0 0) (omega (arith, low, h .many)))
+        rw (getD-set-same cores i (r .core) (freshCore noHouse 0) (omega (arith, low, h .many)))
         (a .replied .left .seen ∙ sym (n .site (i + 1) ∙ upd-own (w .site) (i + 1) (i + 1) (e .site) refl))
 
     own-base : ownBase i u ≡ v .base (i + 1)
@@ -111,7 +112,7 @@ matched w v cores t u i out left e b l r h low a n =
     other-site : (j : ℕ) → j < sizes.sites → (j ≡ i → ⊥) → siteIn j (coreIn (set cores i (r .core)) j) u ≡ v .site (j + 1)
     other-site j q z =
         rw (
-          getD-set-other cores i j (r .core) (freshCore 0 0) z,
+          getD-set-other cores i j (r .core) (freshCore noHouse 0) z,
           only-elsewhere sizes.liveWords i j sizes.sites (t .live) (u .live) low (h .tables .live) (a .others .live) z,
           only-elsewhere sizes.historyWords i j sizes.sites (t .history) (u .history) low (h .tables .history) (a .others .history) z,
         )

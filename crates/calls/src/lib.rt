@@ -2,6 +2,7 @@
 mod own;
 
 use kinds::Core;
+use kinds::House;
 use kinds::Reply;
 use kinds::sizes::HISTORY_WORDS;
 use kinds::sizes::KEYS;
@@ -20,7 +21,9 @@ ghost use lib.Dec.{eqb};
 ghost use lib.ListN.{length, take};
 ghost use Rattle.laws.specs.Choice.{pick};
 ghost use Rattle.kinds.specs.Sizes as sizes;
+ghost use Rattle.rules.specs.House.{houseOf, noHouse};
 ghost use Rattle.rules.specs.Install.{startCode};
+ghost use Rattle.rules.specs.World.{firstsOf};
 ghost use Rattle.lent.specs.Fresh.{freshCore};
 ghost use Rattle.calls.specs.Tables.{Tables, Taking};
 ghost use Rattle.calls.specs.Places.{words, LineLeaves, MessageLeaves};

@@ -4,13 +4,16 @@ use mathlib.Core.Path.{_≡_, _∙_}
 use mathlib.Core.List.{List}
 use native.Mathlib.Omega.{arith}
 use borrow.Author.Needs.{needs}
+use borrow.Author.Tests.{eq-eqb}
 use lib.Dec.{eqb}
 use lib.ListN.{length, take, drop, length-take, length-drop}
 use Rattle.laws.specs.Choice.{pick}
 use Rattle.kinds.specs.Sizes as sizes
 use Rattle.kinds.specs.declared.Core.{Core}
 use Rattle.rules.specs.Install.{startCode}
-use Rattle.lent.specs.Laws.{Lengths, lent-house}
+use Rattle.rules.specs.House.{houseOf, noHouse}
+use Rattle.lent.specs.Lent.{lentOk, lentSites}
+use Rattle.lent.specs.Laws.{Lengths}
 use Rattle.lent.specs.Fresh.{startedCode, freshCore}
 use Rattle.calls.proofs.start_at.Statement.{statement}
 use Rattle.calls.proofs.start_at.Tie as tie
@@ -22,11 +25,16 @@ called c =
     let live = base .before .before .before in
     live .before .before .before
 
+abbrev fronted : tie.After-start → tie.After-front
+fronted c =
+    let lent = c .before .before .before in
+    lent .before .before
+
 abbrev begun : tie.After-start → tie.Start
 begun c =
-    let lent = c .before .before .before in
-    let known = lent .before .before .before in
-    known .before .before .before
+    let known = fronted c .before .before .before in
+    let two = known .before .before in
+    two .before .before
 
 -- the words from a on that a site with n of them is lent
 abbrev cut : List ℕ → ℕ → ℕ → List ℕ
@@ -35,13 +43,17 @@ cut l a n = take (a + n - a) (drop a l)
 cut-length : (l : List ℕ) (a n m : ℕ) → length l ≡ m → a + n ≤ m → length (cut l a n) ≡ n
 cut-length l a n m e h = simp (length-take, length-drop) (omega (arith, e, h))
 
--- a start that is lent tables of these lengths
-started : (n own base lists : ℕ) (w h : List ℕ) (r : Core)
-    → r ≡ pick (eqb (startedCode n own w h base lists) 0) (freshCore n own) (freshCore 0 0)
-    → Lengths w h → base ≡ sizes.keys → lists ≡ sizes.lists
-    → r ≡ pick (eqb (startCode n own sizes.keys sizes.lists) 0) (freshCore n own) (freshCore 0 0)
-unfolding startCode
-started n own base lists w h r e k p q = e ∙ rw (lent-house (record { sites = n }) w h k, p, q)
+-- a start that is lent tables of these lengths, and first keys
+abbrev Left : ℕ → List ℕ → ℕ → ℕ → Core → Type 0
+Left n table own code r = r ≡ pick (eqb code 0) (freshCore (houseOf n table) own) (freshCore noHouse 0)
+
+started : (n : ℕ) (table firsts : List ℕ) (own base lists : ℕ) (w h : List ℕ) (r : Core)
+    → Left n table own (startedCode n table own w h base lists) r
+    → Lengths w h → base ≡ sizes.keys → lists ≡ sizes.lists → table ≡ firsts
+    → Left n firsts own (startCode n firsts own sizes.keys sizes.lists) r
+unfolding startCode lentSites lentOk
+started n table firsts own base lists w h r e k p q f =
+    rw f at (rw (eq-eqb _ _ (k .live), eq-eqb _ _ (k .history), p, q) at e)
 
 mul-a : tie.Need-mul-a
 mul-a c = search needs
@@ -54,6 +66,12 @@ mul-x c = search needs
 
 mul-y : tie.Need-mul-y
 mul-y c = search needs
+
+slice-aggregate-front : tie.Need-slice-aggregate-front
+slice-aggregate-front c = search needs
+
+front-requires : tie.Need-front-requires
+front-requires c κs = search needs
 
 add-start : tie.Need-add-start
 add-start c = search needs
@@ -148,11 +166,12 @@ returns c =
       live = cut-length (a .live .now) (i * sizes.liveWords) sizes.liveWords _ (t .live) (omega arith);
       history = cut-length (a .history .now) (i * sizes.historyWords) sizes.historyWords _ (t .history) (omega arith);
     } in
-    started (a .n) (i + 1) _ _ w h _
+    started (a .house .sites) _ _ (i + 1) _ _ w h _
     (call .start .ensures .0 .core)
     lengths
     (cut-length (a .base .now) (i * sizes.keys) sizes.keys _ (t .base) (omega arith))
     (cut-length (a .lists .now) (i * sizes.lists) sizes.lists _ (t .lists) (omega arith))
+    (fronted call .front .ensures)
 
 pub start-at-spec : {M : Type 1} → statement M
 start-at-spec =
@@ -162,6 +181,8 @@ start-at-spec =
     mul-b
     mul-x
     mul-y
+    slice-aggregate-front
+    front-requires
     add-start
     add-start-2
     mul-start
