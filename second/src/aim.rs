@@ -1,8 +1,13 @@
 //! Where a random call goes: mostly somewhere possible, now and then not.
 
+mod tables;
+
+use std::ops::Range;
+
 use crate::random::Random;
 use crate::site::Site;
 use crate::sizes::*;
+use crate::table::Table;
 
 impl Random {
     pub fn site(&mut self, sites: u64) -> u64 {
@@ -31,12 +36,35 @@ impl Random {
         }
     }
 
-    /// One of a site's first keys.
-    pub fn key(&mut self, site: u64, keys: u64) -> u64 {
+    /// One of so many keys from a site's first on, or one around the edges of its range;
+    /// now and then any.
+    pub fn key(&mut self, table: &Table, site: u64, keys: u64) -> u64 {
+        if !is_site(site, table.sites) {
+            return self.below(KEYS + 1);
+        }
+        let range = table.keys(site);
         match self.below(30) {
             0 => self.word(),
             1 => self.below(KEYS + 1),
-            _ => site.saturating_sub(1) * SITE_KEYS + self.below(keys),
+            2 => self.edge(range),
+            3..=5 => self.own_edge(range),
+            _ => range.start + self.below(keys.min(range.end - range.start)),
         }
+    }
+
+    /// The first or the last key of a range.
+    pub fn own_edge(&mut self, range: Range<u64>) -> u64 {
+        if self.chance(50) {
+            range.start
+        } else {
+            range.end - 1
+        }
+    }
+
+    /// A key on either side of an edge of a range, or of the last key of all.
+    pub fn edge(&mut self, range: Range<u64>) -> u64 {
+        let before = range.start.checked_sub(1).unwrap_or(u64::MAX);
+        let edges = [before, before, range.start, range.end - 1, range.end, KEYS - 1, KEYS];
+        edges[self.below(edges.len() as u64) as usize]
     }
 }

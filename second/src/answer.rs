@@ -1,4 +1,4 @@
-//! Refusals, reasons of abort and decisions (N1 to N5, Q7.1 to Q7.8).
+//! Refusals, reasons of abort and decisions (N1 to N5, Q7.1 to Q7.8, Q3.4).
 
 /// In the order of the causes: where several apply, the first of this list is
 /// returned. The numbers do not ascend along it, and 6 is retired.
@@ -7,6 +7,8 @@
 pub enum Refusal {
     BufferTooShort = 1,
     Impossible = 2,
+    /// First keys that are no good table, at the start of a site or of the merger.
+    BadTable = 22,
     OtherSite = 3,
     NotNext = 4,
     NotHeld = 5,

@@ -2,6 +2,7 @@
 //! words, it says what the copies must hold and what transactions may have seen.
 //! It looks into no state but the copies' values, which it checks.
 
+mod homes;
 mod limits;
 
 use std::collections::{BTreeMap, HashMap, HashSet};
@@ -12,7 +13,9 @@ use crate::desk::Desk;
 use crate::house::messages;
 use crate::site::Found;
 use crate::sizes::*;
+use crate::table;
 use crate::world::{Answer, Call, World};
+use homes::Homes;
 
 /// Positions of message words that the book reads.
 const KIND: usize = 1;
@@ -71,9 +74,11 @@ pub struct Book {
     /// How many installs each site counts when the book begins.
     counted: [u64; SITES],
     shelves: Vec<Shelf>,
+    homes: Homes,
 }
 
 impl Default for Book {
+    /// The book of a house of eight with the table 0, 256 and so on.
     fn default() -> Self {
         let shelf = Shelf { last: None, expected: vec![0; KEYS as usize] };
         Book {
@@ -83,6 +88,7 @@ impl Default for Book {
             installs: vec![Vec::new(); SITES],
             counted: [0; SITES],
             shelves: vec![shelf; COPIES],
+            homes: Homes::of(&table::even(SITES as u64)),
         }
     }
 }
@@ -100,7 +106,9 @@ fn claim(holds: bool, otherwise: impl FnOnce() -> String) -> Checked {
 impl Book {
     /// The book of a house whose counts may begin near their ends.
     pub fn of(world: &World) -> Self {
-        let mut book = Book::default();
+        let table = &world.merger.table;
+        let homes = Homes::of(&table.firsts[..table.sites as usize]);
+        let mut book = Book { homes, ..Book::default() };
         for (counted, site) in book.counted.iter_mut().zip(&world.sites) {
             *counted = site.installs;
         }
@@ -112,7 +120,7 @@ impl Book {
     }
 
     /// Enters an accepted call; refused ones leave the book, which is asked whether
-    /// an 11 was due. An `Err` names the claim that broke.
+    /// an 11, and what is said of a key, was due. An `Err` names the claim that broke.
     pub fn enter(
         &mut self,
         call: &Call,
@@ -120,6 +128,7 @@ impl Book {
         written: &[u64],
         copies: &[Copy],
     ) -> Checked {
+        self.homes.check(call, answer, written)?;
         let answer = match answer {
             Ok(answer) => answer,
             Err(Refusal::TooManyKeys) => return self.too_many_keys(call),
@@ -192,7 +201,7 @@ impl Book {
         let installed = &mut chapter.installed[site as usize - 1];
         claim(installed.is_none(), || format!("{transaction} installed twice at {site}"))?;
         *installed = Some(self.moment);
-        let writes = chapter.writes.iter().filter(|(&key, _)| key_site(key) == site);
+        let writes = chapter.writes.iter().filter(|(&key, _)| self.homes.at(key) == site);
         let writes = writes.map(|(&key, &value)| (key, value)).collect();
         self.installs[site as usize - 1].push((self.moment, writes));
         self.recheck(transaction)
@@ -318,7 +327,7 @@ impl Book {
         let (Some(pair), Some(other_pair)) = (one.pair, other.pair) else { return Ok(()) };
         let (earlier, later) = if pair < other_pair { (one, other) } else { (other, one) };
         for key in earlier.writes.keys().filter(|key| later.writes.contains_key(key)) {
-            let site = key_site(*key) as usize - 1;
+            let site = self.homes.at(*key) as usize - 1;
             let before = match (earlier.installed[site], later.begun[site]) {
                 (Some(installed), Some(began)) => installed < began,
                 _ => false,

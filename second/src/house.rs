@@ -1,5 +1,5 @@
 //! The program `house`: obeys script lines, carries messages and records between
-//! sites, merger and copies, and words the outcome (H1 to H20).
+//! sites, merger and copies, and words the outcome (H1 to H20, Q3.7).
 
 use std::collections::VecDeque;
 use std::fmt::Write;
@@ -62,9 +62,9 @@ impl<O: Observer> House<O> {
     }
 
     fn obey(&mut self, command: Command) -> Result<Answer, Refusal> {
-        if let Command::Sites(sites) = command {
+        if let Command::Sites { sites, firsts } = command {
             require(self.running.is_none(), Refusal::Impossible)?;
-            let running = self.running.insert(Running::start(sites)?);
+            let running = self.running.insert(Running::start(sites, firsts.keys())?);
             self.observer.start(&running.world);
             return Ok(Answer::Done);
         }
@@ -85,8 +85,8 @@ impl<O: Observer> House<O> {
 }
 
 impl Running {
-    fn start(sites: u64) -> Result<Self, Refusal> {
-        let world = World::start(sites)?;
+    fn start(sites: u64, firsts: &[u64]) -> Result<Self, Refusal> {
+        let world = World::start(sites, firsts)?;
         let count = world.sites.len();
         Ok(Running {
             world,
@@ -124,7 +124,7 @@ impl Running {
 
     fn route<'a>(&self, command: Command, words: &'a [u64]) -> Result<Call<'a>, Refusal> {
         Ok(match command {
-            Command::Sites(_) => return Err(Refusal::Impossible),
+            Command::Sites { .. } => return Err(Refusal::Impossible),
             Command::Begin { site, desk } => Call::Begin { site, desk },
             Command::Enlist { transaction, target } => {
                 require(is_site(target, self.sites()), Refusal::Impossible)?;

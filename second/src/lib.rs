@@ -18,6 +18,7 @@ pub mod script;
 pub mod scripts;
 pub mod site;
 pub mod sizes;
+pub mod table;
 pub mod tally;
 pub mod trace;
 pub mod world;

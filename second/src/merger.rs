@@ -1,10 +1,11 @@
-//! The merger: parts of every log into one stream (G1 to G4).
+//! The merger: parts of every log into one stream (G1 to G4, Q3.4 to Q3.6).
 
 use std::collections::VecDeque;
 
 use crate::answer::{require, Pair, Refusal};
 use crate::record::{self, LogRecord, Save};
 use crate::sizes::*;
+use crate::table::Table;
 
 /// What the merger has taken from one log.
 #[derive(Clone, PartialEq, Eq, Debug, Default)]
@@ -17,8 +18,10 @@ pub struct Log {
 
 #[derive(Clone, PartialEq, Eq, Debug)]
 pub struct Merger {
-    /// One for each site of the house.
-    pub logs: Vec<Log>,
+    /// Number of sites of the house, and where its keys live.
+    pub table: Table,
+    /// Of eight sites; those that the house lacks bring nothing.
+    pub logs: [Log; SITES],
 }
 
 /// Outcome of an emit: words written, and what was joined.
@@ -30,14 +33,13 @@ pub struct Emitted {
 }
 
 impl Merger {
-    pub fn start(sites: u64) -> Result<Self, Refusal> {
-        require(is_site(sites, SITES as u64), Refusal::Impossible)?;
-        Ok(Merger { logs: vec![Log::default(); sites as usize] })
+    pub fn start(sites: u64, firsts: &[u64]) -> Result<Self, Refusal> {
+        Ok(Merger { table: Table::start(sites, firsts)?, logs: Default::default() })
     }
 
     /// Takes a record of a log.
     pub fn merge(&mut self, words: &[u64]) -> Result<(), Refusal> {
-        match record::parse_log(words, self.logs.len() as u64)? {
+        match record::parse_log(words, &self.table)? {
             LogRecord::Part { site, save } => {
                 let log = &mut self.logs[site as usize - 1];
                 let above = save.pair > log.last && save.pair.number > log.state;
@@ -60,8 +62,8 @@ impl Merger {
         require(out.len() >= MERGED_BUFFER, Refusal::BufferTooShort)?;
         let pair = self.due().ok_or(Refusal::Nothing)?;
         require(self.is_whole(pair), Refusal::PartsDisagree)?;
-        let mut parts = Vec::with_capacity(self.logs.len());
-        for log in &mut self.logs {
+        let mut parts = Vec::with_capacity(SITES);
+        for log in &mut self.logs[..self.table.sites as usize] {
             if log.queue.front().is_some_and(|head| head.pair == pair) {
                 parts.extend(log.queue.pop_front());
             }
@@ -77,19 +79,24 @@ impl Merger {
         Ok(Emitted { words, pair, transaction: merged.transaction })
     }
 
+    /// Of the sites of the house.
+    fn house_logs(&self) -> &[Log] {
+        &self.logs[..self.table.sites as usize]
+    }
+
     /// The least head, if every log has a queued part or a state that reaches it.
     pub fn due(&self) -> Option<Pair> {
-        let heads = self.logs.iter().filter_map(|log| log.queue.front());
+        let heads = self.house_logs().iter().filter_map(|log| log.queue.front());
         let least = heads.map(|head| head.pair).min()?;
         let reached = |log: &Log| !log.queue.is_empty() || log.state >= least.number;
-        self.logs.iter().all(reached).then_some(least)
+        self.house_logs().iter().all(reached).then_some(least)
     }
 
     /// The heads with this pair are those of the mask and agree.
     fn is_whole(&self, pair: Pair) -> bool {
         let mut sites = 0;
         let mut first: Option<&Save> = None;
-        for (place, log) in self.logs.iter().enumerate() {
+        for (place, log) in self.house_logs().iter().enumerate() {
             let Some(head) = log.queue.front().filter(|head| head.pair == pair) else { continue };
             sites |= 1 << place;
             let one = first.get_or_insert(head);

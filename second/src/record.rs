@@ -1,8 +1,9 @@
 //! Records as words: parts and states of a log, merged records of the stream
-//! (R1 to R6).
+//! (R1 to R6, Q3.6).
 
 use crate::answer::{Pair, Refusal};
 use crate::sizes::*;
+use crate::table::Table;
 
 mod at {
     pub const LENGTH: usize = 0;
@@ -40,9 +41,21 @@ pub enum LogRecord {
     State { site: u64, number: u64 },
 }
 
-/// Reads a record of a log, as the merger of a house of `sites` takes it.
-pub fn parse_log(words: &[u64], sites: u64) -> Result<LogRecord, Refusal> {
-    log_record(words, sites).ok_or(Refusal::Impossible)
+impl Save {
+    /// Whether a site of the house can have logged it: the site takes part, and each key
+    /// that was written lives there.
+    pub fn is_part_of(&self, site: u64, table: &Table) -> bool {
+        is_site(site, table.sites)
+            && is_transaction(self.transaction, table.sites)
+            && is_mask(self.participants, table.sites)
+            && self.participants & site_bit(site) != 0
+            && self.writes.iter().all(|&(key, _)| table.site_of(key) == Some(site))
+    }
+}
+
+/// Reads a record of a log, as the merger of a house takes it.
+pub fn parse_log(words: &[u64], table: &Table) -> Result<LogRecord, Refusal> {
+    log_record(words, table).ok_or(Refusal::Impossible)
 }
 
 /// Reads a merged record, as a copy takes it: a copy serves houses of any size.
@@ -50,18 +63,16 @@ pub fn parse_merged(words: &[u64]) -> Result<Save, Refusal> {
     merged_record(words).ok_or(Refusal::Impossible)
 }
 
-fn log_record(words: &[u64], sites: u64) -> Option<LogRecord> {
+fn log_record(words: &[u64], table: &Table) -> Option<LogRecord> {
     let header = words.get(..RECORD_HEADER)?;
     let site = header[at::SITE];
-    if !is_site(site, sites) {
+    if !is_site(site, table.sites) {
         return None;
     }
     match header[at::KIND] {
         PART => {
-            let save = save(words, sites, SET_KEYS)?;
-            let own = save.participants & site_bit(site) != 0
-                && save.writes.iter().all(|&(key, _)| key_site(key) == site);
-            own.then_some(LogRecord::Part { site, save })
+            let save = save(words, table.sites, SET_KEYS)?;
+            save.is_part_of(site, table).then_some(LogRecord::Part { site, save })
         }
         STATE => {
             let bare = header[at::LENGTH] == RECORD_HEADER as u64

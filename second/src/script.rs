@@ -1,11 +1,35 @@
-//! Lines of a `house` script (H1 to H20, Q10.7).
+//! Lines of a `house` script (H1 to H20, Q3.7, Q10.7).
 
 use crate::desk::Desk;
+use crate::sizes::SITES;
+use crate::table;
+
+/// The most numbers of a line: a count of sites and their first keys.
+const NUMBERS: usize = 1 + SITES;
+
+/// The first keys of a `sites` line: at most eight.
+#[derive(Clone, Copy, PartialEq, Eq, Debug)]
+pub struct Firsts {
+    keys: [u64; SITES],
+    count: usize,
+}
+
+impl Firsts {
+    fn of(given: &[u64]) -> Self {
+        let mut keys = [0; SITES];
+        keys[..given.len()].copy_from_slice(given);
+        Firsts { keys, count: given.len() }
+    }
+
+    pub fn keys(&self) -> &[u64] {
+        &self.keys[..self.count]
+    }
+}
 
 /// A line that has a command's form; whether it can be obeyed is asked later.
 #[derive(Clone, Copy, PartialEq, Eq, Debug)]
 pub enum Command {
-    Sites(u64),
+    Sites { sites: u64, firsts: Firsts },
     Begin { site: u64, desk: u64 },
     Enlist { transaction: u64, target: u64 },
     Read { site: u64, transaction: u64, key: u64 },
@@ -26,7 +50,7 @@ impl Command {
     pub fn parse(line: &[u8]) -> Option<Command> {
         let mut words = line.split(|&byte| byte == b' ');
         let name = words.next()?;
-        let mut numbers = [0; 4];
+        let mut numbers = [0; NUMBERS];
         let mut count = 0;
         for word in words {
             *numbers.get_mut(count)? = number(word)?;
@@ -37,7 +61,12 @@ impl Command {
 
     fn form(name: &[u8], numbers: &[u64]) -> Option<Command> {
         Some(match (name, numbers) {
-            (b"sites", &[sites]) => Command::Sites(sites),
+            (b"sites", &[sites]) => {
+                Command::Sites { sites, firsts: Firsts::of(&table::even(sites)) }
+            }
+            (b"sites", &[sites, ref given @ ..]) => {
+                Command::Sites { sites, firsts: Firsts::of(given) }
+            }
             (b"begin", &[site]) => Command::Begin { site, desk: Desk::House.number() },
             (b"begin", &[site, desk]) => Command::Begin { site, desk },
             (b"enlist", &[transaction, target]) => Command::Enlist { transaction, target },

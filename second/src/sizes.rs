@@ -2,7 +2,6 @@
 
 pub const SITES: usize = 8;
 pub const KEYS: u64 = 2_048;
-pub const SITE_KEYS: u64 = KEYS / SITES as u64;
 pub const LIVE: usize = 16;
 /// Limit of the read set of one part, and of the write set of one for the house.
 pub const SET_KEYS: usize = 16;
@@ -29,11 +28,6 @@ pub const SEND_BUFFER: usize = (SITES - 1) * (MESSAGE_HEADER + ENTRY_WORDS * JOI
 pub const PART_BUFFER: usize = RECORD_HEADER + WRITE_WORDS * SET_KEYS;
 pub const MERGED_WRITES: usize = SITES * SET_KEYS;
 pub const MERGED_BUFFER: usize = RECORD_HEADER + WRITE_WORDS * MERGED_WRITES;
-
-/// The site where a key lives; 9 or more for a key that no house has.
-pub fn key_site(key: u64) -> u64 {
-    key / SITE_KEYS + 1
-}
 
 pub fn transaction_number(coordinator: u64, serial: u64) -> u64 {
     (coordinator << 32) | serial

@@ -6,7 +6,8 @@ use std::fmt;
 use crate::answer::{Decision, Refusal};
 use crate::desk::Desk;
 use crate::house::messages;
-use crate::sizes::coordinator_of;
+use crate::sizes::*;
+use crate::table::{even, Table};
 use crate::world::{Answer, Call, World};
 
 const LINES: [&str; 14] = [
@@ -82,6 +83,16 @@ impl Tally {
                 self.count(limit, at.to_string());
             }
             _ => {}
+        }
+    }
+
+    /// Counts the house by its table.
+    pub fn table(&mut self, table: &Table) {
+        let is_even = even(table.sites) == table.firsts[..table.sites as usize];
+        let kind = if is_even { "even" } else { "uneven" };
+        self.count("table", kind.to_string());
+        if (1..=table.sites).any(|site| table.keys(site).count() == 1) {
+            self.count("table", "site of one".to_string());
         }
     }
 

@@ -7,6 +7,7 @@ use crate::house::{House, Observer};
 use crate::message::{Entry, Message};
 use crate::record::{parse_log, parse_merged, LogRecord, Save};
 use crate::sizes::*;
+use crate::table::Table;
 use crate::world::{Answer, Call, World};
 
 /// Writes of a record that a trace shows.
@@ -19,6 +20,15 @@ pub struct Told {
     pub written: Vec<u64>,
     /// After a message: whether the site holds its transaction.
     pub held: bool,
+    /// Where the keys of the house live.
+    table: Option<Table>,
+}
+
+impl Told {
+    /// A log's record of this house.
+    pub fn read_log(&self, words: &[u64]) -> Option<LogRecord> {
+        parse_log(words, self.table.as_ref()?).ok()
+    }
 }
 
 impl Observer for Told {
@@ -37,6 +47,7 @@ impl Observer for Told {
         };
         self.taken = taken.to_vec();
         self.written = written.to_vec();
+        self.table = Some(world.merger.table);
         self.held = match *call {
             Call::Message { site, words } => read_message(words)
                 .is_some_and(|it| world.sites[site as usize - 1].find(it.transaction).is_some()),
@@ -61,8 +72,8 @@ pub fn line(house: &mut House<Told>, line: &[u8], output: &mut String) {
 fn shown(answer: &Answer, told: &Told) -> Option<String> {
     match answer {
         Answer::Sent(_) => read_message(&told.taken).map(|it| message(&it)),
-        Answer::Installed(_) | Answer::Reported(_) => log_record(&told.written),
-        Answer::Done => log_record(&told.taken),
+        Answer::Installed(_) | Answer::Reported(_) => told.read_log(&told.written).map(log_record),
+        Answer::Done => told.read_log(&told.taken).map(log_record),
         Answer::Emitted(_) => merged_record(&told.written),
         Answer::Replayed(_) => merged_record(&told.taken),
         _ => None,
@@ -72,11 +83,6 @@ fn shown(answer: &Answer, told: &Told) -> Option<String> {
 /// A message of a house of any size.
 pub fn read_message(words: &[u64]) -> Option<Message<'_>> {
     Message::parse(words, SITES as u64).ok()
-}
-
-/// A log's record in a house of any size.
-pub fn read_log(words: &[u64]) -> Option<LogRecord> {
-    parse_log(words, SITES as u64).ok()
 }
 
 fn message(message: &Message) -> String {
@@ -103,11 +109,11 @@ fn entry(entry: Entry) -> String {
     format!("{transaction} participants {participants} mark {}", u64::from(marked))
 }
 
-fn log_record(words: &[u64]) -> Option<String> {
-    Some(match read_log(words)? {
+fn log_record(record: LogRecord) -> String {
+    match record {
         LogRecord::Part { site, save } => format!("part site {site} {}", saved(&save)),
         LogRecord::State { site, number } => format!("state site {site} number {number}"),
-    })
+    }
 }
 
 fn merged_record(words: &[u64]) -> Option<String> {

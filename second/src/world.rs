@@ -66,9 +66,11 @@ pub struct World {
 }
 
 impl World {
-    pub fn start(sites: u64) -> Result<Self, Refusal> {
-        let merger = Merger::start(sites)?;
-        let sites = (1..=sites).map(|own| Site::start(sites, own)).collect::<Result<_, _>>()?;
+    /// Q3.8: one table for all sites and the merger.
+    pub fn start(sites: u64, firsts: &[u64]) -> Result<Self, Refusal> {
+        let merger = Merger::start(sites, firsts)?;
+        let site = |own| Site::start(sites, firsts, own);
+        let sites = (1..=sites).map(site).collect::<Result<_, _>>()?;
         Ok(World { sites, merger, copies: vec![Copy::start(); COPIES] })
     }
 

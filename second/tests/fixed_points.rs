@@ -4,15 +4,18 @@ mod common;
 
 use common::*;
 use second::answer::{Pair, Refusal};
-use second::merger::Merger;
 use second::site::Stage;
 use second::sizes::*;
+use second::table::{even, Table};
 
 const T: u64 = (1 << 32) + 1;
 
+/// Q3.9: P1 is for the table 0, 256 and so on to 1,792.
 #[test]
 fn keys_live_at_their_sites() {
-    assert_eq!([255, 256, 2_047].map(key_site), [1, 2, 8]);
+    assert_eq!(even(8), [0, 256, 512, 768, 1_024, 1_280, 1_536, 1_792]);
+    let table = Table::start(8, &even(8)).unwrap();
+    assert_eq!([255, 256, 2_047].map(|key| table.site_of(key)), [Some(1), Some(2), Some(8)]);
     let mut site = site(8, 1);
     site.begin(HOUSE).unwrap();
     assert_eq!(site.read(T, 2_048), Err(Refusal::Impossible));
@@ -80,7 +83,7 @@ fn a_snapshot_reads_its_version_and_may_not_overwrite_a_newer_one() {
 
 #[test]
 fn a_state_at_the_heads_number_makes_it_due() {
-    let mut merger = Merger::start(2).unwrap();
+    let mut merger = merger(2);
     merger.merge(&[9, 1, 1, 5, 1, T, 1, 0, 0]).unwrap();
     merger.merge(&[9, 2, 2, 4, 0, 0, 0, 0, 0]).unwrap();
     assert_eq!(merger.emit(&mut buffer()).unwrap_err().number(), 17);

@@ -15,6 +15,7 @@ use second::house::House;
 use second::probe::random;
 use second::scripts::generate;
 use second::sizes::*;
+use second::table::{even, Table};
 use second::tally::Tally;
 use second::world::{Answer, Call};
 
@@ -38,7 +39,7 @@ fn scripts_reach_all_that_they_can() {
     for seed in 1..=150 {
         tally.add(&generate(seed, None).tally);
     }
-    for number in [2, 3, 5, 27, 7, 8, 9, 10, 11, 12, 15, 17] {
+    for number in [2, 22, 3, 5, 27, 7, 8, 9, 10, 11, 12, 15, 17] {
         assert!(tally.get("any line", &format!("refused {number:2}")) > 0, "refusal {number}");
     }
     for number in [1, 4, 6, 26, 13, 14, 16] {
@@ -52,6 +53,15 @@ fn scripts_reach_all_that_they_can() {
     assert!(tally.get("desk house", "refused 12") > 0);
     assert!(tally.get("desk proofing", "refused 12") > 0);
     assert_both_desks(&tally);
+    assert_all_tables(&tally);
+    assert_eq!(tally.get("line sites", "ok"), 150);
+    assert_eq!(tally.get("line sites", "refused 22"), tally.get("any line", "refused 22"));
+}
+
+fn assert_all_tables(tally: &Tally) {
+    for kind in ["even", "uneven", "site of one"] {
+        assert!(tally.get("table", kind) > 5, "{kind}");
+    }
 }
 
 /// Both desks begin and meet their limits, at coordinators and at participants; a
@@ -89,6 +99,7 @@ fn random_lists_keep_the_book_and_tell_the_wrong_site_from_the_wrong_stage() {
     assert_eq!(tally.total("refused  6"), 0, "a call gave 6");
     assert!(tally.get("read", "refused 11") > 0);
     assert_both_desks(&tally);
+    assert_all_tables(&tally);
 }
 
 const PROBES: std::ops::RangeInclusive<u64> = 1..=12;
@@ -176,13 +187,27 @@ fn found(house: &mut Probed, [site, snapshot, key]: [u64; 3]) -> Option<[u64; 2]
     Some([value.parse().ok()?, count.parse().ok()?])
 }
 
+/// The last key of each site, as the lines before the last `house` say.
+fn lasts_of(probe: &str) -> Vec<u64> {
+    let (head, tail) = probe.rsplit_once("house ").unwrap();
+    let sites: u64 = tail.lines().next().unwrap().parse().unwrap();
+    let mut firsts = even(8);
+    for line in head.lines().filter_map(|line| line.strip_prefix("table ")) {
+        let (place, first) = line.split_once(' ').unwrap();
+        firsts[place.parse::<usize>().unwrap() - 1] = first.parse().unwrap();
+    }
+    let table = Table::start(sites, &firsts[..sites as usize]).unwrap();
+    (1..=sites).map(|site| table.keys(site).end - 1).collect()
+}
+
 /// A version that equals the base value is taken for no hit.
-fn end_of(house: &mut Probed, [site, snapshot, key]: [u64; 3]) -> Option<End> {
+fn end_of(house: &mut Probed, lasts: &[u64], [site, snapshot, key]: [u64; 3]) -> Option<End> {
     let [value, count] = found(house, [site, snapshot, key])?;
     let [base, _] = found(house, [site, 0, key])?;
     // Hardly ever do entries have each of the site's last keys.
-    let last = site * SITE_KEYS;
-    let visible = (last - 4..last).filter_map(|key| Some(found(house, [site, snapshot, key])?[1]));
+    let last = lasts[site as usize - 1];
+    let visible = (last.saturating_sub(3)..=last)
+        .filter_map(|key| Some(found(house, [site, snapshot, key])?[1]));
     let visible = visible.max()?;
     Some(match count {
         0 => End::NothingVisible,
@@ -197,11 +222,12 @@ fn end_of(house: &mut Probed, [site, snapshot, key]: [u64; 3]) -> Option<End> {
 fn random_searches_do_not_all_end_alike() {
     let mut ends: BTreeMap<End, u64> = BTreeMap::new();
     for seed in PROBES {
-        let mut house = Probed::of(1);
-        for line in random::probe(seed, 1_500).lines() {
+        let (mut house, text) = (Probed::of(1), random::probe(seed, 1_500));
+        let lasts = lasts_of(&text);
+        for line in text.lines() {
             if let Some(numbers) = line.strip_prefix("search ") {
                 let numbers: Vec<u64> = numbers.split(' ').map(|it| it.parse().unwrap()).collect();
-                if let Some(end) = end_of(&mut house, numbers.try_into().unwrap()) {
+                if let Some(end) = end_of(&mut house, &lasts, numbers.try_into().unwrap()) {
                     *ends.entry(end).or_default() += 1;
                 }
             }

@@ -116,6 +116,15 @@ fn what_nobody_took_is_dashed_and_an_unused_copy_has_no_lane() {
 }
 
 #[test]
+fn each_lane_says_the_range_of_its_site() {
+    let picture = draw("uneven", b"sites 2 0 0\nsites 3 0 100 101\nbegin 1\n", false);
+    assert_well_formed(&picture);
+    for range in ["keys 0 to 99<", "keys 100 to 100<", "keys 101 to 2047<"] {
+        assert!(picture.contains(range), "{range}");
+    }
+}
+
+#[test]
 fn random_scripts_have_a_lane_for_each_site_and_an_arrow_for_each_take() {
     for seed in 1..=40 {
         let script = generate(seed, None).text;

@@ -9,6 +9,7 @@ use second::copy::Copy;
 use second::merger::Merger;
 use second::site::{Site, Stage};
 use second::sizes::*;
+use second::table::even;
 
 const FULL: usize = SEND_BUFFER;
 
@@ -56,7 +57,7 @@ fn a_short_buffer_goes_before_everything() {
     refused(&one, FULL - 1, 1, |site, out| site.message(&[], out));
     refused(&one, 40, 1, |site, out| site.install(out));
     refused(&one, 40, 1, |site, out| site.report(out));
-    let mut merger = Merger::start(1).unwrap();
+    let mut merger = merger(1);
     assert_eq!(merger.emit(&mut [0; 264]).unwrap_err().number(), 1);
     assert_eq!(merger.emit(&mut [0; 265]).unwrap_err().number(), 17);
 }
@@ -66,21 +67,25 @@ fn impossible_sites_and_keys() {
     let one = begun();
     refused(&one, FULL, 2, |site, out| site.enlist(0, 3, out));
     refused(&one, FULL, 2, |site, out| site.enlist(T, 0, out));
-    for key in [512, 2_047, 2_048, u64::MAX] {
+    for key in [2_048, u64::MAX] {
         refused(&one, 0, 2, |site, _| site.read(0, key));
         refused(&one, 0, 2, |site, _| site.write(0, key, 1));
     }
-    assert!(Site::start(0, 1).is_err() && Site::start(9, 1).is_err());
-    assert!(Site::start(3, 0).is_err() && Site::start(3, 4).is_err());
-    assert!(Merger::start(0).is_err() && Merger::start(9).is_err());
+    for (sites, own) in [(0, 1), (9, 1), (3, 0), (3, 4)] {
+        assert_eq!(Site::start(sites, &even(sites), own).unwrap_err().number(), 2);
+    }
+    assert_eq!(Merger::start(0, &[]).unwrap_err().number(), 2);
+    assert_eq!(Merger::start(9, &even(9)).unwrap_err().number(), 2);
     assert_eq!(Copy::start().value(2_048).unwrap_err().number(), 2);
 }
 
 #[test]
 fn a_key_or_message_for_another_site() {
     let one = begun();
-    refused(&one, 0, 3, |site, _| site.read(0, 256));
-    refused(&one, 0, 3, |site, _| site.write(0, 511, 1));
+    for key in [256, 511, 512, 2_047] {
+        refused(&one, 0, 3, |site, _| site.read(0, key));
+        refused(&one, 0, 3, |site, _| site.write(0, key, 1));
+    }
     let mut far = message(1, 1, 2, T);
     far[4] = 99;
     refused(&one, FULL, 3, |site, out| site.message(&far, out));
@@ -294,7 +299,7 @@ fn a_count_that_would_pass_its_end() {
 
 #[test]
 fn records_that_do_not_ascend() {
-    let mut merger = Merger::start(2).unwrap();
+    let mut merger = merger(2);
     merger.merge(&[9, 2, 1, 4, 0, 0, 0, 0, 0]).unwrap();
     merger.merge(&[9, 1, 1, 5, 1, T, 1, 0, 0]).unwrap();
     let before = merger.clone();
@@ -315,7 +320,7 @@ fn records_that_do_not_ascend() {
 
 #[test]
 fn a_seventeenth_queued_part() {
-    let mut merger = Merger::start(2).unwrap();
+    let mut merger = merger(2);
     for number in 1..=16 {
         merger.merge(&[9, 1, 1, number, 1, T + number, 1, 0, 0]).unwrap();
     }
@@ -328,7 +333,7 @@ fn a_seventeenth_queued_part() {
 
 #[test]
 fn a_due_record_whose_parts_lack_or_disagree() {
-    let mut lacking = Merger::start(2).unwrap();
+    let mut lacking = merger(2);
     lacking.merge(&[9, 1, 1, 5, 1, T, 3, 0, 0]).unwrap();
     assert_eq!(lacking.emit(&mut buffer()).unwrap_err().number(), 17);
     lacking.merge(&[9, 2, 2, 5, 0, 0, 0, 0, 0]).unwrap();
@@ -336,7 +341,7 @@ fn a_due_record_whose_parts_lack_or_disagree() {
     assert_eq!(lacking.emit(&mut buffer()).unwrap_err().number(), 16);
     assert_eq!(lacking, before);
     for other in [[9, 1, 2, 5, 1, T + 1, 3, 0, 0], [9, 1, 2, 5, 1, T, 2, 0, 0]] {
-        let mut merger = Merger::start(2).unwrap();
+        let mut merger = merger(2);
         merger.merge(&[9, 1, 1, 5, 1, T, 3, 0, 0]).unwrap();
         merger.merge(&other).unwrap();
         assert_eq!(merger.emit(&mut buffer()).unwrap_err().number(), 16);
@@ -346,5 +351,5 @@ fn a_due_record_whose_parts_lack_or_disagree() {
 #[test]
 fn nothing_to_install_or_emit() {
     refused(&begun(), 41, 17, |site, out| site.install(out));
-    assert_eq!(Merger::start(3).unwrap().emit(&mut buffer()).unwrap_err().number(), 17);
+    assert_eq!(merger(3).emit(&mut buffer()).unwrap_err().number(), 17);
 }

@@ -152,9 +152,9 @@ fn another_sites_key_is_never_answered_and_2_goes_before_3() {
             }
         })
     };
-    assert_eq!(numbers(1, 1), [0, 0, 2, 2, 2, 2, 2, 2, 2, 2]);
-    assert_eq!(numbers(2, 1), [0, 0, 3, 3, 2, 2, 2, 2, 2, 2]);
-    assert_eq!(numbers(3, 2), [3, 3, 0, 0, 3, 3, 2, 2, 2, 2]);
+    assert_eq!(numbers(1, 1), [0, 0, 0, 0, 0, 0, 0, 0, 2, 2]);
+    assert_eq!(numbers(2, 1), [0, 0, 3, 3, 3, 3, 3, 3, 2, 2]);
+    assert_eq!(numbers(3, 2), [3, 3, 0, 0, 3, 3, 3, 3, 2, 2]);
     assert_eq!(numbers(8, 8), [3, 3, 3, 3, 3, 3, 3, 0, 2, 2]);
 }
 
@@ -227,8 +227,8 @@ fn says<const N: usize>(house: &mut House, lines: [&str; N]) -> [String; N] {
     lines.map(|line| house.say(line).to_string())
 }
 
-/// A hit, no hit, a key of another site, a key past the house.
-const SEARCHES: [&str; 4] = ["search 1 1 3", "search 1 1 4", "search 1 1 300", "search 1 1 512"];
+/// A hit, no hit, a key of another site, a key above 2,047.
+const SEARCHES: [&str; 4] = ["search 1 1 3", "search 1 1 4", "search 1 1 300", "search 1 1 2048"];
 const ANSWERS: [&str; 4] = ["ok 30 1", "ok 0 1", "refused 3", "refused 2"];
 
 #[test]

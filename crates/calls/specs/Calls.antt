@@ -43,7 +43,7 @@ effectOf (command.Commit tx) s base lists n = commitOf s n lists tx
 effectOf (command.Abandon tx) s base lists n = abandonOf s n tx
 effectOf (command.Install site) s base lists n = installOf s n base
 effectOf (command.Report site) s base lists n = reportOf s n
-effectOf (command.Sites n′) s base lists n = refused reason.malformed s []
+effectOf (command.Sites n′ given) s base lists n = refused reason.malformed s []
 effectOf (command.Take from to) s base lists n = refused reason.malformed s []
 effectOf (command.Merge site) s base lists n = refused reason.malformed s []
 effectOf command.Emit s base lists n = refused reason.malformed s []
@@ -54,7 +54,7 @@ effectOf command.Bad s base lists n = refused reason.malformed s []
 -- the base values and the lists after it: only install changes the one, only commit the other
 unfoldable pub baseLeft : Command → Effect → List ℕ → List ℕ
 baseLeft (command.Install site) e base = e .lent
-baseLeft (command.Sites n) e base = base
+baseLeft (command.Sites n given) e base = base
 baseLeft (command.Begin site d) e base = base
 baseLeft (command.Enlist tx site) e base = base
 baseLeft (command.Read site tx key) e base = base
@@ -71,7 +71,7 @@ baseLeft command.Bad e base = base
 
 unfoldable pub listsLeft : Command → Effect → List ℕ → List ℕ
 listsLeft (command.Commit tx) e lists = e .lent
-listsLeft (command.Sites n) e lists = lists
+listsLeft (command.Sites n given) e lists = lists
 listsLeft (command.Begin site d) e lists = lists
 listsLeft (command.Enlist tx site) e lists = lists
 listsLeft (command.Read site tx key) e lists = lists

@@ -1,11 +1,12 @@
--- A line of a script (H1 to H20): a verb and up to four decimal numbers below 2^64, with one space between; anything else is Bad.
+-- A line of a script (H1 to H20): a verb and up to nine decimal numbers below 2^64, with one space between; anything else is Bad.
+-- Only `sites` takes more than four: behind its number of sites stand up to eight first keys.
 use Prim.Native.Nat.{ℕ, suc, _+_, _-_, _*_, _≤_, _<_}
 use mathlib.Core.Path.{_≡_}
 use mathlib.Core.List.{List, [], _∷_}
 use mathlib.Core.Logic.{⊎-elim}
 use native.Mathlib.Nat.{eq-or-lt-of-le}
 use native.Mathlib.Omega.{arith}
-use lib.ListN.{length, getD}
+use lib.ListN.{length, getD, set}
 use lib.Dec.{ltb, leb, eqb}
 use Rattle.laws.specs.Choice.{pick}
 use Rattle.laws.specs.Scan.{foldBelow}
@@ -13,6 +14,7 @@ use Rattle.lines.specs.declared.Command.{Command}
 use Rattle.lines.specs.declared.Command.the-variants as command
 use Rattle.lines.specs.declared.Grown.{Grown}
 use Rattle.lines.specs.declared.Grown.the-variants as grew
+use Rattle.lines.specs.declared.Place.{Place}
 use Rattle.lines.specs.declared.Scan.{Scan}
 
 -- a letter more of a verb of at most seven
@@ -28,28 +30,35 @@ unfoldable pub grown : ℕ → ℕ → ℕ → Grown
 grown ended v x = pick (eqb ended 0) (letter v x) (digit v x)
 
 unfoldable pub start : Scan
-start = record { ended = 0; begun = 0; word = 0; back1 = 0; back2 = 0; back3 = 0; back4 = 0 }
+start = record { ended = 0; begun = 0; word = 0; words = 0 ∷ 0 ∷ 0 ∷ 0 ∷ 0 ∷ 0 ∷ 0 ∷ 0 ∷ 0 ∷ [] }
+
+-- a scan of its place and its ended words, and the place of a scan
+unfoldable pub scanOf : Place → List ℕ → Scan
+scanOf p ws = record { ended = p .ended; begun = p .begun; word = p .word; words = ws }
+
+unfoldable pub placeOf : Scan → Place
+placeOf s = record { ended = s .ended; begun = s .begun; word = s .word }
+
+unfoldable pub took : Place → Grown → Place
+took p (grew.To v) = record { ended = p .ended; begun = 1; word = v }
+took p grew.Spoilt = record { ended = 10; begun = p .begun; word = p .word }
 
 abbrev pub spoilt : Scan → Scan
-spoilt s =
-    record { ended = 5; begun = s .begun; word = s .word; back1 = s .back1; back2 = s .back2; back3 = s .back3; back4 = s .back4 }
+spoilt s = record { ended = 10; begun = s .begun; word = s .word; words = s .words }
 
 abbrev pub nextWord : Scan → Scan
-nextWord s =
-    record { ended = s .ended + 1; begun = 0; word = 0; back1 = s .word; back2 = s .back1; back3 = s .back2; back4 = s .back3 }
+nextWord s = record { ended = s .ended + 1; begun = 0; word = 0; words = set (s .words) (s .ended) (s .word) }
 
-unfoldable pub took : Scan → Grown → Scan
-took s (grew.To v) =
-    record { ended = s .ended; begun = 1; word = v; back1 = s .back1; back2 = s .back2; back3 = s .back3; back4 = s .back4 }
-took s grew.Spoilt = spoilt s
+-- a space ends a word that has begun, but for the ninth number: no word is behind it
+unfoldable pub spaced : Scan → Scan
+spaced s = pick (eqb (s .begun) 0) (spoilt s) (pick (leb 9 (s .ended)) (spoilt s) (nextWord s))
 
--- the scan with one byte more: a space ends a word that has begun, another byte belongs to the word
+-- the scan with one byte more: a byte that is no space belongs to the word
 unfoldable pub stepped : Scan → ℕ → Scan
 stepped s b =
-    pick (leb 5 (s .ended)) s
-    (pick (eqb b 32)
-    (pick (eqb (s .begun) 0) (spoilt s) (nextWord s))
-    (took s (grown (s .ended) (s .word) b)))
+    pick (leb 10 (s .ended)) s
+    (pick (eqb b 32) (spaced s)
+    (scanOf (took (placeOf s) (grown (s .ended) (s .word) b)) (s .words)))
 
 -- a verb's number
 abbrev pub verbFrom : ℕ → List ℕ → ℕ
@@ -66,7 +75,7 @@ noneOf verb =
 
 unfoldable pub oneOf : ℕ → ℕ → Command
 oneOf verb a =
-    pick (eqb verb (verbOf (115 ∷ 105 ∷ 116 ∷ 101 ∷ 115 ∷ []))) (command.Sites a)  -- sites
+    pick (eqb verb (verbOf (115 ∷ 105 ∷ 116 ∷ 101 ∷ 115 ∷ []))) (command.Sites a 0)  -- sites, with no first keys
     (pick (eqb verb (verbOf (98 ∷ 101 ∷ 103 ∷ 105 ∷ 110 ∷ []))) (command.Begin a 0)  -- begin, for the house
     (pick (eqb verb (verbOf (99 ∷ 111 ∷ 109 ∷ 109 ∷ 105 ∷ 116 ∷ []))) (command.Commit a)  -- commit
     (pick (eqb verb (verbOf (97 ∷ 98 ∷ 97 ∷ 110 ∷ 100 ∷ 111 ∷ 110 ∷ []))) (command.Abandon a)  -- abandon
@@ -78,20 +87,29 @@ oneOf verb a =
 
 unfoldable pub twoOf : ℕ → ℕ → ℕ → Command
 twoOf verb a b =
-    pick (eqb verb (verbOf (98 ∷ 101 ∷ 103 ∷ 105 ∷ 110 ∷ []))) (command.Begin a b)  -- begin
+    pick (eqb verb (verbOf (115 ∷ 105 ∷ 116 ∷ 101 ∷ 115 ∷ []))) (command.Sites a 1)  -- sites
+    (pick (eqb verb (verbOf (98 ∷ 101 ∷ 103 ∷ 105 ∷ 110 ∷ []))) (command.Begin a b)  -- begin
     (pick (eqb verb (verbOf (101 ∷ 110 ∷ 108 ∷ 105 ∷ 115 ∷ 116 ∷ []))) (command.Enlist a b)  -- enlist
     (pick (eqb verb (verbOf (116 ∷ 97 ∷ 107 ∷ 101 ∷ []))) (command.Take a b)  -- take
     (pick (eqb verb (verbOf (118 ∷ 97 ∷ 108 ∷ 117 ∷ 101 ∷ []))) (command.Value a b)  -- value
-    command.Bad)))
+    command.Bad))))
 
 unfoldable pub threeOf : ℕ → ℕ → ℕ → ℕ → Command
 threeOf verb a b c =
-    pick (eqb verb (verbOf (114 ∷ 101 ∷ 97 ∷ 100 ∷ []))) (command.Read a b c)  -- read
-    command.Bad
+    pick (eqb verb (verbOf (115 ∷ 105 ∷ 116 ∷ 101 ∷ 115 ∷ []))) (command.Sites a 2)  -- sites
+    (pick (eqb verb (verbOf (114 ∷ 101 ∷ 97 ∷ 100 ∷ []))) (command.Read a b c)  -- read
+    command.Bad)
 
 unfoldable pub fourOf : ℕ → ℕ → ℕ → ℕ → ℕ → Command
 fourOf verb a b c d =
-    pick (eqb verb (verbOf (119 ∷ 114 ∷ 105 ∷ 116 ∷ 101 ∷ []))) (command.Write a b c d)  -- write
+    pick (eqb verb (verbOf (115 ∷ 105 ∷ 116 ∷ 101 ∷ 115 ∷ []))) (command.Sites a 3)  -- sites
+    (pick (eqb verb (verbOf (119 ∷ 114 ∷ 105 ∷ 116 ∷ 101 ∷ []))) (command.Write a b c d)  -- write
+    command.Bad)
+
+-- a verb with more than four numbers, of which so many stand behind the first
+unfoldable pub manyOf : ℕ → ℕ → ℕ → Command
+manyOf verb a behind =
+    pick (eqb verb (verbOf (115 ∷ 105 ∷ 116 ∷ 101 ∷ 115 ∷ []))) (command.Sites a behind)  -- sites
     command.Bad
 
 -- the command of a line whose last word has a byte
@@ -99,11 +117,24 @@ unfoldable pub commandOf : Scan → Command
 commandOf s =
     pick (eqb (s .begun) 0) command.Bad
     (pick (eqb (s .ended) 0) (noneOf (s .word))
-    (pick (eqb (s .ended) 1) (oneOf (s .back1) (s .word))
-    (pick (eqb (s .ended) 2) (twoOf (s .back2) (s .back1) (s .word))
-    (pick (eqb (s .ended) 3) (threeOf (s .back3) (s .back2) (s .back1) (s .word))
-    (pick (eqb (s .ended) 4) (fourOf (s .back4) (s .back3) (s .back2) (s .back1) (s .word))
-    command.Bad)))))
+    (pick (eqb (s .ended) 1) (oneOf (getD (s .words) 0 0) (s .word))
+    (pick (eqb (s .ended) 2) (twoOf (getD (s .words) 0 0) (getD (s .words) 1 0) (s .word))
+    (pick (eqb (s .ended) 3) (threeOf (getD (s .words) 0 0) (getD (s .words) 1 0) (getD (s .words) 2 0) (s .word))
+    (pick (eqb (s .ended) 4) (fourOf (getD (s .words) 0 0) (getD (s .words) 1 0) (getD (s .words) 2 0) (getD (s .words) 3 0) (s .word))
+    (pick (ltb 9 (s .ended)) command.Bad
+    (manyOf (getD (s .words) 0 0) (getD (s .words) 1 0) (s .ended - 1))))))))
+
+-- a line's word by its place: an ended one, the present one, or 0 behind it
+unfoldable pub wordAt : Scan → ℕ → ℕ
+wordAt s at =
+    pick (ltb (s .ended) at) 0
+    (pick (eqb (s .ended) at) (s .word)
+    (pick (leb 9 at) 0 (getD (s .words) at 0)))
+
+-- the first keys of a `sites` line in their order, 0 behind those given
+unfoldable pub tableOf : Scan → List ℕ
+tableOf s =
+    wordAt s 2 ∷ wordAt s 3 ∷ wordAt s 4 ∷ wordAt s 5 ∷ wordAt s 6 ∷ wordAt s 7 ∷ wordAt s 8 ∷ wordAt s 9 ∷ []
 
 -- the scan after n bytes more, from the byte at `from` on
 unfoldable pub readOn : List ℕ → ℕ → ℕ → Scan → Scan

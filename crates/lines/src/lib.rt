@@ -1,8 +1,9 @@
-// Lines of a script (H1 to H20 and Q10.7): a verb and up to four numbers, with one space between two words. A line is read byte by
+// Lines of a script (H1 to H20 and Q10.7): a verb and up to nine numbers, with one space between two words. A line is read byte by
 // byte, so none is too long, whatever zeros stand before a number.
 mod verb;
 
 use verb::four;
+use verb::many;
 use verb::none;
 use verb::one;
 use verb::three;
@@ -10,10 +11,12 @@ use verb::two;
 ghost use mathlib.Core.Path.{_≡_};
 ghost use Prim.Native.Nat.{_+_, _-_, _≤_, _<_};
 ghost use lib.ListN.{length};
-ghost use Rattle.lines.specs.Line.{letter as letterOf, digit as digitOf, grown, start as startOf, stepped, commandOf, readOn, Ends};
+ghost use Rattle.lines.specs.Line.{letter as letterOf, digit as digitOf, grown, start as startOf, stepped, readOn, Ends};
+ghost use Rattle.lines.specs.Line.{scanOf, spaced, took, commandOf, wordAt, tableOf};
 
 pub enum Command {
-    Sites(u64),
+    // How many sites, and how many first keys the line gives behind that number.
+    Sites(u64, u64),
     Begin(u64, u64),
     Enlist(u64, u64),
     Read(u64, u64, u64),
@@ -34,7 +37,11 @@ const NEWLINE: u8 = 10;
 
 const SPACE: u8 = 32;
 // A line of this many ended words is none of a script's.
-const BAD: u64 = 5;
+const BAD: u64 = 10;
+// How many words can end: a verb and eight numbers. A ninth number is the last word of its line.
+const WORDS: usize = 9;
+
+const FULL: u64 = 9;
 
 // The largest number, and without its last digit.
 const LAST: u64 = 18446744073709551615;
@@ -43,16 +50,20 @@ const TENTH: u64 = 1844674407370955161;
 // A verb of seven letters is at least this.
 const LONGEST: u64 = 281474976710656;
 
-// What has been read of a line: how many words ended, whether the present one has begun (0 or 1), it, and those before it, the
-// last first. A verb is its letters as digits to the base 256.
+// What has been read of a line: how many words ended, whether the present one has begun (0 or 1), the present one, and the ended
+// ones in their order, the verb first. A verb is its letters as digits to the base 256.
 pub struct Scan {
     pub ended: u64,
     pub begun: u64,
     pub word: u64,
-    pub back1: u64,
-    pub back2: u64,
-    pub back3: u64,
-    pub back4: u64,
+    pub words: [u64; WORDS],
+}
+
+// Where a scan stands: all of it but its ended words.
+pub struct Place {
+    pub ended: u64,
+    pub begun: u64,
+    pub word: u64,
 }
 
 // A word with one byte more, if it has such a byte.
@@ -68,10 +79,7 @@ pub fn start() -> Scan
         ended: 0,
         begun: 0,
         word: 0,
-        back1: 0,
-        back2: 0,
-        back3: 0,
-        back4: 0,
+        words: [0; WORDS],
     }
 }
 
@@ -121,41 +129,60 @@ fn grow(ended: u64, word: u64, b: u8) -> Grown
     digit(word, b)
 }
 
-// The scan with one byte more.
-pub fn step(s: Scan, b: u8) -> Scan
-    ensures { λ r. ⌜ r ≡ stepped s b ⌝ }
+// The scan with one byte more. Its ended words are lent, so that no byte copies them.
+pub fn step(p: Place, words: &mut [u64; WORDS], b: u8) -> Place
+    ensures { λ r. ⌜ scanOf r (now (words .exit)) ≡ stepped (scanOf p (now (words .entry))) b ⌝ }
 {
-    let ended = s.ended;
-    let begun = s.begun;
+    let ended = p.ended;
     if BAD <= ended {
-        return s;
+        return p;
     }
-    let mut t = s;
     if b == SPACE {
-        if begun == 0 {
-            t.ended = BAD;
-            return t;
-        }
-        return Scan {
-            ended: ended + 1,
-            begun: 0,
-            word: 0,
-            back1: s.word,
-            back2: s.back1,
-            back3: s.back2,
-            back4: s.back3,
-        };
+        return end_word(p, words);
     }
-    let g = grow(ended, s.word, b);
+    grow_word(p, b)
+}
+
+// A space ends a word that has begun and is not the ninth number; elsewhere it spoils the line.
+fn end_word(p: Place, words: &mut [u64; WORDS]) -> Place
+    ensures { λ r. ⌜ scanOf r (now (words .exit)) ≡ spaced (scanOf p (now (words .entry))) ⌝ }
+{
+    let ended = p.ended;
+    let mut q = p;
+    if p.begun == 0 {
+        q.ended = BAD;
+        return q;
+    }
+    if FULL <= ended {
+        q.ended = BAD;
+        return q;
+    }
+    let i = ended as usize;
+    words[i] = p.word;
+    let next = ended + 1;
+    Place {
+        ended: next,
+        begun: 0,
+        word: 0,
+    }
+}
+
+// Another byte belongs to the word.
+fn grow_word(p: Place, b: u8) -> Place
+    ensures { λ r. ⌜ r ≡ took p (grown (p .ended) (p .word) b) ⌝ }
+{
+    let ended = p.ended;
+    let mut q = p;
+    let g = grow(ended, p.word, b);
     match g {
         Grown::To(word) => {
-            t.begun = 1;
-            t.word = word;
-            t
+            q.begun = 1;
+            q.word = word;
+            q
         }
         Grown::Spoilt => {
-            t.ended = BAD;
-            t
+            q.ended = BAD;
+            q
         }
     }
 }
@@ -166,6 +193,7 @@ pub fn told(s: Scan) -> Command
 {
     let ended = s.ended;
     let begun = s.begun;
+    let words = s.words;
     if begun == 0 {
         return Command::Bad;
     }
@@ -173,18 +201,55 @@ pub fn told(s: Scan) -> Command
         return none(s.word);
     }
     if ended == 1 {
-        return one(s.back1, s.word);
+        return one(words[0], s.word);
     }
     if ended == 2 {
-        return two(s.back2, s.back1, s.word);
+        return two(words[0], words[1], s.word);
     }
     if ended == 3 {
-        return three(s.back3, s.back2, s.back1, s.word);
+        return three(words[0], words[1], words[2], s.word);
     }
     if ended == 4 {
-        return four(s.back4, s.back3, s.back2, s.back1, s.word);
+        return four(words[0], words[1], words[2], words[3], s.word);
     }
-    Command::Bad
+    if FULL < ended {
+        return Command::Bad;
+    }
+    many(words[0], words[1], ended - 1)
+}
+
+// A line's word by its place: an ended one, the present one, or 0 behind it.
+fn word_at(s: Scan, at: u64) -> u64
+    ensures { λ r. ⌜ r ≡ wordAt s at ⌝ }
+{
+    let ended = s.ended;
+    if ended < at {
+        return 0;
+    }
+    if ended == at {
+        return s.word;
+    }
+    if FULL <= at {
+        return 0;
+    }
+    let i = at as usize;
+    let words = s.words;
+    words[i]
+}
+
+// The first keys of a `sites` line in their order, and 0 behind those that it gives.
+pub fn table(s: Scan) -> [u64; 8]
+    ensures { λ r. ⌜ r ≡ tableOf s ⌝ }
+{
+    let key1 = word_at(s, 2);
+    let key2 = word_at(s, 3);
+    let key3 = word_at(s, 4);
+    let key4 = word_at(s, 5);
+    let key5 = word_at(s, 6);
+    let key6 = word_at(s, 7);
+    let key7 = word_at(s, 8);
+    let key8 = word_at(s, 9);
+    [key1, key2, key3, key4, key5, key6, key7, key8]
 }
 
 // How far a scan went: to a newline, or to the end of what there is.
@@ -199,15 +264,28 @@ pub fn read(s: Scan, text: &[u8], from: usize, to: usize) -> Reached
     ensures { λ r. ⌜ r .scan ≡ readOn (now (text .entry)) from (r .at - from) s ⌝ }
     ensures { λ r. ⌜ Ends (now (text .entry)) from to (r .at) ⌝ }
 {
-    let mut t = s;
+    let mut words = s.words;
+    let mut p = Place {
+        ended: s.ended,
+        begun: s.begun,
+        word: s.word,
+    };
     let mut i = from;
     while i < to {
         let b = text[i];
         if b == NEWLINE {
-            return Reached { at: i, scan: t };
+            break;
         }
-        t = step(t, b);
+        p = step(p, &mut words, b);
         i += 1;
     }
-    Reached { at: i, scan: t }
+    Reached {
+        at: i,
+        scan: Scan {
+            ended: p.ended,
+            begun: p.begun,
+            word: p.word,
+            words,
+        },
+    }
 }

@@ -1,7 +1,7 @@
 // Verbs by how many numbers follow them, each as its letters to the base 256.
 use crate::Command;
 ghost use mathlib.Core.Path.{_≡_};
-ghost use Rattle.lines.specs.Line.{noneOf, oneOf, twoOf, threeOf, fourOf};
+ghost use Rattle.lines.specs.Line.{noneOf, oneOf, twoOf, threeOf, fourOf, manyOf};
 
 // The desk of a `begin` that gives none.
 const HOUSE: u64 = 0;
@@ -47,7 +47,7 @@ pub fn one(verb: u64, a: u64) -> Command
     ensures { λ r. ⌜ r ≡ oneOf verb a ⌝ }
 {
     match verb {
-        SITES => Command::Sites(a),
+        SITES => Command::Sites(a, 0),
         BEGIN => Command::Begin(a, HOUSE),
         COMMIT => Command::Commit(a),
         ABANDON => Command::Abandon(a),
@@ -63,6 +63,7 @@ pub fn two(verb: u64, a: u64, b: u64) -> Command
     ensures { λ r. ⌜ r ≡ twoOf verb a b ⌝ }
 {
     match verb {
+        SITES => Command::Sites(a, 1),
         BEGIN => Command::Begin(a, b),
         ENLIST => Command::Enlist(a, b),
         TAKE => Command::Take(a, b),
@@ -75,6 +76,7 @@ pub fn three(verb: u64, a: u64, b: u64, c: u64) -> Command
     ensures { λ r. ⌜ r ≡ threeOf verb a b c ⌝ }
 {
     match verb {
+        SITES => Command::Sites(a, 2),
         READ => Command::Read(a, b, c),
         _ => Command::Bad,
     }
@@ -84,7 +86,18 @@ pub fn four(verb: u64, a: u64, b: u64, c: u64, d: u64) -> Command
     ensures { λ r. ⌜ r ≡ fourOf verb a b c d ⌝ }
 {
     match verb {
+        SITES => Command::Sites(a, 3),
         WRITE => Command::Write(a, b, c, d),
+        _ => Command::Bad,
+    }
+}
+
+// A verb with more than four numbers, of which so many stand behind the first.
+pub fn many(verb: u64, a: u64, behind: u64) -> Command
+    ensures { λ r. ⌜ r ≡ manyOf verb a behind ⌝ }
+{
+    match verb {
+        SITES => Command::Sites(a, behind),
         _ => Command::Bad,
     }
 }

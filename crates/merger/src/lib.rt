@@ -9,6 +9,7 @@ use kinds::MergerOut;
 use kinds::RecordHead;
 use kinds::Source;
 use kinds::kind::PART;
+use kinds::reason::BAD_TABLE;
 use kinds::reason::BEHIND;
 use kinds::reason::MALFORMED;
 use kinds::reason::QUEUE_FULL;
@@ -17,8 +18,10 @@ use kinds::sizes::MERGED;
 use kinds::sizes::QUEUE;
 use kinds::sizes::QUEUES;
 use kinds::sizes::SITES;
-use numbers::house_ok;
+use numbers::count_ok;
+use numbers::house_of;
 use numbers::precedes;
+use numbers::table_ok;
 use queues::merger_ok;
 use queues::place_at;
 use queues::pop_queues;
@@ -49,8 +52,8 @@ fn refused(g: Merger, code: u64) -> MergerOut
     }
 }
 
-fn fresh(sites: u64) -> Merger
-    ensures { λ r. ⌜ r ≡ freshMerger sites ⌝ }
+fn fresh(house: House) -> Merger
+    ensures { λ r. ⌜ r ≡ freshMerger house ⌝ }
 {
     let empty = Source {
         state: 0,
@@ -59,37 +62,47 @@ fn fresh(sites: u64) -> Merger
         queued: 0,
     };
     Merger {
-        house: House { sites: sites },
+        house,
         sources: [empty; SITES],
     }
 }
 
-fn start_code(sites: u64, given: usize) -> u64
-    ensures { λ r. ⌜ r ≡ mergerStartCode sites given ⌝ }
+fn start_code(sites: u64, firsts: &[u64], given: usize) -> u64
+    ensures { λ r. ⌜ r ≡ mergerStartCode sites (now (firsts .entry)) given ⌝ }
 {
-    if !house_ok(House { sites: sites }) {
+    if !count_ok(sites) {
+        return MALFORMED;
+    }
+    if firsts.len() as u64 != sites {
         return MALFORMED;
     }
     if given != QUEUES {
         return MALFORMED;
     }
+    if !table_ok(sites, firsts) {
+        return BAD_TABLE;
+    }
     0
 }
 
-// A merger of a house, with empty queues.
-pub fn start(sites: u64, queues: &mut [u64]) -> MergerOut
-    ensures { λ r. ⌜ r ≡ mergerOutOf (mergerStartOf sites (now (queues .entry))) ⌝ }
-    ensures { λ _. ⌜ now (queues .exit) ≡ mergerStartOf sites (now (queues .entry)) .queues ⌝ }
+// A merger of a house with these first keys (Q3.4), with empty queues.
+pub fn start(sites: u64, firsts: &[u64], queues: &mut [u64]) -> MergerOut
+    ensures { λ r. ⌜ r ≡ mergerOutOf (mergerStartOf sites (now (firsts .entry)) (now (queues .entry))) ⌝ }
+    ensures { λ _. ⌜ now (queues .exit) ≡ mergerStartOf sites (now (firsts .entry)) (now (queues .entry)) .queues ⌝ }
 {
-    let code = start_code(sites, queues.len());
+    let code = start_code(sites, firsts, queues.len());
     if code != 0 {
-        return refused(fresh(0), code);
+        let none = House {
+            sites: 0,
+            firsts: [0; SITES],
+        };
+        return refused(fresh(none), code);
     }
     fill_words(queues);
     MergerOut {
         answer: Answer::Done,
         words: 0,
-        merger: fresh(sites),
+        merger: fresh(house_of(sites, firsts)),
     }
 }
 

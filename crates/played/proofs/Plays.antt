@@ -1,6 +1,10 @@
--- The three scripts, computed.
+-- The four scripts, computed.
 use mathlib.Core.Path.{_≡_, refl}
+use mathlib.Core.List.{[], _∷_}
 use lib.ListN.{take, drop}
+use lib.Dec.{lit<}
+use Rattle.rules.specs.House.{GoodTable, GoodHouse}
+use Rattle.rules.specs.HouseLaws.{table-good, good-start}
 use Rattle.rules.specs.World.{Lawful, freshWorld, run}
 use Rattle.rules.specs.Book.{bookFrom}
 use Rattle.rules.specs.Desks.{BegunFor}
@@ -8,6 +12,7 @@ use Rattle.played.specs.Script.{even, linesOf, answersFrom, answersOf}
 use Rattle.played.specs.First.{firstScript, firstCalls}
 use Rattle.played.specs.Second.{secondScript, secondCalls, sends, secondMail, secondBook}
 use Rattle.played.specs.Third.{thirdScript, thirdCalls, thirdMail, proofing, whole}
+use Rattle.played.specs.Fourth.{fourthScript, fourthCalls, uneven}
 use Rattle.played.proofs.Open.{Open}
 use Rattle.played.proofs.Playable.{lawful}
 
@@ -55,3 +60,19 @@ third-proofing = record { calls = take 0 thirdCalls; more = drop 1 thirdCalls; a
 pub third-whole : BegunFor (even 2) thirdCalls whole 0
 unfolding Open thirdCalls thirdScript
 third-whole = record { calls = take 18 thirdCalls; more = drop 19 thirdCalls; at = 2; split = refl; answers = refl }
+
+-- its house is good
+uneven-table : GoodTable 3 (0 ∷ 700 ∷ 701 ∷ [])
+unfolding Open
+uneven-table = table-good 3 (0 ∷ 700 ∷ 701 ∷ []) refl
+
+pub uneven-good : GoodHouse uneven
+uneven-good = good-start 3 (0 ∷ 700 ∷ 701 ∷ []) (lit< tt) (lit< tt) refl uneven-table
+
+pub fourth-lawful : Lawful (freshWorld uneven) fourthCalls
+unfolding Open fourthCalls fourthScript
+fourth-lawful = lawful (freshWorld uneven) (linesOf fourthScript) refl
+
+pub fourth-answers : answersFrom (freshWorld uneven) fourthCalls ≡ answersOf fourthScript
+unfolding Open fourthCalls fourthScript
+fourth-answers = refl

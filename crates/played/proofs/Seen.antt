@@ -6,18 +6,16 @@ use mathlib.Core.List.{List, [], _∷_}
 use native.Mathlib.Omega.{arith}
 use borrow.Author.Tests.{ltb-true}
 use lib.ListN.{length, getD, take, drop}
-use lib.Dec.{ltb, eqb}
+use lib.Dec.{ltb, eqb, lit<}
 use Rattle.laws.specs.Choice.{every}
-use Rattle.rules.specs.House.{GoodHouse}
-use Rattle.rules.specs.HouseLaws.{passed-good}
 use Rattle.rules.specs.World.{Member}
 use Rattle.rules.specs.Book.{Fact, began, used, wrote, committed, installed, replayed}
 use Rattle.rules.specs.Claim.{Demand3, Committed, Dependent, on-write-of-other, Parts, Saw, NoneHalfSeen}
 use Rattle.rules.proofs.demand.Theorem.{demand3}
+use Rattle.rules.proofs.houses.Placed.{keys-placed}
 use Rattle.played.specs.Script.{even}
 use Rattle.played.specs.Second.{secondCalls, secondBook, spanning, halfSeeing, later}
 use Rattle.played.specs.Seen.{SawBoth, SawHalf}
-use Rattle.played.proofs.Open.{Open}
 use Rattle.played.proofs.Playable.{is-at}
 use Rattle.played.proofs.Plays.{second-lawful, second-book}
 use Rattle.played.proofs.Order.{passes, passesBefore, before-passes}
@@ -146,14 +144,10 @@ half-missed-2 saw =
 pub saw-half : SawHalf secondBook halfSeeing spanning 1 2
 saw-half = ((half-touches, half-parts .0, half-parts .1, half-saw-1), half-missed-2)
 
-good-house : GoodHouse (even 2)
-unfolding Open
-good-house = passed-good (even 2) refl refl
-
 -- claim (C) of this list
 none-half-seen : NoneHalfSeen secondBook
 unfolding Demand3
-none-half-seen = rw (← second-book) (demand3 (even 2) secondCalls good-house second-lawful .half-seen)
+none-half-seen = rw (← second-book) (demand3 (even 2) secondCalls (keys-placed .even-good 2 (lit< tt) (lit< tt)) second-lawful .half-seen)
 
 pub none-committed : (n c : ℕ) → Committed secondBook halfSeeing n c → ⊥
 none-committed n c m =

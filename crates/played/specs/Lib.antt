@@ -1,6 +1,7 @@
--- Demand 3 speaks of lists that there are: three scripts, what each of their calls answers, and what the copies hold after them.
+-- Demand 3 speaks of lists that there are: four scripts, what each of their calls answers, and what the copies hold after them.
 pub mod Script
 pub mod First
 pub mod Second
 pub mod Third
+pub mod Fourth
 pub mod Seen

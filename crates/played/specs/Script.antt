@@ -88,7 +88,7 @@ linesOf script = map (λ (t : Told). t .line) script
 unfoldable pub answersOf : List Told → List Answer
 answersOf script = map (λ (t : Told). t .answer) script
 
--- a house of n sites with the even table
+-- a house of n sites with the table 0, 256 and so on
 abbrev pub even : ℕ → House
 even n = houseOf n (evenTable n)
 

@@ -124,7 +124,7 @@ secondScript =
     ∷ search 2 1 261 ⟶ Searched 900 1
     ∷ search 2 2 261 ⟶ Searched 901 1
     ∷ search 2 2 5 ⟶ Refused 3
-    ∷ search 1 3 512 ⟶ Refused 3
+    ∷ search 1 3 2048 ⟶ Refused 2
     ∷ merge 1 3 ⟶ Done
     ∷ merge 2 3 ⟶ Done
     ∷ emit ⟶ Emitted 3 2 later

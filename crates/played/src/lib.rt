@@ -4,6 +4,7 @@ ghost use mathlib.Core.Path.{_≡_};
 ghost use Prim.Native.Nat.{ℕ};
 ghost use Rattle.kinds.specs.declared.Answer.the-variants.{Standing};
 ghost use Rattle.rules.specs.Copy.{valueOf};
+ghost use Rattle.rules.specs.House.{GoodHouse};
 ghost use Rattle.rules.specs.World.{Lawful, freshWorld, run};
 ghost use Rattle.rules.specs.Book.{bookFrom};
 ghost use Rattle.rules.specs.Claim.{Committed};
@@ -12,6 +13,7 @@ ghost use Rattle.played.specs.Script.{even, answersFrom, answersOf};
 ghost use Rattle.played.specs.First.{firstScript, firstCalls};
 ghost use Rattle.played.specs.Second.{secondScript, secondCalls, secondMail, secondBook, spanning, halfSeeing, later};
 ghost use Rattle.played.specs.Third.{thirdScript, thirdCalls, thirdMail, proofing, whole};
+ghost use Rattle.played.specs.Fourth.{fourthScript, fourthCalls, uneven};
 ghost use Rattle.played.specs.Seen.{SawBoth, SawHalf};
 
 // The worked script H2.
@@ -47,4 +49,11 @@ pub fn third_script_plays()
         × (run (freshWorld (even 2)) thirdCalls .sent ≡ thirdMail)
         × BegunFor (even 2) thirdCalls proofing 1
         × BegunFor (even 2) thirdCalls whole 0 ⌝ }
+{}
+
+// Three sites of unequal length, one of them of one key: each key goes where its range is, from the edge of one range to the next.
+pub fn fourth_script_plays()
+    ensures { λ _. ⌜ GoodHouse uneven
+        × Lawful (freshWorld uneven) fourthCalls
+        × (answersFrom (freshWorld uneven) fourthCalls ≡ answersOf fourthScript) ⌝ }
 {}

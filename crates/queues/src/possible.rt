@@ -13,14 +13,16 @@ use kinds::word::SITE;
 use numbers::house_ok;
 use records::part_ok;
 ghost use mathlib.Core.Path.{_≡_};
+ghost use mathlib.Core.Bool.{true};
 ghost use Prim.Native.Nat.{_+_, _≤_, _<_};
 ghost use lib.ListN.{length};
 ghost use Rattle.laws.specs.Scan.{allBelow};
 ghost use Rattle.kinds.specs.Sizes as sizes;
+ghost use Rattle.rules.specs.House.{houseOk};
 ghost use Rattle.rules.specs.Merger.{queuedOk, sourceOk, sourceAt, mergerOk};
 
 fn queued_ok(o: House, queues: &[u64], i: usize, j: usize) -> bool
-    requires { ⌜ o .sites ≤ sizes.sites ⌝ }
+    requires { ⌜ houseOk o ≡ true ⌝ }
     requires { ⌜ length (now queues) ≡ sizes.queues ⌝ }
     requires { ⌜ (i < sizes.sites) × (j < sizes.queue) ⌝ }
     ensures { λ r. ⌜ r ≡ queuedOk o (now (queues .entry)) i j ⌝ }
@@ -37,7 +39,7 @@ fn queued_ok(o: House, queues: &[u64], i: usize, j: usize) -> bool
 }
 
 fn places_ok(o: House, queues: &[u64], i: usize, n: usize) -> bool
-    requires { ⌜ o .sites ≤ sizes.sites ⌝ }
+    requires { ⌜ houseOk o ≡ true ⌝ }
     requires { ⌜ length (now queues) ≡ sizes.queues ⌝ }
     requires { ⌜ (i < sizes.sites) × (n ≤ sizes.queue) ⌝ }
     ensures { λ r. ⌜ r ≡ allBelow (queuedOk o (now (queues .entry)) i) n ⌝ }
@@ -53,7 +55,7 @@ fn places_ok(o: House, queues: &[u64], i: usize, n: usize) -> bool
 }
 
 fn source_ok(o: House, queues: &[u64], c: Source, i: usize) -> bool
-    requires { ⌜ o .sites ≤ sizes.sites ⌝ }
+    requires { ⌜ houseOk o ≡ true ⌝ }
     requires { ⌜ length (now queues) ≡ sizes.queues ⌝ }
     requires { ⌜ i < sizes.sites ⌝ }
     ensures { λ r. ⌜ r ≡ sourceOk o (now (queues .entry)) c i ⌝ }
@@ -66,7 +68,7 @@ fn source_ok(o: House, queues: &[u64], c: Source, i: usize) -> bool
 }
 
 fn sources_ok(g: Merger, queues: &[u64]) -> bool
-    requires { ⌜ g .house .sites ≤ sizes.sites ⌝ }
+    requires { ⌜ houseOk (g .house) ≡ true ⌝ }
     requires { ⌜ length (now queues) ≡ sizes.queues ⌝ }
     ensures { λ r. ⌜ r ≡ allBelow (λ i. sourceOk (g .house) (now (queues .entry)) (sourceAt g i) i) sizes.sites ⌝ }
 {

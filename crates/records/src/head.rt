@@ -22,6 +22,7 @@ fn whole_house() -> House
 {
     House {
         sites: SITES as u64,
+        firsts: [0, 256, 512, 768, 1024, 1280, 1536, 1792],
     }
 }
 

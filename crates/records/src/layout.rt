@@ -10,9 +10,11 @@ use kinds::sizes::RECORD_HEADER;
 use kinds::sizes::WRITE;
 use kinds::word;
 ghost use mathlib.Core.Path.{_≡_};
+ghost use mathlib.Core.Bool.{true};
 ghost use Prim.Native.Nat.{_≤_};
 ghost use lib.ListN.{length};
 ghost use Rattle.kinds.specs.Sizes as sizes;
+ghost use Rattle.rules.specs.House.{houseOk};
 ghost use Rattle.rules.specs.Record.{writeOffset, recordHead, recordShape, partOk, stateOk, mergedOk};
 
 // Where the writes stand: nowhere, if there are none.
@@ -66,7 +68,7 @@ fn shape_ok(m: &[u64]) -> bool
 
 // Whether the words are those of some part record of the house (cause 2).
 pub fn part_ok(o: House, m: &[u64]) -> bool
-    requires { ⌜ o .sites ≤ sizes.sites ⌝ }
+    requires { ⌜ houseOk o ≡ true ⌝ }
     ensures { λ r. ⌜ r ≡ partOk o (now (m .entry)) ⌝ }
 {
     if !shape_ok(m) {

@@ -3,13 +3,18 @@ use kinds::House;
 use kinds::sizes::KEYS;
 use kinds::sizes::WRITE;
 use kinds::word;
-use numbers::home_of;
+use numbers::end_key;
+use numbers::first_key;
 ghost use mathlib.Core.Path.{_≡_};
 ghost use Prim.Native.Nat.{_+_, _*_, _≤_, _<_};
+ghost use mathlib.Core.List.{[], _∷_};
 ghost use lib.ListN.{length};
+ghost use Rattle.laws.specs.Choice.{every};
 ghost use Rattle.laws.specs.Scan.{allBelow};
 ghost use Rattle.kinds.specs.Sizes as sizes;
-ghost use Rattle.rules.specs.Record.{keyAscends, partWriteOk, mergedWriteOk};
+ghost use Rattle.rules.specs.House.{within};
+ghost use Rattle.rules.specs.Record.{writeKey, keyAscends, partWriteOk, mergedWriteOk};
+ghost use Rattle.rules.specs.ValidLaws.{ValidHouse};
 
 // Whether the write's key is above that of the one before.
 fn key_ascends(ws: &[u64], i: usize) -> bool
@@ -22,16 +27,19 @@ fn key_ascends(ws: &[u64], i: usize) -> bool
     ws[WRITE * (i - 1) + word::WRITE_KEY] < ws[WRITE * i + word::WRITE_KEY]
 }
 
-fn part_write_ok(o: House, site: u64, ws: &[u64], i: usize) -> bool
+// Whether it is, and the key is from `first` on and below `end`.
+fn part_write_ok(first: u64, end: u64, ws: &[u64], i: usize) -> bool
     requires { ⌜ (i < sizes.mergedWrites) × (sizes.write * i + 1 < length (now ws)) ⌝ }
-    ensures { λ r. ⌜ r ≡ partWriteOk o site (now (ws .entry)) i ⌝ }
+    ensures { λ r. ⌜ r ≡ every (keyAscends (now (ws .entry)) i ∷ within first end (writeKey (now (ws .entry)) i) ∷ []) ⌝ }
 {
     if !key_ascends(ws, i) {
         return false;
     }
     let key = ws[WRITE * i + word::WRITE_KEY];
-    let home = home_of(o, key);
-    home == site
+    if key < first {
+        return false;
+    }
+    key < end
 }
 
 fn merged_write_ok(ws: &[u64], i: usize) -> bool
@@ -45,13 +53,17 @@ fn merged_write_ok(ws: &[u64], i: usize) -> bool
     key < KEYS as u64
 }
 
+// The keys of a site are those of its range (Q3.1), which is asked for once.
 pub fn part_writes_ok(o: House, site: u64, ws: &[u64], n: usize) -> bool
+    requires { ⌜ ValidHouse o site ⌝ }
     requires { ⌜ (n ≤ sizes.mergedWrites) × (sizes.write * n ≤ length (now ws)) ⌝ }
     ensures { λ r. ⌜ r ≡ allBelow (partWriteOk o site (now (ws .entry))) n ⌝ }
 {
+    let first = first_key(o, site);
+    let end = end_key(o, site);
     let mut i: usize = 0;
     while i < n {
-        if !part_write_ok(o, site, ws, i) {
+        if !part_write_ok(first, end, ws, i) {
             return false;
         }
         i += 1;

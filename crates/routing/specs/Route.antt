@@ -82,7 +82,7 @@ unfoldable pub fromStream : ℕ → Route
 fromStream copy = pick (isCopy copy) (goes (firstCopy + (copy - 1)) (cursor (copy - 1))) (refuse reason.malformed)
 
 unfoldable pub routeOf : House → Command → Route
-routeOf o (command.Sites n) = refuse reason.malformed
+routeOf o (command.Sites n given) = refuse reason.malformed
 routeOf o (command.Begin site d) = toSite o site
 routeOf o (command.Enlist tx site) = toEnlister o tx site
 routeOf o (command.Read site tx key) = toSite o site

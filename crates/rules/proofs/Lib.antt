@@ -12,3 +12,4 @@ pub mod reads
 pub mod desks
 pub mod possible
 pub mod refusals
+pub mod houses

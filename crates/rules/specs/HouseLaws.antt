@@ -1,5 +1,5 @@
 -- Laws of a house: what a good table is, where keys live by it, and the house that a start makes.
-use Prim.Native.Nat.{ℕ, zero, suc, _+_, _-_, _*_, _/_, _≤_, _<_}
+use Prim.Native.Nat.{ℕ, zero, suc, _+_, _-_, _≤_, _<_}
 use mathlib.Core.Path.{_≡_, refl, sym, ap, _∙_}
 use mathlib.Core.Bool.{Bool, true, false}
 use mathlib.Core.List.{List, [], _∷_, _++_}
@@ -8,12 +8,12 @@ use borrow.Author.Tests.{leb-true, le-leb, ltb-true, lt-ltb, ltb-false, le-ltb, 
 use lib.Dec.{ltb, leb, eqb}
 use lib.ListN.{getD, length, replicate, take, drop, length-replicate, getD-replicate, List·getD-append}
 use lib.Seq.{length-take-le, getD-append-add, getD-take, getD-drop}
-use Rattle.laws.specs.Choice.{pick, every, every-at, by-test, set-not, unset}
+use Rattle.laws.specs.Choice.{pick, every-at, by-test, set-not}
 use Rattle.laws.specs.Scan.{firstBelow, allBelow, first-below, first-below-none, first-le, before-first, at-first, all-below, all-below-at}
 use Rattle.laws.specs.Overlay.{overlay, length-overlay}
 use Rattle.kinds.specs.Sizes as sizes
 use Rattle.kinds.specs.declared.House.{House}
-use Rattle.rules.specs.House.{countOk, tableOk, restOk, houseOk, GoodTable, GoodHouse, houseOf, evenTable, isSite, isKey, endsAbove}
+use Rattle.rules.specs.House.{countOk, tableOk, restOk, houseOk, GoodTable, GoodHouse, houseOf, isKey, endsAbove}
 use Rattle.rules.specs.House.{homeOf, firstKey, endKey, inRange}
 
 -- The tests and what they say.
@@ -267,15 +267,3 @@ house-again o g =
     let b : i < sizes.sites = omega arith in
     table-behind t i (omega (arith, g .few)) (omega arith) b ∙ sym (g .rest i l b))) in
     λ i. record { sites = o .sites; firsts = words i }
-
--- The even table: 0, 256 and so on.
-even-at : (i : ℕ) → i < sizes.sites → getD (0 ∷ 256 ∷ 512 ∷ 768 ∷ 1024 ∷ 1280 ∷ 1536 ∷ 1792 ∷ []) i 0 ≡ 256 * i
-even-at zero h = refl
-even-at (suc zero) h = refl
-even-at (suc (suc zero)) h = refl
-even-at (suc (suc (suc zero))) h = refl
-even-at (suc (suc (suc (suc zero)))) h = refl
-even-at (suc (suc (suc (suc (suc zero))))) h = refl
-even-at (suc (suc (suc (suc (suc (suc zero)))))) h = refl
-even-at (suc (suc (suc (suc (suc (suc (suc zero))))))) h = refl
-even-at (suc (suc (suc (suc (suc (suc (suc (suc i)))))))) h = absurd (omega arith)

@@ -65,3 +65,4 @@ pub mod MergerLaws
 pub mod MergerJoin
 pub mod MergerKept
 pub mod CopyLaws
+pub mod Tables

@@ -190,7 +190,8 @@ key-rises o ws (suc k) n high a h =
     let z : suc k - 1 ≡ k = omega arith in
     rw (ne-eqb (suc k) 0 (λ q. omega arith), z, lt-ltb (writeKey ws k) (writeKey ws (suc k)) (a .above k h))
 
-merged-writes : (o : House) (ws : List ℕ) (n high : ℕ) → high ≤ sizes.sites → KeysAscend o ws n 0 high → allBelow (mergedWriteOk ws) n ≡ true
+merged-writes : (o : House) (ws : List ℕ) (n high : ℕ) → high ≤ sizes.sites → KeysAscend o ws n 0 high
+    → allBelow (mergedWriteOk ws) n ≡ true
 unfolding mergedWriteOk
 merged-writes o ws n high b a =
     sym (all-below (mergedWriteOk ws) n (λ k h.

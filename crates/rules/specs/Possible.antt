@@ -42,6 +42,7 @@ pub record StatesPossible (o : House) (w : World) : Type 0 where
   pub house : (s : ℕ) → isSite o s ≡ true → w .site s .house ≡ o
   pub site : (s : ℕ) → isSite o s ≡ true → handedOk (w .site s) (w .lists s) ≡ true
   pub base : (s : ℕ) → isSite o s ≡ true → length (w .base s) ≡ sizes.keys
+  pub merger-house : w .merger .house ≡ o
   pub merger : mergerOk (w .merger) (w .queues) ≡ true
   pub copy : (c : ℕ) → length (w .copy c) ≡ sizes.copy
   pub calls : (c : Call) → step w c .answer ≡ Refused reason.malformed → Impossible o c

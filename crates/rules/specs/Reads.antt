@@ -1,8 +1,7 @@
 -- Beyond demand 3: what an accepted read answers, in the words of the book.
-use Prim.Native.Nat.{ℕ, _≤_}
+use Prim.Native.Nat.{ℕ}
 use mathlib.Core.Path.{_≡_}
 use mathlib.Core.List.{List}
-use Rattle.kinds.specs.Sizes as sizes
 use Rattle.kinds.specs.declared.House.{House}
 use Rattle.kinds.specs.State.{Value}
 use Rattle.kinds.specs.declared.Answer.the-variants.{Found}

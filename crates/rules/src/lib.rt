@@ -6,6 +6,7 @@ ghost use Rattle.rules.specs.Reads.{ReadsRight};
 ghost use Rattle.rules.specs.Searches.{SearchesRight};
 ghost use Rattle.rules.specs.Snapshots.{SnapshotsStay};
 ghost use Rattle.rules.specs.Desks.{WritesLimited, DesksKept};
+ghost use Rattle.rules.specs.Tables.{KeysPlaced, TablesRefused, HousesStay};
 ghost use Rattle.rules.specs.Refusals.{RefusedLeaves, FirstCause, OwnNumbers};
 ghost use Rattle.rules.specs.Moments.{WrongMoments};
 
@@ -73,4 +74,19 @@ pub fn own_numbers()
 // In any state a coordinator's call is refused 26 at another site; 27 says that stage, mask or turn forbids a call. None is refused 6.
 pub fn wrong_moments()
     ensures { λ _. ⌜ WrongMoments ⌝ }
+{}
+
+// Each key lives at exactly one site of a good house, the one whose range holds it; by 0, 256 and so on where division puts it.
+pub fn keys_placed()
+    ensures { λ _. ⌜ KeysPlaced ⌝ }
+{}
+
+// A start of a site or of the merger is refused 22 exactly where nothing gives 2 and its table is bad.
+pub fn tables_refused()
+    ensures { λ _. ⌜ TablesRefused ⌝ }
+{}
+
+// In any state no call changes a house.
+pub fn houses_stay()
+    ensures { λ _. ⌜ HousesStay ⌝ }
 {}

@@ -29,7 +29,7 @@ freshCopy = replicate sizes.copy 0
 -- a call of the merger, with an outgoing buffer of n words; m is the record to queue
 unfoldable pub mergingOf : Command → Merger → ℕ → (queues m : List ℕ) → Merging
 mergingOf command.Emit g n queues m = emitOf g n queues
-mergingOf (command.Sites sites) g n queues m = mergeOf g queues m
+mergingOf (command.Sites sites given) g n queues m = mergeOf g queues m
 mergingOf (command.Begin site d) g n queues m = mergeOf g queues m
 mergingOf (command.Enlist tx site) g n queues m = mergeOf g queues m
 mergingOf (command.Read site tx key) g n queues m = mergeOf g queues m
@@ -66,7 +66,7 @@ refused copy = record { answer = Refused reason.malformed; copy = copy }
 unfoldable pub copyingOf : Command → (copy m : List ℕ) → Copying
 copyingOf (command.Replay number) copy m = replayOf copy m
 copyingOf (command.Value number key) copy m = record { answer = valueOf copy key; copy = copy }
-copyingOf (command.Sites sites) copy m = refused copy
+copyingOf (command.Sites sites given) copy m = refused copy
 copyingOf (command.Begin site d) copy m = refused copy
 copyingOf (command.Enlist tx site) copy m = refused copy
 copyingOf (command.Read site tx key) copy m = refused copy

@@ -42,10 +42,7 @@ fn behind_verb() -> Scan {
         ended: 1,
         begun: 0,
         word: 0,
-        back1: 0,
-        back2: 0,
-        back3: 0,
-        back4: 0,
+        words: [0; 9],
     }
 }
 

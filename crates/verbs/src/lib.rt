@@ -118,6 +118,7 @@ fn four(v: u64) -> u64 {
 // The line that a scan has read.
 pub fn told(s: Scan) -> Line {
     let n = s.ended;
+    let words = s.words;
     if s.begun == 0 {
         return remark();
     }
@@ -125,16 +126,23 @@ pub fn told(s: Scan) -> Line {
         return made(none(s.word), s.word, 0, 0, 0, 0);
     }
     if n == 1 {
-        return made(one(s.back1), s.back1, s.word, 0, 0, 0);
+        return made(one(words[0]), words[0], s.word, 0, 0, 0);
     }
     if n == 2 {
-        return made(two(s.back2), s.back2, s.back1, s.word, 0, 0);
+        return made(two(words[0]), words[0], words[1], s.word, 0, 0);
     }
     if n == 3 {
-        return made(three(s.back3), s.back3, s.back2, s.back1, s.word, 0);
+        return made(three(words[0]), words[0], words[1], words[2], s.word, 0);
     }
     if n == 4 {
-        return made(four(s.back4), s.back4, s.back3, s.back2, s.back1, s.word);
+        return made(
+            four(words[0]),
+            words[0],
+            words[1],
+            words[2],
+            words[3],
+            s.word,
+        );
     }
     remark()
 }

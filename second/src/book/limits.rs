@@ -1,19 +1,19 @@
 //! What the book says of desks and of keys, beyond demand 3 (Q10.1 to Q10.5): from
 //! the desk that a begin names, the argument of each JOIN, and the keys of each part.
 
-use super::{claim, Book, Chapter, Checked, ARGUMENT};
+use super::{claim, Book, Chapter, Checked, Homes, ARGUMENT};
 use crate::desk::Desk;
 use crate::house::messages;
 use crate::sizes::*;
 use crate::world::Call;
 
 impl Chapter {
-    fn written_at(&self, site: u64) -> usize {
-        self.writes.keys().filter(|&&key| key_site(key) == site).count()
+    fn written_at(&self, site: u64, homes: &Homes) -> usize {
+        self.writes.keys().filter(|&&key| homes.at(key) == site).count()
     }
 
-    fn read_at(&self, site: u64) -> usize {
-        self.reads.iter().filter(|&&key| key_site(key) == site).count()
+    fn read_at(&self, site: u64, homes: &Homes) -> usize {
+        self.reads.iter().filter(|&&key| homes.at(key) == site).count()
     }
 
     /// Distinct keys that it may write at each site; none before it began.
@@ -46,8 +46,9 @@ impl Book {
     /// No part has more keys than it may have.
     pub(super) fn check_limits(&self, site: u64, transaction: u64) -> Checked {
         let chapter = &self.chapters[&transaction];
-        let (read, wrote, limit) =
-            (chapter.read_at(site), chapter.written_at(site), chapter.limit());
+        let (read, wrote) =
+            (chapter.read_at(site, &self.homes), chapter.written_at(site, &self.homes));
+        let limit = chapter.limit();
         claim(read <= SET_KEYS && wrote <= limit, || {
             format!("{transaction} read {read} and wrote {wrote} keys at {site}, of {limit}")
         })
@@ -60,13 +61,13 @@ impl Book {
             Call::Write { site, transaction, key, .. } => {
                 self.chapters.get(&transaction).is_some_and(|chapter| {
                     let known = chapter.writes.contains_key(&key);
-                    !known && chapter.written_at(site) == chapter.limit()
+                    !known && chapter.written_at(site, &self.homes) == chapter.limit()
                 })
             }
             Call::Read { site, transaction, key } => {
                 self.chapters.get(&transaction).is_some_and(|chapter| {
                     let known = chapter.writes.contains_key(&key) || chapter.reads.contains(&key);
-                    !known && chapter.read_at(site) == SET_KEYS
+                    !known && chapter.read_at(site, &self.homes) == SET_KEYS
                 })
             }
             _ => false,

@@ -43,10 +43,10 @@ impl Fuzz {
         match self.random.weighted(if self.lone { &LONE } else { &SPANNING }) {
             0 => plain(Call::Begin { site, desk: self.any_desk() }),
             1 => plain(Call::Enlist { site: at, transaction, target: site }),
-            2 => plain(Call::Read { site: at, transaction, key: self.random.key(at, self.keys) }),
+            2 => plain(Call::Read { site: at, transaction, key: self.key(at) }),
             3 => {
                 let value = self.random.word();
-                let key = self.random.key(at, self.keys);
+                let key = self.key(at);
                 plain(Call::Write { site: at, transaction, key, value })
             }
             4 => plain(Call::Commit { site: at, transaction }),
@@ -87,11 +87,15 @@ impl Fuzz {
             self.filled = self.random.pick(&active)?;
         }
         let (site, transaction) = self.filled;
-        let key = self.random.key(site, SITE_KEYS);
+        let key = self.random.key(&self.table, site, KEYS);
         Some(match self.random.below(2) {
             0 => Call::Read { site, transaction, key },
             _ => Call::Write { site, transaction, key, value: self.random.word() },
         })
+    }
+
+    fn key(&mut self, site: u64) -> u64 {
+        self.random.key(&self.table, site, self.keys)
     }
 
     fn any_site(&mut self) -> u64 {
@@ -107,7 +111,7 @@ impl Fuzz {
             1 => installs.saturating_add(self.random.below(3)),
             _ => installs.saturating_sub(self.random.below(HISTORY as u64 + 2)),
         };
-        let key = self.random.key(site, self.keys);
+        let key = self.key(site);
         Call::Search { site, snapshot, key }
     }
 

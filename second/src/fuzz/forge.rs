@@ -101,11 +101,12 @@ fn check_join(site: &Site, join: &[u64; MESSAGE_HEADER]) -> Result<(), String> {
     if joined.live.len() == site.live.len() {
         return Ok(());
     }
-    let first = (site.own - 1) * SITE_KEYS;
     let is_held = |key: u64| site.live.iter().any(|part| part.footprint.writes.contains(key));
-    let free = (first..first + SITE_KEYS).filter(|&key| !is_held(key));
-    let written = free.take_while(|&key| joined.write(transaction, key, key).is_ok()).count();
-    match Desk::of(desk).map(Desk::written_keys) == Some(written) {
+    let free: Vec<u64> = site.table.keys(site.own).filter(|&key| !is_held(key)).collect();
+    let written = free.iter().take_while(|&&key| joined.write(transaction, key, key).is_ok());
+    let written = written.count();
+    // A short range may have fewer keys than the desk allows.
+    match Desk::of(desk).map(|desk| desk.written_keys().min(free.len())) == Some(written) {
         true => Ok(()),
         false => Err(format!("began a part that wrote {written} keys")),
     }

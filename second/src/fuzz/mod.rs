@@ -5,6 +5,7 @@
 
 mod choose;
 mod forge;
+mod starts;
 
 use crate::answer::Refusal;
 use crate::book::Book;
@@ -15,6 +16,7 @@ use crate::merger::Merger;
 use crate::random::Random;
 use crate::site::Site;
 use crate::sizes::*;
+use crate::table::{even, Table};
 use crate::tally::Tally;
 use crate::world::{Answer, Call, World};
 
@@ -39,6 +41,7 @@ enum Before {
 pub struct Fuzz {
     random: Random,
     world: World,
+    table: Table,
     book: Book,
     tally: Tally,
     /// Every message ever written; a log for each site; the stream for each copy.
@@ -78,20 +81,24 @@ impl Fuzz {
     fn new(seed: u64, trace: bool) -> Self {
         let mut random = Random::new(seed);
         let sites = random.between(1, SITES as u64);
-        let mut world = World::start(sites).expect("1 to 8 sites");
+        let firsts = if random.chance(40) { even(sites) } else { random.firsts(sites) };
+        let mut world = World::start(sites, &firsts).expect("a good table");
         if random.chance(20) {
             near_the_ends(&mut world, &mut random);
         }
+        let mut tally = Tally::default();
+        tally.table(&world.merger.table);
         let mute = (random.between(1, 24), random.between(1, 8));
         Fuzz {
             book: Book::of(&world),
+            table: world.merger.table,
             world,
-            tally: Tally::default(),
+            tally,
             posted: Vec::new(),
             logs: vec![Spool::default(); sites as usize],
             stream: Vec::new(),
             replayed: vec![0; COPIES],
-            keys: [2, 5, 40, SITE_KEYS][random.below(4) as usize],
+            keys: [2, 5, 40, KEYS][random.below(4) as usize],
             lone: random.chance(25),
             proofing: [10, 50, 90][random.below(3) as usize],
             filling: [0, 6, 30][random.below(3) as usize],
@@ -109,6 +116,9 @@ impl Fuzz {
         }
         if self.random.chance(1) {
             return self.forged_join();
+        }
+        if self.random.chance(1) {
+            return self.forged_start();
         }
         let (handed, source) = self.choose();
         let call = source.call(&handed);
@@ -142,9 +152,10 @@ impl Fuzz {
     /// record ascends, a due record is whole. Of the coordinator's calls, 26 falls
     /// only at another site and 27 only at the coordinator; 26 falls in no other call.
     /// A search is refused 2 or 3. A begin is refused 2 for a site or a desk that is
-    /// none, whatever else applies, and for nothing else.
+    /// none, whatever else applies, and for nothing else. None of these calls gives 22.
     fn is_out_of_reach(&self, call: &Call, refusal: Refusal) -> bool {
         match *call {
+            _ if refusal == Refusal::BadTable => true,
             Call::Begin { site, desk } => {
                 let possible = is_site(site, self.world.sites.len() as u64);
                 let possible = possible && Desk::of(desk).is_some();

@@ -49,6 +49,8 @@ pub struct Untaken {
 #[derive(Clone, Debug, Default)]
 pub struct Course {
     pub sites: u64,
+    /// By site, its first and its last key.
+    pub keys: Vec<(u64, u64)>,
     pub steps: Vec<Step>,
     pub arrows: Vec<Arrow>,
     pub untaken: Vec<Untaken>,
@@ -79,8 +81,10 @@ pub fn follow(script: &[u8], without_copies: bool) -> Course {
         let told = std::mem::take(&mut house.observer);
         let command = Command::parse(line);
         if let (Some(command), Ok(_)) = (command, &answer) {
-            if let Command::Sites(sites) = command {
-                course.sites = sites;
+            if let (Command::Sites { sites, .. }, Some(running)) = (command, &house.running) {
+                let table = running.world.merger.table;
+                let ends = |site| (table.keys(site).start, table.keys(site).end - 1);
+                (course.sites, course.keys) = (sites, (1..=sites).map(ends).collect());
             }
             let step = course.steps.len();
             course.arrows.extend(under_way.take(command, step, &told));
@@ -114,7 +118,7 @@ fn plain(line: &[u8]) -> String {
 fn place(command: Command, answer: &Result<Answer, Refusal>, sites: u64) -> Option<Place> {
     let site = |site: u64| is_site(site, sites).then_some(Place::Site(site));
     match command {
-        Command::Sites(_) => None,
+        Command::Sites { .. } => None,
         Command::Begin { site: own, .. }
         | Command::Read { site: own, .. }
         | Command::Write { site: own, .. }

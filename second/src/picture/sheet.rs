@@ -5,7 +5,6 @@ use super::legend;
 use super::plan::{plan, row_height, Lane, Plan, LINE_LETTERS};
 use super::svg::*;
 use super::wording::{name, Look};
-use crate::sizes::*;
 
 /// Half the height of a step.
 const HALF: i64 = 10;
@@ -118,7 +117,7 @@ impl Sheet<'_> {
     fn lanes(&mut self, heads: i64) {
         let between = self.plan.heads.clone();
         for lane in self.plan.lanes.clone() {
-            let (name, role) = titles(lane.place);
+            let (name, role) = titles(lane.place, self.course);
             self.svg.open("lane", &name);
             let line = format!("M{} {} V{}", lane.x, heads, self.plan.bottom);
             self.svg.path(&line, PALE, false);
@@ -234,11 +233,11 @@ fn bent(start: (i64, i64), track: i64, tip: (i64, i64)) -> String {
 }
 
 /// What stands at the head of a lane.
-fn titles(place: Place) -> (String, String) {
+fn titles(place: Place, course: &Course) -> (String, String) {
     match place {
         Place::Site(site) => {
-            let first = (site - 1) * SITE_KEYS;
-            (format!("site {site}"), format!("keys {first} to {}", first + SITE_KEYS - 1))
+            let (first, last) = course.keys[site as usize - 1];
+            (format!("site {site}"), format!("keys {first} to {last}"))
         }
         Place::Merger => ("merger".to_string(), "joins the logs".to_string()),
         Place::Copy(copy) => (format!("copy {copy}"), "replays saves".to_string()),

@@ -7,7 +7,7 @@ use crate::message::{Kind, Message};
 use crate::record::LogRecord;
 use crate::script::Command;
 use crate::sizes::*;
-use crate::trace::{read_log, read_message, Told};
+use crate::trace::{read_message, Told};
 use crate::world::Answer;
 
 #[derive(Clone, Copy, PartialEq, Eq, PartialOrd, Ord, Debug)]
@@ -73,7 +73,7 @@ fn accepted(command: Command, answer: &Answer, told: &Told) -> Option<Did> {
         }
         (Command::Commit(transaction), _) => Did::plain(transaction, "asks to commit".to_string()),
         (Command::Take { .. }, _) => took(&read_message(&told.taken)?, told),
-        (Command::Merge(_), _) => merged(&read_log(&told.taken)?),
+        (Command::Merge(_), _) => merged(&told.read_log(&told.taken)?),
         _ => return recorded(command, answer, told),
     })
 }
@@ -81,7 +81,7 @@ fn accepted(command: Command, answer: &Answer, told: &Told) -> Option<Did> {
 /// The steps that write or take a record, and reads at a copy.
 fn recorded(command: Command, answer: &Answer, told: &Told) -> Option<Did> {
     Some(match (command, *answer) {
-        (_, Answer::Installed(done)) => match read_log(&told.written)? {
+        (_, Answer::Installed(done)) => match told.read_log(&told.written)? {
             LogRecord::Part { save, .. } => {
                 Did::new(Look::Kept, save.transaction, format!("installs {}", shown(done.pair)))
             }
@@ -176,6 +176,7 @@ pub fn name(transaction: u64) -> String {
 pub fn cause(number: u64) -> &'static str {
     match number {
         2 => "impossible line, site, desk, key or count",
+        22 => "a bad table of first keys",
         3 => "a key of another site",
         5 => "the transaction is not held here",
         26 => "the call belongs to the coordinator, which this site is not",

@@ -40,8 +40,6 @@ enum Place {
 #[derive(Clone, PartialEq, Eq, Debug)]
 pub struct Handed {
     pub site: Site,
-    /// The site whose keys the parts hold.
-    keys_of: u64,
     past_sizes: BTreeSet<Place>,
     /// Desks and counts that were poked, by transaction.
     claims: BTreeMap<u64, Claimed>,
@@ -61,7 +59,6 @@ impl Handed {
             footprint: Footprint::default(),
         };
         Handed {
-            keys_of: site.own,
             site,
             past_sizes: BTreeSet::new(),
             claims: BTreeMap::new(),
@@ -70,7 +67,7 @@ impl Handed {
         }
     }
 
-    /// S19, Q10.6: counts, keys, masks and desks. What goes out in a CONC is
+    /// S19, Q3.5, Q10.6: table, counts, keys, masks and desks. What goes out in a CONC is
     /// a transaction of the house: the numbers of parts and of remembered ones.
     pub fn is_within_sizes(&self) -> bool {
         let site = &self.site;
@@ -79,25 +76,26 @@ impl Handed {
         }
         let footprints = (site.live.iter().map(|part| &part.footprint))
             .chain(self.slots.iter().map(|past| &past.footprint));
+        let mut keys = footprints.flat_map(|one| one.reads.keys().chain(one.writes.keys()));
         let numbers = (site.live.iter().map(|part| part.transaction))
             .chain(site.history.iter().map(|past| past.transaction));
         site.serial <= LAST_SERIAL
             && self.past_sizes.is_empty()
             && site.live.iter().all(|part| self.has_possible_masks(part))
             && site.live.iter().all(|part| self.claimed(part.transaction).is_possible(part))
-            && self.slots.iter().all(|past| is_mask(past.participants, site.sites))
-            && numbers.into_iter().all(|number| is_transaction(number, site.sites))
-            && (site.own == self.keys_of || footprints.into_iter().all(is_empty))
+            && self.slots.iter().all(|past| is_mask(past.participants, site.table.sites))
+            && numbers.into_iter().all(|number| is_transaction(number, site.table.sites))
+            && keys.all(|key| site.table.site_of(key) == Some(site.own))
     }
 
     fn has_house(&self) -> bool {
-        is_site(self.site.sites, SITES as u64) && is_site(self.site.own, self.site.sites)
+        self.site.table.is_possible() && is_site(self.site.own, self.site.table.sites)
     }
 
     /// Replies come from other sites, and each list has at most 47 entries, the
     /// own one too.
     fn has_possible_masks(&self, part: &Part) -> bool {
-        let (sites, own) = (self.site.sites, self.site.own);
+        let (sites, own) = (self.site.table.sites, self.site.own);
         let lists = u64::from(part.heard.count_ones()) + 1;
         is_mask(part.participants, sites)
             && is_mask(part.heard, sites)
@@ -112,7 +110,7 @@ impl Handed {
     /// Whether every entry that a gathered list counts is possible.
     pub fn has_possible_lists(&self) -> bool {
         let mut parts = self.site.live.iter();
-        parts.all(|part| self.list_of(part).is_possible(self.site.sites))
+        parts.all(|part| self.list_of(part).is_possible(self.site.table.sites))
     }
 
     fn list_of(&self, part: &Part) -> Listed {
@@ -139,7 +137,7 @@ impl Handed {
     pub fn poke(&mut self, field: u64, value: u64) {
         let site = &mut self.site;
         match field {
-            0 => site.sites = value,
+            0 => site.table.sites = value,
             1 => site.own = value,
             2 => site.clock = value,
             3 => site.serial = value,
@@ -149,6 +147,7 @@ impl Handed {
             }
             11..=18 => site.sent[field as usize - 11] = value,
             21..=28 => site.taken[field as usize - 21] = value,
+            31..=38 => site.table.firsts[field as usize - 31] = value,
             _ => {}
         }
     }
@@ -180,7 +179,7 @@ impl Handed {
         }
         let past = match what {
             field::STAGE => value > LAST_STAGE,
-            _ => is_past(&self.site.live[place].footprint, own, what, value),
+            _ => self.is_past(&self.site.live[place].footprint, what, value)?,
         };
         self.note(Place::Live(transaction, what), past);
         if past {
@@ -288,12 +287,17 @@ impl Handed {
     }
 
     /// The slot of install `count`.
-    pub fn poke_past(&mut self, count: u64, what: u64, value: u64) -> Result<(), Refusal> {
+    pub fn poke_past(
+        &mut self,
+        count: u64,
+        what: u64,
+        value: u64,
+    ) -> Result<Result<(), Refusal>, String> {
         if count == 0 {
-            return Err(Refusal::Impossible);
+            return Ok(Err(Refusal::Impossible));
         }
         let slot = slot_of(count);
-        let past = is_past(&self.slots[slot].footprint, self.site.own, what, value);
+        let past = self.is_past(&self.slots[slot].footprint, what, value)?;
         self.note(Place::Past(slot as u64, what), past);
         match what {
             field::TRANSACTION => self.slots[slot].transaction = value,
@@ -301,7 +305,26 @@ impl Handed {
             _ => {}
         }
         self.remember();
-        Ok(())
+        Ok(Ok(()))
+    }
+
+    /// A count above 16, or below a count a key of another site. A key of this site is
+    /// one that was there: which key another one would replace is left free.
+    fn is_past(&self, footprint: &Footprint, what: u64, value: u64) -> Result<bool, String> {
+        let (keys, place) = match what {
+            field::READ | field::WROTE => return Ok(value > SET_KEYS as u64),
+            100..=115 => (&footprint.reads, what - 100),
+            200..=215 => (&footprint.writes, what - 200),
+            _ => return Ok(false),
+        };
+        if place >= keys.len() as u64 {
+            return Ok(false);
+        }
+        let own = self.has_house() && self.site.table.site_of(value) == Some(self.site.own);
+        if own && !keys.contains(value) {
+            return Err("another key of the site".to_string());
+        }
+        Ok(!own)
     }
 
     fn note(&mut self, place: Place, past: bool) {
@@ -315,21 +338,6 @@ impl Handed {
 
 fn slot_of(install: u64) -> usize {
     ((install - 1) % HISTORY as u64) as usize
-}
-
-fn is_empty(footprint: &Footprint) -> bool {
-    footprint.reads.is_empty() && footprint.writes.is_empty()
-}
-
-/// A count above 16, or below a count a key of another site.
-fn is_past(footprint: &Footprint, own: u64, what: u64, value: u64) -> bool {
-    let foreign = key_site(value) != own;
-    match what {
-        field::READ | field::WROTE => value > SET_KEYS as u64,
-        100..=115 => foreign && what - 100 < footprint.reads.len() as u64,
-        200..=215 => foreign && what - 200 < footprint.writes.len() as u64,
-        _ => false,
-    }
 }
 
 /// A stage by its number, with what the part kept beside it.

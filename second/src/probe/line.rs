@@ -7,7 +7,7 @@ pub struct Line {
 }
 
 /// Verbs, each with how many numbers follow it; begin with a desk or without.
-const VERBS: [(&str, usize); 42] = [
+const VERBS: [(&str, usize); 44] = [
     ("house", 1),
     ("room", 1),
     ("places", 1),
@@ -16,6 +16,8 @@ const VERBS: [(&str, usize); 42] = [
     ("lists", 1),
     ("queues", 1),
     ("copies", 1),
+    ("table", 2),
+    ("tables", 1),
     ("begin", 1),
     ("begin", 2),
     ("enlist", 3),
@@ -35,7 +37,7 @@ const VERBS: [(&str, usize); 42] = [
     ("merge", 0),
     ("emit", 0),
     ("open", 1),
-    ("merger", 1),
+    ("merger", 2),
     ("source", 3),
     ("queued", 3),
     ("replay", 1),
@@ -60,6 +62,10 @@ pub fn parse(line: &str) -> Result<Option<Line>, String> {
     let mut words = line.split(' ');
     let verb = words.next().unwrap_or_default().to_string();
     let numbers = words.map(number).collect::<Option<Vec<u64>>>().ok_or("not a number")?;
+    // `merger` wants a field and a value; with one number it is a remark.
+    if verb == "merger" && numbers.len() == 1 {
+        return Ok(None);
+    }
     let known = VERBS.iter().any(|&(name, count)| name == verb && count == numbers.len());
     if known {
         Ok(Some(Line { verb, numbers }))

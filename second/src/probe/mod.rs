@@ -10,6 +10,7 @@ mod listed;
 mod queued;
 pub mod random;
 pub mod sums;
+mod tabled;
 
 use std::fmt::Write;
 
@@ -24,6 +25,7 @@ use hand::Hand;
 use handed::Handed;
 use line::Line;
 use queued::Queued;
+use tabled::Lending;
 
 /// Words for the outgoing buffer, more than any call wants.
 const ROOM: u64 = 8_192;
@@ -48,12 +50,23 @@ struct Lent {
     copy: u64,
 }
 
+const WHOLE: Lent = Lent {
+    room: SEND_BUFFER as u64,
+    places: PLACES,
+    slots: SLOTS,
+    base: KEYS,
+    lists: LISTS,
+    queues: QUEUES,
+    copy: COPY_WORDS,
+};
+
 pub struct Probe {
     sites: Vec<Handed>,
     merger: Queued,
     copies: Vec<Copy>,
     hand: Hand,
     lent: Lent,
+    table: Lending,
 }
 
 /// What a call left: whether its state is the same, and the state's checksum.
@@ -66,32 +79,36 @@ struct Done {
 }
 
 impl Probe {
+    /// A house of 1 to 8 sites, with the table 0, 256 and so on.
     pub fn new(sites: u64) -> Self {
-        let site = |own| Handed::new(Site::start(sites, own).expect("1 to 8 sites"));
-        Probe {
-            sites: (1..=sites).map(site).collect(),
-            merger: Queued::new(Merger::start(sites).expect("1 to 8 sites")),
+        Self::house(sites, Lending::default()).expect("1 to 8 sites")
+    }
+
+    fn house(sites: u64, mut table: Lending) -> Result<Self, Refusal> {
+        table.length = None;
+        let firsts = table.firsts(sites);
+        let site = |own| Site::start(sites, firsts, own).map(Handed::new);
+        Ok(Probe {
+            merger: Queued::new(Merger::start(sites, firsts)?),
+            sites: (1..=sites).map(site).collect::<Result<_, _>>()?,
             copies: vec![Copy::start(); COPIES],
             hand: Hand::new(),
-            lent: Lent {
-                room: SEND_BUFFER as u64,
-                places: PLACES,
-                slots: SLOTS,
-                base: KEYS,
-                lists: LISTS,
-                queues: QUEUES,
-                copy: COPY_WORDS,
-            },
-        }
+            lent: WHOLE,
+            table,
+        })
     }
 
     /// Obeys a line and appends its output; an error where no probe is meant so.
     pub fn obey(&mut self, event: u64, line: &Line, output: &mut String) -> Result<(), String> {
         match line.verb.as_str() {
-            "house" if !is_site(line.numbers[0], SITES as u64) => {
-                return Err("a house has 1 to 8 sites".to_string());
+            "house" => {
+                // A house that cannot start is a remark.
+                if let Ok(probe) = Self::house(line.numbers[0], self.table.clone()) {
+                    *self = probe;
+                }
             }
-            "house" => *self = Probe::new(line.numbers[0]),
+            "table" => self.table.set(line.numbers[0], line.numbers[1]),
+            "tables" => self.table.length = Some(line.numbers[0]),
             "room" | "places" | "slots" | "base" | "lists" | "queues" | "copies" => self.lend(line),
             "site" | "live" | "past" | "list" | "merger" | "source" | "queued" | "copied" => {
                 let answer = self.poke(line)?;
@@ -135,7 +152,7 @@ impl Probe {
 
     fn poke(&mut self, line: &Line) -> Result<Result<(), Refusal>, String> {
         match (line.verb.as_str(), line.numbers.as_slice()) {
-            ("merger", &[sites]) => self.merger.poke_sites(sites)?,
+            ("merger", &[field, value]) => self.merger.poke(field, value)?,
             ("source", &[site, field, value]) => self.merger.poke_source(site, field, value)?,
             ("queued", &[site, place, value]) => self.merger.poke_queue(site, place, value)?,
             ("copied", &[copy, place, value]) => {
@@ -161,7 +178,7 @@ impl Probe {
                         return Ok(site.plant(transaction, word, value));
                     }
                     ("past", &[count, field, value]) => {
-                        return Ok(site.poke_past(count, field, value));
+                        return site.poke_past(count, field, value);
                     }
                     _ => return Err("not a poke".to_string()),
                 }
@@ -195,7 +212,8 @@ impl Probe {
     fn at_site(&mut self, line: &Line, out: &mut [u64]) -> Done {
         let Some(handed) = at(&mut self.sites, line.numbers[0]) else { return missing() };
         let before = handed.clone();
-        let answer = site_call(handed, line, self.hand.words(), &self.lent, out);
+        let words = Words { hand: self.hand.words(), table: &self.table };
+        let answer = site_call(handed, line, words, &self.lent, out);
         if answer.is_ok() {
             handed.follow(&before.site);
         }
@@ -207,7 +225,8 @@ impl Probe {
     fn at_merger(&mut self, line: &Line, out: &mut [u64]) -> Done {
         let before = self.merger.clone();
         let lent = self.lent.queues == QUEUES;
-        let answer = merger_call(&mut self.merger, line, self.hand.words(), lent, out);
+        let words = Words { hand: self.hand.words(), table: &self.table };
+        let answer = merger_call(&mut self.merger, line, words, lent, out);
         let same = before == self.merger;
         let state = answer.map_or(0, |_| self.merger.sum());
         Done { answer, found: true, same, state }
@@ -233,6 +252,13 @@ impl Probe {
     }
 }
 
+/// Words lent beside a state: those in hand, or the first keys at a start.
+#[derive(Clone, Copy)]
+struct Words<'a> {
+    hand: &'a [u64],
+    table: &'a Lending,
+}
+
 fn missing() -> Done {
     Done { answer: Err(Refusal::Impossible), found: false, same: true, state: 0 }
 }
@@ -243,17 +269,12 @@ fn at<T>(list: &mut [T], number: u64) -> Option<&mut T> {
     list.get_mut(place)
 }
 
-/// A short buffer goes before a state or a lent table past its size.
-fn site_call(
-    handed: &mut Handed,
-    line: &Line,
-    words: &[u64],
-    lent: &Lent,
-    out: &mut [u64],
-) -> Result<Answer, Refusal> {
+/// The outgoing words that a call of a site wants, and whether what else it is lent has
+/// its length.
+fn lengths(verb: &str, lent: &Lent) -> (usize, bool) {
     let tables = lent.places == PLACES && lent.slots == SLOTS;
     let (base, lists) = (lent.base == KEYS, lent.lists == LISTS);
-    let (wanted, whole) = match line.verb.as_str() {
+    let (wanted, whole) = match verb {
         "enlist" | "abandon" => (SEND_BUFFER, true),
         "commit" | "message" => (SEND_BUFFER, lists),
         "install" => (PART_BUFFER, base),
@@ -262,10 +283,22 @@ fn site_call(
         "start" => (0, base && lists),
         _ => (0, true),
     };
+    (wanted, tables && whole)
+}
+
+/// A short buffer goes before a state or a lent table past its size.
+fn site_call(
+    handed: &mut Handed,
+    line: &Line,
+    words: Words,
+    lent: &Lent,
+    out: &mut [u64],
+) -> Result<Answer, Refusal> {
+    let (wanted, whole) = lengths(&line.verb, lent);
     require(out.len() >= wanted, Refusal::BufferTooShort)?;
-    require(tables && whole, Refusal::Impossible)?;
+    require(whole, Refusal::Impossible)?;
     if let ("start", &[_, sites, own]) = (line.verb.as_str(), line.numbers.as_slice()) {
-        *handed = Handed::new(Site::start(sites, own)?);
+        *handed = Handed::new(Site::start(sites, words.table.firsts(sites), own)?);
         return Ok(Answer::Done);
     }
     require(handed.is_within_sizes(), Refusal::Impossible)?;
@@ -286,7 +319,7 @@ fn site_call(
         }
         ("commit", &[transaction]) => site.commit(transaction, out).map(Answer::Sent),
         ("abandon", &[transaction]) => site.abandon(transaction, out).map(Answer::Sent),
-        ("message", _) => site.message(words, out).map(Answer::Sent),
+        ("message", _) => site.message(words.hand, out).map(Answer::Sent),
         ("install", _) => site.install(out).map(Answer::Installed),
         _ => site.report(out).map(Answer::Reported),
     }
@@ -295,7 +328,7 @@ fn site_call(
 fn merger_call(
     queued: &mut Queued,
     line: &Line,
-    words: &[u64],
+    words: Words,
     lent: bool,
     out: &mut [u64],
 ) -> Result<Answer, Refusal> {
@@ -304,12 +337,13 @@ fn merger_call(
     }
     require(lent, Refusal::Impossible)?;
     if line.verb == "open" {
-        *queued = Queued::new(Merger::start(line.numbers[0])?);
+        let sites = line.numbers[0];
+        *queued = Queued::new(Merger::start(sites, words.table.firsts(sites))?);
         return Ok(Answer::Done);
     }
     require(queued.is_within_sizes(), Refusal::Impossible)?;
     match line.verb.as_str() {
-        "merge" => queued.merger.merge(words).map(|()| Answer::Done),
+        "merge" => queued.merger.merge(words.hand).map(|()| Answer::Done),
         _ => queued.merger.emit(out).map(Answer::Emitted),
     }
 }

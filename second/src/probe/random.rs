@@ -1,11 +1,12 @@
 //! Random probes: calls in turn and out of turn, words forged, buffers shortened,
 //! tables lent at other lengths, counters near their ends, states past the sizes,
-//! fields poked, histories searched, both desks. The house is run beside, so that the
-//! lines lead into deep states.
+//! fields poked, histories searched, both desks, tables of all kinds. The house is run
+//! beside, so that the lines lead into deep states.
 
 mod desks;
 mod pokes;
 mod searches;
+mod tables;
 
 use std::fmt::Write;
 
@@ -13,17 +14,20 @@ use super::line::parse;
 use super::{sums, Probe, LISTS, PLACES, SLOTS};
 use crate::random::Random;
 use crate::sizes::*;
+use crate::table::{even, Table};
 
-//                    begin enl read wri com ab take inst rep merge emit repl val room ends past lent search fill
-const SPANNING: [u64; 19] = [8, 10, 8, 14, 12, 1, 70, 18, 4, 14, 8, 8, 2, 2, 1, 2, 1, 8, 2];
+//                    begin enl read wri com ab take inst rep merge emit repl val room ends past lent search fill table
+const SPANNING: [u64; 20] = [8, 10, 8, 14, 12, 1, 70, 18, 4, 14, 8, 8, 2, 2, 1, 2, 1, 8, 2, 2];
 /// Few messages, many installs: history is forgotten.
-const LONE: [u64; 19] = [30, 3, 8, 14, 40, 0, 30, 40, 2, 16, 12, 6, 1, 1, 1, 2, 1, 12, 2];
+const LONE: [u64; 20] = [30, 3, 8, 14, 40, 0, 30, 40, 2, 16, 12, 6, 1, 1, 1, 2, 1, 12, 2, 2];
 
 struct Maker {
     random: Random,
     probe: Probe,
     text: String,
     lines: u64,
+    /// The table that the house began with.
+    table: Table,
     keys: u64,
     lone: bool,
     /// Percent of messages that are changed before they are handed in.
@@ -42,11 +46,13 @@ struct Maker {
 pub fn probe(seed: u64, lines: u64) -> String {
     let mut random = Random::new(seed);
     let sites = random.between(1, SITES as u64);
+    let firsts = if random.chance(40) { even(sites) } else { random.firsts(sites) };
     let mut maker = Maker {
         probe: Probe::new(sites),
-        text: format!("# Seed {seed}.\nhouse {sites}\n"),
-        lines: 2,
-        keys: [2, 5, 40, SITE_KEYS][random.below(4) as usize],
+        text: format!("# Seed {seed}.\n"),
+        lines: 1,
+        table: Table::start(sites, &firsts).expect("a good table"),
+        keys: [2, 5, 40, KEYS][random.below(4) as usize],
         lone: random.chance(25),
         forged: [0, 2, 10][random.below(3) as usize],
         order: [60, 90, 98][random.below(3) as usize],
@@ -56,6 +62,7 @@ pub fn probe(seed: u64, lines: u64) -> String {
         replayed: vec![0; super::COPIES],
         random,
     };
+    maker.house();
     if maker.random.chance(30) {
         maker.near_the_ends();
     }
@@ -99,11 +106,11 @@ impl Maker {
                 self.say(format!("enlist {site} {transaction} {target}"));
             }
             2 => {
-                let key = self.random.key(site, self.keys);
+                let key = self.key(site);
                 self.say(format!("read {site} {transaction} {key}"));
             }
             3 => {
-                let (key, value) = (self.random.key(site, self.keys), self.random.word());
+                let (key, value) = (self.key(site), self.random.word());
                 self.say(format!("write {site} {transaction} {key} {value}"));
             }
             4 => drop(self.say(format!("commit {site} {transaction}"))),
@@ -123,7 +130,8 @@ impl Maker {
             15 => self.past_the_sizes(site),
             16 => self.lent(site, transaction),
             17 => self.search(site),
-            _ => self.fill(),
+            18 => self.fill(),
+            _ => self.tables(site),
         }
     }
 
@@ -243,7 +251,7 @@ impl Maker {
         let length = [0, size - 1, size + 1, size - LIVE as u64][self.random.below(4) as usize];
         self.say(format!("{verb} {length}"));
         for _ in 0..self.random.between(1, 3) {
-            let key = self.random.key(site, self.keys);
+            let key = self.key(site);
             match self.random.below(11) {
                 0 => drop(self.begin(site)),
                 1 => drop(self.say(format!("enlist {site} {transaction} {site}"))),
@@ -304,7 +312,7 @@ impl Maker {
         let state = &self.probe.sites[site as usize - 1].site;
         let part = self.random.pick(&state.live);
         let (poke, restore) = match (self.random.below(6), part) {
-            (0, _) => (format!("site {site} 0 9"), format!("site {site} 0 {}", state.sites)),
+            (0, _) => (format!("site {site} 0 9"), format!("site {site} 0 {}", state.table.sites)),
             (1, _) => (format!("site {site} 1 0"), format!("site {site} 1 {}", state.own)),
             (2, _) => {
                 (format!("site {site} 3 {}", 1u64 << 32), format!("site {site} 3 {}", state.serial))

@@ -6,6 +6,7 @@ use crate::copy::Copy;
 use crate::record::{self, Save};
 use crate::site::{Footprint, Installed, Part, Site, Stage};
 use crate::sizes::*;
+use crate::table::Table;
 
 const PRIME: u64 = 4_294_967_291;
 const FACTOR: u64 = 69_069;
@@ -26,10 +27,8 @@ fn together(sums: impl Iterator<Item = u64>) -> u64 {
     sums.fold(0, |sum, one| (sum + one) % PRIME)
 }
 
-fn keys(sum: u64, own: u64, footprint: &Footprint) -> u64 {
-    let first = (own - 1) * SITE_KEYS;
-    let reads = (first..first + SITE_KEYS).filter(|&key| footprint.reads.contains(key));
-    let read = together(reads.map(|key| more(1, key)));
+fn keys(sum: u64, footprint: &Footprint) -> u64 {
+    let read = together(footprint.reads.keys().map(|key| more(1, key)));
     let wrote = together(footprint.values.iter().map(|&(key, value)| more(more(2, key), value)));
     more(more(sum, read), wrote)
 }
@@ -54,23 +53,25 @@ fn part(part: &Part, own: u64) -> u64 {
     let mask = if joined { 0 } else { part.participants };
     let desk = part.desk.number();
     let fields = [part.transaction, part.snapshot, stage, mask, number, heard, reason, desk];
-    keys(words(3, &fields), own, &part.footprint)
+    keys(words(3, &fields), &part.footprint)
 }
 
-fn installed(past: &Installed, own: u64) -> u64 {
+fn installed(past: &Installed) -> u64 {
     let fields = [past.install, past.transaction, past.participants];
-    keys(words(4, &fields), own, &past.footprint)
+    keys(words(4, &fields), &past.footprint)
+}
+
+/// Number of sites, then the eight first keys.
+fn house(table: &Table) -> u64 {
+    words(table.sites, &table.firsts)
 }
 
 pub fn site(site: &Site) -> u64 {
     let counts = [site.own, site.clock, site.serial, site.installs];
-    let sum = words(words(words(site.sites, &counts), &site.sent), &site.taken);
+    let sum = words(words(words(house(&site.table), &counts), &site.sent), &site.taken);
     let live = together(site.live.iter().map(|one| part(one, site.own)));
-    let past = together(site.history.iter().map(|one| installed(one, site.own)));
-    let mut base = vec![0; KEYS as usize];
-    let first = ((site.own - 1) * SITE_KEYS) as usize;
-    base[first..first + SITE_KEYS as usize].copy_from_slice(&site.base);
-    words(more(more(sum, live), past), &base)
+    let past = together(site.history.iter().map(installed));
+    words(more(more(sum, live), past), &site.base)
 }
 
 /// The words of a site's queue, unused ones 0.
@@ -91,8 +92,8 @@ pub struct Source {
 }
 
 /// One word more than the queues have is there to be lent.
-pub fn merger(sites: u64, sources: &[Source]) -> u64 {
-    let sum = sources.iter().fold(sites, |sum, one| {
+pub fn merger(table: &Table, sources: &[Source]) -> u64 {
+    let sum = sources.iter().fold(house(table), |sum, one| {
         words(sum, &[one.state, one.last.number, one.last.coordinator, one.queued])
     });
     let queues = sources.iter().fold(sum, |sum, one| words(sum, &one.words));

@@ -23,11 +23,10 @@ impl Generator {
         self.install_all();
     }
 
-    /// So many keys pass, one more does not. Known ones still do, and after them a new
-    /// one does not.
+    /// So many keys pass, one more does not, where the site has so many. Known ones still
+    /// do, and after them a new one does not; of 18 keys read, 16 pass.
     fn fill(&mut self, site: u64, transaction: u64, desk: Desk) {
-        let first = self.random.below(SITE_KEYS);
-        let key = |place: u64| (site - 1) * SITE_KEYS + (first + place) % SITE_KEYS;
+        let key = self.round(site);
         let limit = desk.written_keys() as u64;
         let reads_first = self.random.chance(50);
         for place in 0..limit + 2 {
@@ -47,15 +46,9 @@ impl Generator {
         }
         self.tell("write", &[site, transaction, key(limit + 2), 5]);
         if self.random.chance(50) {
-            self.fill_reads(site, transaction, key(limit + 2));
-        }
-    }
-
-    /// Reads of 18 keys that follow one another: 16 pass, less those read before.
-    fn fill_reads(&mut self, site: u64, transaction: u64, first: u64) {
-        for place in 0..SET_KEYS as u64 + 2 {
-            let key = (site - 1) * SITE_KEYS + (first + place) % SITE_KEYS;
-            self.tell("read", &[site, transaction, key]);
+            for place in 0..SET_KEYS as u64 + 2 {
+                self.tell("read", &[site, transaction, key(limit + 2 + place)]);
+            }
         }
     }
 }

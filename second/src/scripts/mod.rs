@@ -5,7 +5,7 @@
 //! 4 (`take` hands in the next message), 13 (counts are too long to spend),
 //! 14 and 16 (logs ascend, and a due record is whole) and 26 (the program asks
 //! the coordinator), nor reasons 5 and 13; and `take` never gives 27, since a
-//! channel brings its messages in turn.
+//! channel brings its messages in turn. No line but `sites` gives 22.
 
 mod desks;
 mod end;
@@ -13,6 +13,7 @@ mod noise;
 mod profile;
 mod scenes;
 mod steps;
+mod tables;
 
 use std::fmt::Write;
 
@@ -22,7 +23,6 @@ use crate::desk::Desk;
 use crate::house::{House, Observer, Running};
 use crate::random::Random;
 use crate::site::{Part, Site};
-use crate::sizes::*;
 use crate::tally::Tally;
 use crate::world::{Answer, Call, World};
 
@@ -36,6 +36,11 @@ struct Watcher {
 }
 
 impl Observer for Watcher {
+    fn start(&mut self, world: &World) {
+        self.book = Book::of(world);
+        self.tally.table(&world.merger.table);
+    }
+
     fn called(
         &mut self,
         call: &Call,
@@ -81,6 +86,7 @@ pub fn generate(seed: u64, lines: Option<u64>) -> Script {
 fn is_out_of_reach(line: &str, refusal: Refusal) -> bool {
     match refusal {
         Refusal::WrongStage => line.starts_with("take"),
+        Refusal::BadTable => !line.starts_with("sites "),
         Refusal::BufferTooShort | Refusal::NotNext | Refusal::NotCoordinator => true,
         Refusal::CountSpent | Refusal::NotAbove | Refusal::PartsDisagree => true,
         _ => false,
@@ -182,11 +188,6 @@ impl Generator {
         }
         let step = self.random.between(1, self.sites() - 1);
         (site - 1 + step) % self.sites() + 1
-    }
-
-    /// A key of a site within the profile's range.
-    fn key_of(&mut self, site: u64) -> u64 {
-        (site - 1) * SITE_KEYS + self.random.below(self.profile.keys)
     }
 
     /// Live parts with their sites, all or those that a condition picks.

@@ -1,15 +1,20 @@
-//! Lines that should be refused, and the opening of a script.
+//! Lines that should be refused.
 
 use super::Generator;
 use crate::sizes::*;
 
 /// Lines that are no commands, or name what no house has.
-const BAD_LINES: [&str; 36] = [
+const BAD_LINES: [&str; 41] = [
     "",
     " ",
     "sites",
     "sites 2",
     "sites 1 1",
+    "sites 1 0",
+    "sites 2 0 5",
+    "sites 3 0 9 9",
+    "sites 8 0 1 2 3 4 5 6 7 8",
+    "sites 8 0 256 512 768 1024 1280 1536 1792",
     "begin",
     "begin 0",
     "begin 9",
@@ -44,18 +49,6 @@ const BAD_LINES: [&str; 36] = [
 ];
 
 impl Generator {
-    /// Lines before the house stands, and `sites`.
-    pub(super) fn opening(&mut self) {
-        if self.random.chance(15) {
-            for _ in 0..self.random.between(1, 4) {
-                let lines = ["begin 1", "sites 0", "sites 9", "emit", "value 1 5", "", "take 1 1"];
-                let line = lines[self.random.below(lines.len() as u64) as usize];
-                let _ = self.line(line);
-            }
-        }
-        self.tell("sites", &[self.profile.sites]);
-    }
-
     pub(super) fn noise(&mut self) {
         match self.random.below(9) {
             0 | 1 => self.bad_line(),
@@ -104,15 +97,18 @@ impl Generator {
         }
     }
 
-    /// Keys of another site, of one that the house lacks, and of none.
+    /// Keys of another site, at the edges of ranges, and of none.
     fn wrong_key(&mut self) {
         let parts = self.parts(|_, _| true);
         let Some((site, transaction)) = self.random.pick(&parts) else { return };
         let other = self.other_site(site);
-        let key = match self.random.below(5) {
+        let key = match self.random.below(6) {
             0 => KEYS,
             1 => u64::MAX,
-            2 => self.sites() * SITE_KEYS,
+            2 | 3 => {
+                let range = self.range(site);
+                self.random.edge(range)
+            }
             _ => self.key_of(other),
         };
         match self.random.below(2) {

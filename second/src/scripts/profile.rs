@@ -1,6 +1,7 @@
 //! What a seed makes a script look like.
 
 use crate::random::Random;
+use crate::table::even;
 
 /// Kinds of random step, in the order of `Profile::weights`.
 #[derive(Clone, Copy, PartialEq, Eq, Debug)]
@@ -43,7 +44,9 @@ pub type Weights = [u64; STEPS.len()];
 #[derive(Clone, Debug)]
 pub struct Profile {
     pub sites: u64,
-    /// Keys in use at each site, from its first.
+    /// The first keys that `sites` gives, if it gives any.
+    pub firsts: Option<Vec<u64>>,
+    /// Keys in use at each site, from its first, as far as its range goes.
     pub keys: u64,
     /// Percent of transactions that begin for the proofing desk.
     pub proofing: u64,
@@ -67,10 +70,11 @@ const NOISY: Weights = [10, 8, 8, 10, 8, 3, 26, 10, 4, 8, 6, 6, 6, 40];
 impl Profile {
     pub fn choose(random: &mut Random) -> Profile {
         let sites = random.between(1, 8);
-        let keys = [2, 4, 12, 256][random.below(4) as usize];
+        let keys = [2, 4, 12, 2_048][random.below(4) as usize];
         let many = random.between(2, 8);
         let mut profile = Profile {
             sites,
+            firsts: None,
             keys,
             proofing: [0, 15, 40, 85][random.below(4) as usize],
             lines: random.between(100, 400),
@@ -101,6 +105,16 @@ impl Profile {
         if random.chance(30) {
             profile.laggard = Some(random.between(1, profile.sites));
         }
+        profile.firsts = firsts(random, profile.sites);
         profile
+    }
+}
+
+/// Q3.7: half of the houses get none; the default may be given too.
+fn firsts(random: &mut Random, sites: u64) -> Option<Vec<u64>> {
+    match random.below(20) {
+        0..=9 => None,
+        10 => Some(even(sites)),
+        _ => Some(random.firsts(sites)),
     }
 }

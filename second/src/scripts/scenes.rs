@@ -298,9 +298,8 @@ impl Generator {
         self.settle();
         let sites: Vec<u64> = (1..=self.sites()).collect();
         let Some(transaction) = self.spanning(&sites) else { return };
-        let known = |key: u64| [key, key + 1];
         for &site in &sites {
-            for key in known((site - 1) * SITE_KEYS) {
+            for key in self.range(site).take(2) {
                 self.tell("read", &[site, transaction, key]);
             }
             for _ in 0..HISTORY {

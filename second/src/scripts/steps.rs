@@ -42,11 +42,19 @@ impl Generator {
         self.tell("enlist", &[transaction, target]);
     }
 
-    /// A part that takes reads and writes, with a key of its site.
+    /// A part that takes reads and writes, with a key of its site, or at times one on
+    /// either side of an edge of its range.
     fn active_part(&mut self) -> Option<(u64, u64, u64)> {
         let parts = self.parts(|_, part| part.is_active());
         let (site, transaction) = self.random.pick(&parts)?;
-        Some((site, transaction, self.key_of(site)))
+        let key = match self.random.chance(6) {
+            true => {
+                let range = self.range(site);
+                self.random.edge(range)
+            }
+            false => self.key_of(site),
+        };
+        Some((site, transaction, key))
     }
 
     fn read(&mut self) {

@@ -78,7 +78,7 @@ impl Site {
         }
         if let Some(oldest) = self.history.pop_front() {
             for (key, value) in oldest.footprint.values {
-                self.base[(key % SITE_KEYS) as usize] = value;
+                self.base[key as usize] = value;
             }
         }
     }

@@ -1,5 +1,5 @@
-//! A site: its state and the calls of clients (C1 to C59, Q5.1 to Q5.5, Q10.1 to
-//! Q10.5).
+//! A site: its state and the calls of clients (C1 to C59, Q3.1 to Q3.6, Q5.1 to
+//! Q5.5, Q10.1 to Q10.5).
 //!
 //! Every call first finds the refusal that applies, in the order of the causes,
 //! then alters.
@@ -20,11 +20,12 @@ use crate::answer::{reason, require, Decision, Refusal, Sent};
 use crate::desk::Desk;
 use crate::message::{Kind, Letter, Outbox};
 use crate::sizes::*;
+use crate::table::Table;
 
 #[derive(Clone, PartialEq, Eq, Debug)]
 pub struct Site {
-    /// Number of sites of the house.
-    pub sites: u64,
+    /// Number of sites of the house, and where its keys live.
+    pub table: Table,
     pub own: u64,
     pub clock: u64,
     /// The last serial given.
@@ -37,15 +38,15 @@ pub struct Site {
     pub live: Vec<Part>,
     /// The last installed, oldest first.
     pub history: VecDeque<Installed>,
-    /// Values of this site's keys, as the forgotten installs left them.
+    /// Values by key, as the forgotten installs left them; 0 at keys of other sites.
     pub base: Vec<u64>,
 }
 
 impl Site {
-    pub fn start(sites: u64, own: u64) -> Result<Self, Refusal> {
-        require(is_site(sites, SITES as u64) && is_site(own, sites), Refusal::Impossible)?;
+    pub fn start(sites: u64, firsts: &[u64], own: u64) -> Result<Self, Refusal> {
+        require(is_site(own, sites), Refusal::Impossible)?;
         Ok(Site {
-            sites,
+            table: Table::start(sites, firsts)?,
             own,
             clock: 0,
             serial: 0,
@@ -54,7 +55,7 @@ impl Site {
             taken: [0; SITES],
             live: Vec::with_capacity(LIVE),
             history: VecDeque::with_capacity(HISTORY + 1),
-            base: vec![0; SITE_KEYS as usize],
+            base: vec![0; KEYS as usize],
         })
     }
 
@@ -77,7 +78,7 @@ impl Site {
         out: &mut [u64],
     ) -> Result<Sent, Refusal> {
         let mut out = Outbox::new(out)?;
-        require(is_site(site, self.sites), Refusal::Impossible)?;
+        require(is_site(site, self.table.sites), Refusal::Impossible)?;
         let place = self.find_coordinated(transaction)?;
         let part = &self.live[place];
         let bit = site_bit(site);
@@ -192,10 +193,10 @@ impl Site {
         Ok(place)
     }
 
-    /// Refusals 2 and 3 of read, write and search.
+    /// Q3.6: refusals 2 and 3 of read, write and search.
     fn require_own_key(&self, key: u64) -> Result<(), Refusal> {
-        require(is_site(key_site(key), self.sites), Refusal::Impossible)?;
-        require(key_site(key) == self.own, Refusal::OtherSite)
+        let home = self.table.site_of(key).ok_or(Refusal::Impossible)?;
+        require(home == self.own, Refusal::OtherSite)
     }
 
     fn installed_since(&self, snapshot: u64) -> impl Iterator<Item = &Installed> {

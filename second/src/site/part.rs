@@ -5,14 +5,13 @@ use crate::message::Entry;
 use crate::record::Write;
 use crate::sizes::*;
 
-/// Keys of one site, a bit for each.
+/// A set of keys, a bit for each.
 #[derive(Clone, Copy, PartialEq, Eq, Debug, Default)]
-pub struct KeySet([u64; SITE_KEYS as usize / 64]);
+pub struct KeySet([u64; KEYS as usize / 64]);
 
 impl KeySet {
     fn place(key: u64) -> (usize, u64) {
-        let offset = key % SITE_KEYS;
-        (offset as usize / 64, 1 << (offset % 64))
+        (key as usize / 64, 1 << (key % 64))
     }
 
     pub fn contains(&self, key: u64) -> bool {
@@ -31,6 +30,15 @@ impl KeySet {
 
     pub fn is_empty(&self) -> bool {
         self.0.iter().all(|&word| word == 0)
+    }
+
+    /// By key ascending.
+    pub fn keys(&self) -> impl Iterator<Item = u64> + '_ {
+        let used = (0..).zip(&self.0).filter(|(_, &word)| word != 0);
+        used.flat_map(|(place, &word)| {
+            let bits = (0..64).filter(move |bit| word & (1 << bit) != 0);
+            bits.map(move |bit| 64 * place + bit)
+        })
     }
 
     pub fn meets(&self, other: &KeySet) -> bool {

@@ -13,7 +13,7 @@ impl Site {
     /// Takes the next message of its channel.
     pub fn message(&mut self, words: &[u64], out: &mut [u64]) -> Result<Sent, Refusal> {
         let mut out = Outbox::new(out)?;
-        let message = Message::parse(words, self.sites)?;
+        let message = Message::parse(words, self.table.sites)?;
         require(message.to == self.own, Refusal::OtherSite)?;
         let channel = message.from as usize - 1;
         let next = self.taken[channel].checked_add(1);

@@ -2,7 +2,6 @@
 
 use super::Site;
 use crate::answer::Refusal;
-use crate::sizes::SITE_KEYS;
 
 /// Outcome of a search: the value, and how many entries of the history it looked at.
 #[derive(Clone, Copy, PartialEq, Eq, Debug)]
@@ -30,6 +29,6 @@ impl Site {
                 return Found { value, looked_at };
             }
         }
-        Found { value: self.base[(key % SITE_KEYS) as usize], looked_at }
+        Found { value: self.base[key as usize], looked_at }
     }
 }

@@ -7,8 +7,10 @@ pub mod stages;
 use second::answer::{Decision, Refusal, Sent};
 use second::desk::Desk;
 use second::house::{messages, House};
+use second::merger::Merger;
 use second::site::{Footprint, Installed, Part, Site, Stage};
 use second::sizes::*;
+use second::table::even;
 
 /// The desks by number.
 pub const HOUSE: u64 = Desk::House as u64;
@@ -39,8 +41,13 @@ pub fn buffer() -> Vec<u64> {
     vec![0; SEND_BUFFER]
 }
 
+/// A site and a merger with the table 0, 256 and so on.
 pub fn site(sites: u64, own: u64) -> Site {
-    Site::start(sites, own).unwrap()
+    Site::start(sites, &even(sites), own).unwrap()
+}
+
+pub fn merger(sites: u64) -> Merger {
+    Merger::start(sites, &even(sites)).unwrap()
 }
 
 /// A call on a site that sends: its decision and its messages.

@@ -3,32 +3,33 @@ use Prim.Native.Nat.{_+_, _-_, _<_, _≤_, ℕ}
 use borrow.Author.Needs.{needs}
 use lib.ListN.{getD}
 use mathlib.Core.Path.{_≡_}
-use Rattle.lines.specs.Line.{no-newline-more, no-newline-none, read-more, read-none, readOn}
+use Rattle.lines.specs.Line.{no-newline-more, no-newline-none, read-more, read-none, readOn, scanOf}
 use Rattle.lines.proofs.read.Statement.{statement}
 use Rattle.lines.proofs.read.Tie as tie
 
 abbrev Inv-loop : tie.InvT-loop
-Inv-loop text from to t₀ i₀ t i = (from ≤ i) × (i ≤ to) × (t ≡ readOn text from (i - from) t₀)
+Inv-loop text from to words₀ p₀ i₀ words p i =
+    (from ≤ i) × (i ≤ to) × (scanOf p words ≡ readOn text from (i - from) (scanOf p₀ words₀))
     × ((k : ℕ) → k < i - from → getD text (from + k) 0 ≡ 10 → ⊥)
 
 abbrev μ-loop : tie.MeasureT-loop
-μ-loop text from to t₀ i₀ t i = to - i
+μ-loop text from to words₀ p₀ i₀ words p i = to - i
 
-abbrev start : tie.In-loop Inv-loop μ-loop → tie.Start Inv-loop μ-loop
+abbrev start : tie.At-loop Inv-loop μ-loop → tie.Start Inv-loop μ-loop
 start c = c .before .before .before
 
-abbrev at-loop : tie.Else1 Inv-loop μ-loop → tie.At-loop Inv-loop μ-loop
-at-loop c = c .before .before .before
+abbrev byte-read : tie.After-step Inv-loop μ-loop → tie.After-shared-slice-known2 Inv-loop μ-loop
+byte-read c = c .before .before .before
+
+abbrev at-loop : tie.After-step Inv-loop μ-loop → tie.At-loop Inv-loop μ-loop
+at-loop c = byte-read c .before .before
 
 loop-holds : tie.Need-loop-holds Inv-loop μ-loop
-loop-holds c = let a = c .before .args in
-    (search needs, search needs, read-none (a .text .now) (a .from) (a .s), no-newline-none (a .text .now) (a .from))
+loop-holds c = let a = c .before .before .args in
+    (search needs, search needs, read-none (a .text .now) (a .from) _, no-newline-none (a .text .now) (a .from))
 
 shared-slice-read-b : tie.Need-shared-slice-read-b Inv-loop μ-loop
 shared-slice-read-b c = search needs
-
-returns : tie.Need-returns Inv-loop μ-loop
-returns c = search needs
 
 step-requires : tie.Need-step-requires Inv-loop μ-loop
 step-requires c κs = search needs
@@ -40,14 +41,19 @@ loop-less : tie.Need-loop-less Inv-loop μ-loop
 loop-less c = search needs
 
 loop-again : tie.Need-loop-again Inv-loop μ-loop
-loop-again c = let a = start (c .before .before .before) .args in let l = at-loop (c .before) .loop in (
+loop-again c = let a = start (at-loop c) .args in let l = at-loop c .loop in (
   search needs,
   search needs,
-  read-more (a .text .now) (a .from) (l .i) (a .s) (l .t) (c .step .result) (l .inv .0) (l .inv .2) (c .step .ensures),
-  no-newline-more (a .text .now) (a .from) (l .i) (l .inv .0) (l .inv .3) (c .before .if1 .left),
+  read-more (a .text .now) (a .from) (l .i) _ (scanOf (l .p) (l .words)) _ (l .inv .0) (l .inv .2) (c .step .ensures),
+  no-newline-more (a .text .now) (a .from) (l .i) (l .inv .0) (l .inv .3) (c .before .before .if1 .left),
 )
 
+returns : tie.Need-returns Inv-loop μ-loop
+unfolding scanOf
+returns c = search needs
+
 returns-2 : tie.Need-returns-2 Inv-loop μ-loop
+unfolding scanOf
 returns-2 c = search needs
 
 pub read-spec : {M : Type 1} → statement M
@@ -58,9 +64,9 @@ read-spec =
     μ-loop
     loop-holds
     shared-slice-read-b
-    returns
     step-requires
     add-i
     loop-less
     loop-again
+    returns
     returns-2)

@@ -1,4 +1,4 @@
--- Each return is a cause of the list; a possible state has at most 8 sites.
+-- Each return is a cause of the list; a possible state has a possible house.
 use borrow.Author.Needs.{needs}
 use borrow.Author.Tests.{not-false, not-true}
 use mathlib.Core.Path.{_∙_, sym}
@@ -21,7 +21,7 @@ unfolding mergeCode
 returns c = simp (← c .before .merger-ok .ensures, not-true (c .before .merger-ok .result) (c .if1 .taken))
 
 part-ok-requires : tie.Need-part-ok-requires
-part-ok-requires c κs = merger-clear _ _ (sym (c .before .merger-ok .ensures) ∙ not-false _ (c .if1 .left)) .few
+part-ok-requires c κs = merger-clear _ _ (sym (c .before .merger-ok .ensures) ∙ not-false _ (c .if1 .left)) .house
 
 returns-2 : tie.Need-returns-2
 unfolding mergeCode

@@ -1,5 +1,5 @@
 -- What each move tells the book.
-use Prim.Native.Nat.{ℕ, _+_}
+use Prim.Native.Nat.{_+_}
 use mathlib.Core.List.{List, [], _∷_, _++_}
 use Rattle.kinds.specs.declared.House.{House}
 use Rattle.rules.specs.House.{coordinatorOf}

@@ -217,7 +217,10 @@ pub fresh-kept : (house : House) → GoodHouse house → Kept house (freshWorld 
 unfolding freshWorld
 fresh-kept house good =
     record {
-      site = λ s a b. rw (started house s good a b, fresh-table (startCode (house .sites) (firstsOf house) s sizes.keys sizes.lists) sizes.lists)
+      site = λ s a b. rw (
+        started house s good a b,
+        fresh-table (startCode (house .sites) (firstsOf house) s sizes.keys sizes.lists) sizes.lists,
+      )
           (fresh-handed house s good a b);
       pass = a-nil;
     }

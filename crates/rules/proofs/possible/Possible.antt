@@ -99,6 +99,7 @@ module _ {house : House} {w : World} {b : List Fact} (x : Stands (More house) ho
         house = site-house;
         site = site-ok;
         base = base-long;
+        merger-house = merger-house;
         merger = merger-ok;
         copy = λ c. x .is .copy c .size;
         calls = calls-possible;

@@ -8,13 +8,11 @@ use mathlib.Core.List.{List, []}
 use native.Mathlib.Omega.{arith}
 use lib.ListN.{length}
 use Rattle.laws.specs.Choice.{by-test, set-not}
-use Rattle.kinds.specs.Sizes as sizes
 use Rattle.kinds.specs.declared.House.{House}
 use Rattle.kinds.specs.declared.Sub.{Sub}
 use Rattle.kinds.specs.declared.Site.{Site}
 use Rattle.kinds.specs.declared.Answer.the-variants.{Refused, Found}
 use Rattle.kinds.specs.State.{Value, subAt}
-use Rattle.rules.specs.House.{homeOf}
 use Rattle.rules.specs.HouseLaws.{key-low}
 use Rattle.rules.specs.Keys.{wroteKey, wroteValue, readKey}
 use Rattle.rules.specs.Live.{stageAt, placeOf}

@@ -4,7 +4,7 @@ use mathlib.Core.Path.{_≡_, refl, sym}
 use mathlib.Core.Logic.{_⊎_, inl, inr}
 use mathlib.Core.List.{List, []}
 use native.Mathlib.Omega.{arith}
-use borrow.Author.Tests.{eq-eqb, le-leb, lt-leb}
+use borrow.Author.Tests.{eq-eqb, lt-leb}
 use lib.ListN.{length, getD, take, replicate, length-replicate, getD-replicate}
 use lib.Seq.{take-suc}
 use Rattle.laws.specs.Pair.{rank}
@@ -15,7 +15,7 @@ use Rattle.kinds.specs.State.{Value}
 use Rattle.kinds.specs.declared.Answer.the-variants.{Standing}
 use Rattle.rules.specs.House.{coordinatorOf, GoodHouse}
 use Rattle.rules.specs.HouseLaws.{good-passes}
-use Rattle.rules.specs.Merger.{sourceAt, pastSource, freshMerger, mergerStartCode, mergerStartOf}
+use Rattle.rules.specs.Merger.{sourceAt, pastSource, freshMerger}
 use Rattle.rules.specs.MergerKept.{fresh-holds}
 use Rattle.rules.specs.Copy.{copyNumber, copyCoordinator, copyValue, valueCode, valueOf, copyStartOf}
 use Rattle.rules.specs.World.{World, freshWorld}

@@ -1,5 +1,5 @@
 -- The whole invariant, after any moves from the fresh protocol.
-use Prim.Native.Nat.{ℕ, _≤_}
+use Prim.Native.Nat.{_≤_}
 use Rattle.kinds.specs.declared.House.{House}
 use Rattle.rules.proofs.protocol.ProtocolTables.{Protocol}
 use Rattle.rules.proofs.protocol.Protocol.{Move, Moves, stop, more, freshProtocol}

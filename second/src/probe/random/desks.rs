@@ -47,8 +47,10 @@ impl Maker {
             return;
         }
         let (transaction, limit) = (part.transaction, part.desk.written_keys() as u64);
-        let first = self.random.below(SITE_KEYS);
-        let key = |place: u64| (site - 1) * SITE_KEYS + (first + place) % SITE_KEYS;
+        let range = self.table_of(site).keys(site);
+        let count = range.end - range.start;
+        let first = self.random.below(count);
+        let key = |place: u64| range.start + (first + place) % count;
         for place in 0..=limit {
             self.say(format!("write {site} {transaction} {} {place}", key(place)));
         }

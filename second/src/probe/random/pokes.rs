@@ -196,7 +196,10 @@ impl Maker {
     pub(super) fn some_calls(&mut self, site: u64, transaction: u64) {
         match self.random.below(5) {
             0 => drop(self.begin(site)),
-            1 => drop(self.say(format!("read {site} {transaction} {}", (site - 1) * SITE_KEYS))),
+            1 => {
+                let first = self.table_of(site).keys(site).start;
+                self.say(format!("read {site} {transaction} {first}"));
+            }
             2 => drop(self.say(format!("install {site}"))),
             3 => self.search(site),
             _ => drop(self.say(format!("report {site}"))),
@@ -209,7 +212,7 @@ impl Maker {
     /// A source of the merger, of a site that the house lacks too.
     fn poke_source(&mut self) {
         let site = self.random.between(1, SITES as u64);
-        let log = self.probe.merger.merger.logs.get(site as usize - 1).cloned().unwrap_or_default();
+        let log = self.probe.merger.merger.logs[site as usize - 1].clone();
         let queued = log.queue.len() as u64;
         let (field, value, before) = match self.random.below(4) {
             0 => (0, self.random.below(20), log.state),

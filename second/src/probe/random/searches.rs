@@ -15,9 +15,9 @@ impl Maker {
         let version = self.random.pick(&versions);
         let key = match (self.random.below(20), version) {
             (0, _) => self.random.below(KEYS),
-            (1, _) => KEYS + self.random.below(SITE_KEYS),
+            (1, _) => KEYS + self.random.below(256),
             (2..=13, Some((_, key))) => key,
-            _ => self.random.key(site, self.keys),
+            _ => self.key(site),
         };
         let snapshot = self.snapshot(ends, version.map(|(install, _)| install));
         self.say(format!("search {site} {snapshot} {key}"));

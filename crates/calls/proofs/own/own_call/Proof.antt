@@ -33,7 +33,7 @@ Leaves p c w h base lists out r = OwnLeaves c p w h base lists out r w h base li
 other : (p : Core) (c : Command) (w h base lists out : List ℕ) (r : Reply) → OneOf others (tagOf the-type c)
     → Replied p w h r w h (refused reason.malformed (siteOf p w h) []) → Leaves p c w h base lists out r
 unfolding effectOf baseLeft listsLeft
-other p (command.Sites n) w h base lists out r k e = (e, (refl, (refl, overlay-none out)))
+other p (command.Sites n given) w h base lists out r k e = (e, (refl, (refl, overlay-none out)))
 other p (command.Take from to) w h base lists out r k e = (e, (refl, (refl, overlay-none out)))
 other p (command.Merge site) w h base lists out r k e = (e, (refl, (refl, overlay-none out)))
 other p command.Emit w h base lists out r k e = (e, (refl, (refl, overlay-none out)))

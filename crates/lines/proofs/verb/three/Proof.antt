@@ -1,4 +1,4 @@
--- The arm is the pick of its verb; what is left has another.
+-- Each arm is the pick of its verb; what is left has none of them.
 use borrow.Author.Tests.{ne-eqb}
 use Rattle.lines.specs.Line.{threeOf}
 use Rattle.lines.proofs.verb.three.Statement.{statement}
@@ -10,7 +10,15 @@ returns c = rw (c .match .keys1)
 
 returns-2 : tie.Need-returns-2
 unfolding threeOf
-returns-2 c = simp (ne-eqb _ 1919246692 (c .match .rest .1))
+returns-2 c = rw (c .match .keys2)
+
+returns-3 : tie.Need-returns-3
+unfolding threeOf
+returns-3 c = let r = c .match .rest in
+    simp (
+      ne-eqb _ 495690474867 (r .0 .1),
+      ne-eqb _ 1919246692 (r .1),
+    )
 
 pub three-spec : {M : Type 1} → statement M
-three-spec = tie.close (tie.spec returns returns-2)
+three-spec = tie.close (tie.spec returns returns-2 returns-3)

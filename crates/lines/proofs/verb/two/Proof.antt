@@ -22,8 +22,13 @@ returns-4 c = rw (c .match .keys4)
 
 returns-5 : tie.Need-returns-5
 unfolding twoOf
-returns-5 c = let r = c .match .rest in
+returns-5 c = rw (c .match .keys5)
+
+returns-6 : tie.Need-returns-6
+unfolding twoOf
+returns-6 c = let r = c .match .rest in
     simp (
+      ne-eqb _ 495690474867 (r .0 .0 .0 .0 .1),
       ne-eqb _ 422608071022 (r .0 .0 .0 .1),
       ne-eqb _ 111524939658100 (r .0 .0 .1),
       ne-eqb _ 1952541541 (r .0 .1),
@@ -31,4 +36,4 @@ returns-5 c = let r = c .match .rest in
     )
 
 pub two-spec : {M : Type 1} → statement M
-two-spec = tie.close (tie.spec returns returns-2 returns-3 returns-4 returns-5)
+two-spec = tie.close (tie.spec returns returns-2 returns-3 returns-4 returns-5 returns-6)

@@ -4,7 +4,6 @@ use borrow.Author.Tests.{eq-eqb, ne-eqb, not-false, not-true}
 use mathlib.Core.Path.{_∙_, sym}
 use Rattle.laws.specs.Choice.{pick-self}
 use Rattle.rules.specs.Merger.{mergerOk}
-use Rattle.rules.specs.MergerClear.{house-clear}
 use Rattle.queues.proofs.possible.merger_ok.Statement.{statement}
 use Rattle.queues.proofs.possible.merger_ok.Tie as tie
 
@@ -21,7 +20,7 @@ returns-2 c =
     simp (eq-eqb _ _ (c .before .before .if1 .left), ← c .before .house-ok .ensures, not-true (c .before .house-ok .result) (c .if2 .taken))
 
 sources-ok-requires : tie.Need-sources-ok-requires
-sources-ok-requires c κs = let h = house-clear _ (sym (c .before .house-ok .ensures) ∙ not-false _ (c .if2 .left)) in (h .1, search needs)
+sources-ok-requires c κs = (sym (c .before .house-ok .ensures) ∙ not-false _ (c .if2 .left), search needs)
 
 returns-3 : tie.Need-returns-3
 unfolding mergerOk

@@ -10,6 +10,8 @@ use Rattle.kinds.specs.Sizes as sizes
 use Rattle.kinds.specs.Word as word
 use Rattle.kinds.specs.declared.RecordHead.{RecordHead}
 use Rattle.rules.specs.Record.{recordHead, recordWrites, partOk}
+use Rattle.rules.specs.HouseLaws.{house-passed}
+use Rattle.rules.specs.ValidLaws.{valid-house}
 use Rattle.rules.specs.RecordLaws.{ShapeClear, shape-clear, PartClear, part-clear}
 use Rattle.records.proofs.layout.part_ok.Statement.{statement}
 use Rattle.records.proofs.layout.part_ok.Tie as tie
@@ -42,7 +44,7 @@ read-record-requires : tie.Need-read-record-requires
 read-record-requires c κs = let s = shaped c in omega arith
 
 part-head-ok-requires : tie.Need-part-head-ok-requires
-part-head-ok-requires c κs = search needs
+part-head-ok-requires c κs = house-passed _ (start (c .before) .pre) .1
 
 returns-2 : tie.Need-returns-2
 unfolding partOk
@@ -71,7 +73,8 @@ part-writes-ok-requires c κs =
     let h = headed (c .before) in
     let n = counted (c .before) in
     let m = start (else1 (c .before)) .args .m .now in
-    omega (arith, length-rest m sizes.recordHeader)
+    let at = start (else1 (c .before)) in
+    (valid-house (at .args .o) _ (at .pre) (h .site), omega (arith, length-rest m sizes.recordHeader))
 
 returns-3 : tie.Need-returns-3
 unfolding partOk recordWrites

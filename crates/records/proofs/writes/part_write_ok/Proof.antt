@@ -1,8 +1,7 @@
 -- Each return is the test that failed, or the last.
 use borrow.Author.Needs.{needs}
-use borrow.Author.Tests.{not-true, not-false}
+use borrow.Author.Tests.{not-true, not-false, le-leb, lt-leb}
 use Rattle.laws.specs.Choice.{pick-self}
-use Rattle.rules.specs.Record.{partWriteOk}
 use Rattle.records.proofs.writes.part_write_ok.Statement.{statement}
 use Rattle.records.proofs.writes.part_write_ok.Tie as tie
 
@@ -10,7 +9,6 @@ key-ascends-requires : tie.Need-key-ascends-requires
 key-ascends-requires c κs = search needs
 
 returns : tie.Need-returns
-unfolding partWriteOk
 returns c = search (← c .before .key-ascends .ensures, not-true (c .before .key-ascends .result) (c .if1 .taken), needs)
 
 mul-key : tie.Need-mul-key
@@ -25,19 +23,17 @@ mul-key-2 c = search needs
 shared-slice-read-key : tie.Need-shared-slice-read-key
 shared-slice-read-key c = search needs
 
-home-of-requires : tie.Need-home-of-requires
-home-of-requires c κs = search needs
-
 returns-2 : tie.Need-returns-2
-unfolding partWriteOk
 returns-2 c =
-    search (
-      ← c .home-of .ensures,
-      ← c .before .before .before .key-ascends .ensures,
-      not-false (c .before .before .before .key-ascends .result) (c .before .before .if1 .left),
-      pick-self,
-      needs,
-    )
+    let ascends = c .before .before .before .key-ascends in
+    let if1 = c .before .before .if1 in
+    search (← ascends .ensures, not-false (ascends .result) (if1 .left), lt-leb _ _ (c .if2 .taken), needs)
+
+returns-3 : tie.Need-returns-3
+returns-3 c =
+    let ascends = c .before .before .before .key-ascends in
+    let if1 = c .before .before .if1 in
+    search (← ascends .ensures, not-false (ascends .result) (if1 .left), le-leb _ _ (c .if2 .left), pick-self, needs)
 
 pub part-write-ok-spec : {M : Type 1} → statement M
 part-write-ok-spec =
@@ -49,5 +45,5 @@ part-write-ok-spec =
     add-key
     mul-key-2
     shared-slice-read-key
-    home-of-requires
-    returns-2)
+    returns-2
+    returns-3)

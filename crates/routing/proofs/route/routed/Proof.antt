@@ -20,7 +20,7 @@ others = 0 ∷ 14 ∷ []
 
 other : (o : House) (c : Command) → OneOf others (tagOf the-type c) → refuse reason.malformed ≡ routeOf o c
 unfolding routeOf
-other o (command.Sites n) h = refl
+other o (command.Sites n given) h = refl
 other o command.Bad h = refl
 other o (command.Begin a d) h = absurd (miss others 1 tt h)
 other o (command.Enlist a b) h = absurd (miss others 2 tt h)

@@ -56,7 +56,7 @@ other : (c : Command) (copy m : List ℕ) → OneOf others (tagOf the-type c) �
 unfolding copyingOf
 other (command.Replay a) copy m k = absurd (miss others 12 tt k)
 other (command.Value a b) copy m k = absurd (miss others 13 tt k)
-other (command.Sites a) copy m k = (refl, refl)
+other (command.Sites a given) copy m k = (refl, refl)
 other (command.Begin a d) copy m k = (refl, refl)
 other (command.Enlist a b) copy m k = (refl, refl)
 other (command.Read a b d) copy m k = (refl, refl)

@@ -23,7 +23,7 @@ other : (c : Command) (g : Merger) (n : ℕ) (queues m : List ℕ) → OneOf oth
     → mergingOf c g n queues m ≡ mergeOf g queues m
 unfolding mergingOf
 other command.Emit g n queues m k = absurd (miss others 11 tt k)
-other (command.Sites a) g n queues m k = refl
+other (command.Sites a given) g n queues m k = refl
 other (command.Begin a d) g n queues m k = refl
 other (command.Enlist a b) g n queues m k = refl
 other (command.Read a b d) g n queues m k = refl
