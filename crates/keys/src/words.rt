@@ -4,6 +4,7 @@ use kinds::Value;
 use kinds::sizes::READS;
 use kinds::sizes::WRITES;
 use kinds::word;
+use std::num::wrapping_sub_u64;
 ghost use mathlib.Core.Path.{_≡_};
 ghost use Prim.Native.Nat.{ℕ, _+_, _≤_};
 ghost use lib.ListN.{length};
@@ -48,18 +49,16 @@ pub fn wrote_value_in(w: &[u64], o: usize, k: Key) -> Value
     w[o + word::KEYS_VALUES + place]
 }
 
-// Whether the first `n` words from word `at` on are keys from `first` up to `end`, the range of a site (Q3.1).
-fn keys_at_in(first: Key, end: Key, w: &[u64], at: usize, n: usize) -> bool
-    requires { ⌜ (n ≤ sizes.writes) × (at + sizes.writes ≤ length (now w)) ⌝ }
-    ensures { λ r. ⌜ ((o : House) (own : ℕ) → RangeOf o own first end → r ≡ keysAt o own (wordsFrom (now (w .entry)) at sizes.writes) n) ⌝ }
+// Whether the first `n` words from word `at` on are among the `count` keys from `first` on, the range of a site (Q3.1). A key below
+// `first` wraps to a number above every count.
+fn keys_at_in(first: Key, count: u64, w: &[u64], at: usize, n: usize) -> bool
+    requires { ⌜ (n ≤ sizes.writes) × (at + sizes.writes ≤ length (now w)) × (first + count ≤ sizes.keys) ⌝ }
+    ensures { λ r. ⌜ ((o : House) (own : ℕ) → RangeOf o own first count → r ≡ keysAt o own (wordsFrom (now (w .entry)) at sizes.writes) n) ⌝ }
 {
     let mut i: usize = 0;
     while i < n {
-        let key = w[at + i];
-        if key < first {
-            return false;
-        }
-        if end <= key {
+        let above = wrapping_sub_u64(w[at + i], first);
+        if count <= above {
             return false;
         }
         i += 1;
@@ -67,10 +66,10 @@ fn keys_at_in(first: Key, end: Key, w: &[u64], at: usize, n: usize) -> bool
     true
 }
 
-// Whether the counts are within the sizes, and the keys are of the site whose range is from `first` up to `end`.
-pub fn keys_ok_in(first: Key, end: Key, w: &[u64], at: usize) -> bool
-    requires { ⌜ at + sizes.keyset ≤ length (now w) ⌝ }
-    ensures { λ r. ⌜ ((o : House) (own : ℕ) → RangeOf o own first end → r ≡ keysOk o own (keysFrom (now (w .entry)) at)) ⌝ }
+// Whether the counts are within the sizes, and the keys are of the site whose range is the `count` keys from `first` on.
+pub fn keys_ok_in(first: Key, count: u64, w: &[u64], at: usize) -> bool
+    requires { ⌜ (at + sizes.keyset ≤ length (now w)) × (first + count ≤ sizes.keys) ⌝ }
+    ensures { λ r. ⌜ ((o : House) (own : ℕ) → RangeOf o own first count → r ≡ keysOk o own (keysFrom (now (w .entry)) at)) ⌝ }
 {
     let read = w[at + word::KEYS_READ] as usize;
     let wrote = w[at + word::KEYS_WROTE] as usize;
@@ -80,8 +79,8 @@ pub fn keys_ok_in(first: Key, end: Key, w: &[u64], at: usize) -> bool
     if WRITES < wrote {
         return false;
     }
-    if !keys_at_in(first, end, w, at + word::KEYS_READS, read) {
+    if !keys_at_in(first, count, w, at + word::KEYS_READS, read) {
         return false;
     }
-    keys_at_in(first, end, w, at + word::KEYS_WRITES, wrote)
+    keys_at_in(first, count, w, at + word::KEYS_WRITES, wrote)
 }

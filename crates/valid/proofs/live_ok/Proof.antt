@@ -15,10 +15,10 @@ use Rattle.valid.proofs.live_ok.Statement.{statement}
 use Rattle.valid.proofs.live_ok.Tie as tie
 
 abbrev Inv-loop : tie.InvT-loop
-Inv-loop o own first end w seats i₀ i = (i ≤ sizes.live) × EachBelow (λ j. subOk o own (partAt (liveOf seats w) j)) i
+Inv-loop o own first count w seats i₀ i = (i ≤ sizes.live) × EachBelow (λ j. subOk o own (partAt (liveOf seats w) j)) i
 
 abbrev μ-loop : tie.MeasureT-loop
-μ-loop o own first end w seats i₀ i = sizes.live - i
+μ-loop o own first count w seats i₀ i = sizes.live - i
 
 -- the function's start, from a turn of the loop
 abbrev start : tie.In-loop Inv-loop μ-loop → tie.Start Inv-loop μ-loop

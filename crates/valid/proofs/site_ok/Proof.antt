@@ -1,5 +1,5 @@
 -- The four tests in order: words of another length make no house, and the first two tests make the house that the others need.
-use Prim.Native.Nat.{ℕ}
+use Prim.Native.Nat.{ℕ, _+_, _-_, _≤_}
 use mathlib.Core.Path.{_≡_, sym, ap, _∙_}
 use mathlib.Core.Bool.{true}
 use native.Mathlib.Omega.{arith}
@@ -7,12 +7,13 @@ use borrow.Author.Needs.{needs}
 use borrow.Author.Tests.{not-true, not-false}
 use Rattle.laws.specs.Choice.{pick-self}
 use Rattle.kinds.specs.declared.House.{House}
-use Rattle.rules.specs.House.{houseOk, firstKey, endKey, inRange}
+use Rattle.rules.specs.House.{GoodTable, houseOk, firstKey, endKey, inRange}
+use Rattle.rules.specs.HouseLaws.{house-passed}
 use Rattle.rules.specs.Valid.{countersOk, siteOk}
 use Rattle.rules.specs.ValidLaws.{ValidHouse, valid-house, counters-own}
 use Rattle.lent.specs.Laws.{Lengths}
 use Rattle.lent.specs.Read.{house-lengths}
-use Rattle.keys.specs.Range.{RangeOf}
+use Rattle.keys.specs.Range.{RangeOf, range-rises}
 use Rattle.valid.proofs.site_ok.Statement.{statement}
 use Rattle.valid.proofs.site_ok.Tie as tie
 
@@ -42,17 +43,26 @@ lengths : (c : tie.Else1) → (let a = start (house c) .args in Lengths (a .live
 lengths c = house-lengths _ _ _ (ap houseOk (sym (house c .lent-house .ensures)) ∙ house-good c)
 
 -- behind the tests the range of the site is known
-range-of : (o : House) (own first end : ℕ) → ValidHouse o own → first ≡ firstKey o own → end ≡ endKey o own → RangeOf o own first end
+table : (c : tie.Else2) → (let o = house (c .before .before) .lent-house .result in GoodTable (o .sites) (o .firsts))
+table c = house-passed (house (c .before .before) .lent-house .result) (house-good (c .before .before)) .2
+
+range-of : (o : House) (own first end : ℕ) → ValidHouse o own → GoodTable (o .sites) (o .firsts) → first ≡ firstKey o own
+    → end ≡ endKey o own → (first ≤ end) × RangeOf o own first (end - first)
 unfolding inRange
-range-of o own first end v e f = rw (e, f) (v .range)
+range-of o own first end v t e f =
+    let (rises, low) = range-rises o own t (v .own-low) (v .own-high) in
+    let up : first ≤ end = rw (e, f) rises in
+    let same : first + (end - first) ≡ end = omega arith in
+    (up, record { here = rw (same, e, f) (v .range); low = rw (same, f) low })
 
 abbrev counted : tie.After-end-key → tie.Else2
 counted c = c .before .before
 
 ranged : (c : tie.After-end-key) →
-    (let o = house (counted c .before .before) in
-    RangeOf (o .lent-house .result) (start o .args .p .counters .own) (c .before .first-key .result) (c .end-key .result))
-ranged c = range-of _ _ _ _ (valid (counted c)) (c .before .first-key .ensures) (c .end-key .ensures)
+    (let o = house (counted c .before .before) in let first = c .before .first-key .result in let end = c .end-key .result in
+    (first ≤ end) × RangeOf (o .lent-house .result) (start o .args .p .counters .own) first (end - first))
+ranged c =
+    range-of _ _ _ _ (valid (counted c)) (table (counted c)) (c .before .first-key .ensures) (c .end-key .ensures)
 
 lent-house-requires : tie.Need-lent-house-requires
 lent-house-requires c κs = search needs
@@ -81,8 +91,11 @@ first-key-requires c κs = let v = valid c in (v .own-low, omega (arith, v .own-
 end-key-requires : tie.Need-end-key-requires
 end-key-requires c κs = valid (c .before) .few-sites
 
+sub-count : tie.Need-sub-count
+sub-count c = ranged c .0
+
 live-ok-requires : tie.Need-live-ok-requires
-live-ok-requires c κs = (valid (counted c), ranged c, lengths (counted c .before .before) .live)
+live-ok-requires c κs = (valid (counted c), ranged c .1, lengths (counted c .before .before) .live)
 
 returns-3 : tie.Need-returns-3
 unfolding siteOk
@@ -99,7 +112,7 @@ returns-3 c =
 history-ok-requires : tie.Need-history-ok-requires
 history-ok-requires c κs =
     let range = c .before .before in
-    (valid (counted range), ranged range, lengths (counted range .before .before) .history)
+    (valid (counted range), ranged range .1, lengths (counted range .before .before) .history)
 
 returns-4 : tie.Need-returns-4
 unfolding siteOk
@@ -127,6 +140,7 @@ site-ok-spec =
     returns-2
     first-key-requires
     end-key-requires
+    sub-count
     live-ok-requires
     returns-3
     history-ok-requires

@@ -32,7 +32,7 @@ few-wrote c = le-leb _ _ (c .if2 .left)
 
 reads-here : (c : tie.Else3) (o : House) (own : ℕ) →
     (let a = start (counts (c .before .before)) .args in let w = a .w .now in
-    RangeOf o own (a .first) (a .end)
+    RangeOf o own (a .first) (a .count)
     → keysAt o own (wordsFrom w (a .at + word.keysReads) sizes.reads) (getD w (a .at + word.keysRead) 0) ≡ true)
 reads-here c o own range = sym (c .before .keys-at-in .ensures o own range) ∙ not-false _ (c .if3 .left)
 
