@@ -4,6 +4,7 @@ mod streams;
 
 use kinds::Answer;
 use kinds::reason::MALFORMED;
+use kinds::sizes::SITES;
 use pieces::put;
 pub use sites::SiteDone;
 pub use sites::at_site;
@@ -14,7 +15,14 @@ pub use streams::at_copy;
 pub use streams::at_merger;
 use verbs::verb;
 
-// Lengths lent: the outgoing buffer, the live parts, the history, the base values, the gathered lists, the merger's queues, a copy.
+// Words of the table of first keys that starts are lent: one more than a house has, so that too many can be lent.
+pub const TABLE: usize = SITES + 1;
+
+// The length of a table that is as long as the number of sites at its start says.
+pub const AS_SITES: usize = TABLE + 1;
+
+// Lengths lent: the outgoing buffer, the live parts, the history, the base values, the gathered lists, the merger's queues, a copy,
+// and of a start the table of first keys.
 pub struct Lent {
     pub room: usize,
     pub live: usize,
@@ -23,6 +31,7 @@ pub struct Lent {
     pub lists: usize,
     pub queues: usize,
     pub copy: usize,
+    pub firsts: usize,
 }
 
 // What a call answered and wrote: whether the state and the lent tables are the same, the checksums of the outgoing buffer and

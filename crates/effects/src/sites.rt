@@ -25,12 +25,13 @@ pub struct SiteDone {
 fn start(
     p: Core,
     l: Line,
+    firsts: &[u64],
     live: &mut [u64],
     history: &mut [u64],
     base: &mut [u64],
     lists: &mut [u64],
 ) -> Reply {
-    let o = store::start_site(l.b, l.c, live, history, base, lists);
+    let o = store::start_site(l.b, firsts, l.c, live, history, base, lists);
     let answer = o.answer;
     if is_refused(answer) {
         return Reply {
@@ -55,6 +56,7 @@ fn search(p: Core, l: Line, live: &[u64], history: &[u64], base: &[u64]) -> Repl
 fn call(
     p: Core,
     l: Line,
+    firsts: &[u64],
     m: &[u64],
     live: &mut [u64],
     history: &mut [u64],
@@ -74,7 +76,7 @@ fn call(
         verb::MESSAGE => store::message(p, live, history, m, lists, out),
         verb::INSTALL => store::install(p, live, history, base, out),
         verb::REPORT => store::report(p, live, history, out),
-        _ => start(p, l, live, history, base, lists),
+        _ => start(p, l, firsts, live, history, base, lists),
     }
 }
 
@@ -93,6 +95,7 @@ fn obeyed(
     p: Core,
     l: Line,
     lent: Lent,
+    firsts: &[u64],
     m: &[u64],
     live: &mut [u64],
     history: &mut [u64],
@@ -106,6 +109,7 @@ fn obeyed(
     call(
         p,
         l,
+        firsts,
         m,
         front_mut(live, lent.live),
         front_mut(history, lent.history),
@@ -134,11 +138,12 @@ fn state_of(a: Answer, p: Core, live: &[u64], history: &[u64], base: &[u64]) -> 
     )
 }
 
-// Calls a site with its tables, and compares it before and after.
+// Calls a site with its tables, and compares it before and after. The first keys are what a start is lent.
 pub fn at_site(
     p: Core,
     l: Line,
     lent: Lent,
+    firsts: &[u64],
     m: &[u64],
     live: &mut [u64],
     history: &mut [u64],
@@ -148,7 +153,7 @@ pub fn at_site(
 ) -> SiteDone {
     let before = whole(p, live, history, base, lists);
     pattern(out);
-    let o = obeyed(p, l, lent, m, live, history, base, lists, out);
+    let o = obeyed(p, l, lent, firsts, m, live, history, base, lists, out);
     let q = o.core;
     let answer = o.answer;
     let after = whole(q, live, history, base, lists);

@@ -27,8 +27,8 @@ pub struct MergerDone {
     pub merger: Merger,
 }
 
-fn start(g: Merger, sites: u64, queues: &mut [u64]) -> MergerOut {
-    let o = store::start_merger(sites, queues);
+fn start(g: Merger, sites: u64, firsts: &[u64], queues: &mut [u64]) -> MergerOut {
+    let o = store::start_merger(sites, firsts, queues);
     let answer = o.answer;
     if is_refused(answer) {
         return MergerOut {
@@ -40,12 +40,19 @@ fn start(g: Merger, sites: u64, queues: &mut [u64]) -> MergerOut {
     o
 }
 
-fn merger_call(g: Merger, l: Line, m: &[u64], queues: &mut [u64], out: &mut [u64]) -> MergerOut {
+fn merger_call(
+    g: Merger,
+    l: Line,
+    firsts: &[u64],
+    m: &[u64],
+    queues: &mut [u64],
+    out: &mut [u64],
+) -> MergerOut {
     let v = l.verb;
     match v {
         verb::MERGE => store::merge(g, queues, m),
         verb::EMIT => store::emit(g, queues, out),
-        verb::OPEN => start(g, l.a, queues),
+        verb::OPEN => start(g, l.a, firsts, queues),
         _ => poke_merger(g, queues, l),
     }
 }
@@ -61,18 +68,19 @@ fn state_of(a: Answer, sum: u64) -> u64 {
     sum
 }
 
-// Calls the merger, and compares it before and after.
+// Calls the merger, and compares it before and after. The first keys are what a start is lent.
 pub fn at_merger(
     g: Merger,
     l: Line,
     lent: Lent,
+    firsts: &[u64],
     m: &[u64],
     queues: &mut [u64],
     out: &mut [u64],
 ) -> MergerDone {
     let before = whole(g, queues);
     pattern(out);
-    let o = merger_call(g, l, m, front_mut(queues, lent.queues), out);
+    let o = merger_call(g, l, firsts, m, front_mut(queues, lent.queues), out);
     let h = o.merger;
     let answer = o.answer;
     let after = whole(h, queues);

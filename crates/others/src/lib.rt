@@ -3,6 +3,7 @@ use effects::COPIES;
 use effects::COPY_PLACE;
 use effects::Done;
 use effects::SiteDone;
+use effects::TABLE;
 use effects::absent;
 use effects::at_copy;
 use effects::at_merger;
@@ -11,6 +12,7 @@ use hand::shaped;
 use hand::shown;
 use hand::store::STORE;
 use kinds::Core;
+use kinds::Key;
 use kinds::Merger;
 use kinds::sizes::HISTORY_WORDS;
 use kinds::sizes::KEYS;
@@ -22,6 +24,7 @@ use outcomes::ROOM;
 use outcomes::Work;
 use outcomes::all_lent;
 use outcomes::answered;
+use outcomes::first_keys;
 use outcomes::is_for_site;
 use outcomes::is_over;
 use outcomes::kept;
@@ -65,8 +68,9 @@ pub struct Waiting {
     pub merger: Merger,
 }
 
-fn start_merger(n: u64, queues: &mut [u64]) -> Merger {
-    let o = store::start_merger(n, front_mut(queues, QUEUES));
+fn start_merger(n: u64, firsts: [Key; TABLE], queues: &mut [u64]) -> Merger {
+    let words = first_keys(all_lent(), n);
+    let o = store::start_merger(n, front(&firsts, words), front_mut(queues, QUEUES));
     let g = o.merger;
     g
 }
@@ -74,13 +78,14 @@ fn start_merger(n: u64, queues: &mut [u64]) -> Merger {
 // Nothing in hand, nothing kept, every table lent whole.
 pub fn opened(w: Work, queues: &mut [u64; QUEUED]) -> Waiting {
     let lent = all_lent();
+    let firsts = w.firsts;
     let mut v = w;
     v.lent = lent;
     v.held = 0;
     v.kept = 0;
     Waiting {
         work: v,
-        merger: start_merger(w.sites, queues),
+        merger: start_merger(w.sites, firsts, queues),
     }
 }
 
@@ -96,10 +101,12 @@ fn to_merger(
     let g = v.merger;
     let l = w.line;
     let lent = w.lent;
+    let firsts = w.firsts;
     let o = at_merger(
         g,
         l,
         lent,
+        front(&firsts, first_keys(lent, l.a)),
         front(hand, w.held),
         queues,
         front_mut(out, lent.room),
@@ -230,10 +237,12 @@ fn in_place(
 {
     let l = w.line;
     let lent = w.lent;
+    let firsts = w.firsts;
     effects::at_site(
         p,
         l,
         lent,
+        front(&firsts, first_keys(lent, l.b)),
         front(hand, w.held),
         piece_mut(live, place * LIVE_PLACE, LIVE_PLACE),
         piece_mut(history, place * HISTORY_PLACE, HISTORY_PLACE),

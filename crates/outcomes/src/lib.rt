@@ -1,12 +1,14 @@
 // What stands around a probe's calls: a line is read, what a call wrote is kept, and its outcome printed.
+use effects::AS_SITES;
 use effects::COPY_PLACE;
 use effects::Done;
 use effects::Lent;
+use effects::TABLE;
 use effects::is_logged;
 use hand::store::keep_letters;
 use hand::store::keep_record;
 use kinds::Answer;
-use kinds::House;
+use kinds::Key;
 use kinds::sizes::HISTORY_WORDS;
 use kinds::sizes::KEYS;
 use kinds::sizes::LISTS;
@@ -14,6 +16,7 @@ use kinds::sizes::LIVE_WORDS;
 use kinds::sizes::OUTGOING;
 use kinds::sizes::QUEUES;
 use kinds::sizes::SITES;
+use numbers::table_ok;
 use pages::Filled;
 use pages::PAGE;
 use pages::is_refused;
@@ -36,7 +39,11 @@ use verbs::verb;
 // Words for the outgoing buffer, more than any call wants.
 pub const ROOM: usize = 8192;
 
+// The table of first keys at the beginning of a probe.
+const EVEN: [Key; TABLE] = [0, 256, 512, 768, 1024, 1280, 1536, 1792, 2048];
+
 // A probe under way: `state` is LINE until it ends, and then says why; `held` words are in hand, `kept` of the store are used.
+// `firsts` is the table that starts are lent, of whatever house.
 pub struct Work {
     pub input: Input,
     pub event: u64,
@@ -47,6 +54,7 @@ pub struct Work {
     pub held: usize,
     pub kept: usize,
     pub sites: u64,
+    pub firsts: [Key; TABLE],
 }
 
 // Every table as long as it should be.
@@ -59,6 +67,7 @@ pub fn all_lent() -> Lent {
         lists: LISTS,
         queues: QUEUES,
         copy: kinds::sizes::COPY,
+        firsts: AS_SITES,
     }
 }
 
@@ -73,6 +82,7 @@ pub fn begun(fd: i32) -> Work {
         held: 0,
         kept: 0,
         sites: 1,
+        firsts: EVEN,
     }
 }
 
@@ -91,12 +101,23 @@ pub fn is_for_site(w: Work) -> bool {
     l.group == SITE
 }
 
-// A house has 1 to 8 sites; else the line is a remark.
-fn opened(l: Line) -> Line {
+// Whether a house of n sites starts with the first n words of the table (Q3.3).
+fn starts(n: u64, firsts: [Key; TABLE]) -> bool {
+    if n < 1 {
+        return false;
+    }
+    if n > SITES as u64 {
+        return false;
+    }
+    table_ok(n, &firsts)
+}
+
+// Where a house does not start, its line is a remark.
+fn opened(l: Line, firsts: [Key; TABLE]) -> Line {
     if l.group != HOUSE {
         return l;
     }
-    if numbers::house_ok(House { sites: l.a }) {
+    if starts(l.a, firsts) {
         return l;
     }
     let mut m = l;
@@ -120,7 +141,8 @@ pub fn read_line(w: Work, text: &mut [u8; TEXT]) -> Work {
     let r = next_scan(text, before);
     let input = r.input;
     let s = r.scan;
-    let l = opened(told(s));
+    let firsts = w.firsts;
+    let l = opened(told(s), firsts);
     let mut v = w;
     v.input = input;
     v.event = std::num::wrapping_add_u64(w.event, 1);
@@ -238,6 +260,10 @@ fn lend(lent: Lent, verb: u64, n: u64) -> Lent {
             t.queues = least(n, QUEUES + 1);
             t
         }
+        verb::TABLES => {
+            t.firsts = least(n, TABLE);
+            t
+        }
         _ => {
             t.copy = least(n, COPY_PLACE);
             t
@@ -245,13 +271,39 @@ fn lend(lent: Lent, verb: u64, n: u64) -> Lent {
     }
 }
 
+// Sets word i, from 1, of the table of first keys. Another i sets nothing.
+fn with_first(w: Work, i: u64, key: Key) -> Work {
+    if i < 1 {
+        return w;
+    }
+    if i > TABLE as u64 {
+        return w;
+    }
+    let at = (i - 1) as usize;
+    let mut v = w;
+    v.firsts[at] = key;
+    v
+}
+
 pub fn lent_anew(w: Work) -> Work {
     let l = w.line;
+    if l.verb == verb::TABLE {
+        return with_first(w, l.a, l.b);
+    }
     let lent = w.lent;
     let t = lend(lent, l.verb, l.a);
     let mut v = w;
     v.lent = t;
     v
+}
+
+// How many words of the table a start with so many sites is lent.
+pub fn first_keys(lent: Lent, sites: u64) -> usize {
+    let n = lent.firsts;
+    if n <= TABLE {
+        return n;
+    }
+    least(sites, TABLE)
 }
 
 // The place of the site that a line names; SITES where the house lacks it.

@@ -1,7 +1,9 @@
 // A probe from its first line to its last.
+use effects::TABLE;
 use hand::HAND;
 use hand::store::STORE;
 use kinds::Core;
+use kinds::Key;
 use kinds::sizes::HISTORY_WORDS;
 use kinds::sizes::KEYS;
 use kinds::sizes::LISTS;
@@ -19,9 +21,12 @@ use others::opened;
 use others::settled;
 use outcomes::ROOM;
 use outcomes::Work;
+use outcomes::all_lent;
+use outcomes::first_keys;
 use outcomes::is_over;
 use outcomes::place_of;
 use pages::PAGE;
+use pieces::front;
 use script::LINE;
 use script::TEXT;
 ghost use mathlib.Core.Path.{_≡_};
@@ -29,26 +34,35 @@ ghost use lib.ListN.{length};
 ghost use Rattle.kinds.specs.Sizes as sizes;
 
 // A fresh core; the words of a fresh site are zeros.
-fn start_at(n: u64, place: usize) -> Core {
+fn start_at(n: u64, firsts: [Key; TABLE], place: usize) -> Core {
     let mut live = [0u64; LIVE_WORDS];
     let mut history = [0u64; HISTORY_WORDS];
     let mut base = [0u64; KEYS];
     let mut lists = [0u64; LISTS];
     let own = std::num::wrapping_add_u64(place as u64, 1);
-    let o = store::start_site(n, own, &mut live, &mut history, &mut base, &mut lists);
+    let words = first_keys(all_lent(), n);
+    let o = store::start_site(
+        n,
+        front(&firsts, words),
+        own,
+        &mut live,
+        &mut history,
+        &mut base,
+        &mut lists,
+    );
     let p = o.core;
     p
 }
 
-// Every site of a house of n. A place that the house lacks holds what a refused start hands back; no line goes there.
-fn start_sites(n: u64) -> [Core; SITES]
+// Every site of a house of n with the first n words of the table. A place that the house lacks holds what a refused start hands back; no line goes there.
+fn start_sites(n: u64, firsts: [Key; TABLE]) -> [Core; SITES]
     ensures { λ r. ⌜ length r ≡ sizes.sites ⌝ }
 {
-    let first = start_at(n, 0);
+    let first = start_at(n, firsts, 0);
     let mut sites = [first; SITES];
     let mut i: usize = 1;
     while i < SITES {
-        let p = start_at(n, i);
+        let p = start_at(n, firsts, i);
         sites[i] = p;
         i += 1;
     }
@@ -66,7 +80,8 @@ fn one_house(w: Work, text: &mut [u8; TEXT], page: &mut [u8; PAGE]) -> Work {
     let mut store = [0u64; STORE];
     let mut hand = [0u64; HAND];
     let mut out = [0u64; ROOM];
-    let mut sites = start_sites(w.sites);
+    let firsts = w.firsts;
+    let mut sites = start_sites(w.sites, firsts);
     let mut u = opened(w, &mut queues);
     let mut left = u64::MAX;
     while left > 0 {
