@@ -143,9 +143,9 @@ pub fn take_at(
     take_in_place(p, place, live, history, lists, front(m, n), out)
 }
 
-// A fresh site of a house of n.
+// A fresh site of a house, started with the house's first keys (Q3.8).
 fn start_at(
-    n: u64,
+    house: House,
     place: usize,
     live: &mut [u64],
     history: &mut [u64],
@@ -153,14 +153,18 @@ fn start_at(
     lists: &mut [u64],
 ) -> Core
     requires { ⌜ (place < sizes.sites) × Tables (now live) (now history) (now base) (now lists) ⌝ }
-    ensures { λ r. ⌜ r ≡ pick (eqb (startCode n (place + 1) sizes.keys sizes.lists) 0) (freshCore n (place + 1)) (freshCore 0 0) ⌝ }
+    ensures { λ r. ⌜ r ≡ pick (eqb (startCode (house .sites) (firstsOf house) (place + 1) sizes.keys sizes.lists) 0)
+        (freshCore (houseOf (house .sites) (firstsOf house)) (place + 1)) (freshCore noHouse 0) ⌝ }
 {
+    let n = house.sites;
+    let firsts = house.firsts;
     let a = place * KEYS;
     let b = place * LISTS;
     let x = place * LIVE_WORDS;
     let y = place * HISTORY_WORDS;
     let o = store::start_site(
         n,
+        front(&firsts, n as usize),
         place as u64 + 1,
         &mut live[x..x + LIVE_WORDS],
         &mut history[y..y + HISTORY_WORDS],
@@ -171,9 +175,9 @@ fn start_at(
     p
 }
 
-// Every site of a house of n. A place that the house lacks holds what a refused start hands back; no line goes there.
+// Every site of a house. A place that the house lacks holds what a refused start hands back; no line goes there.
 pub fn start_sites(
-    n: u64,
+    house: House,
     live: &mut [u64],
     history: &mut [u64],
     base: &mut [u64],
@@ -182,11 +186,11 @@ pub fn start_sites(
     requires { ⌜ Tables (now live) (now history) (now base) (now lists) ⌝ }
     ensures { λ r. ⌜ length r ≡ sizes.sites ⌝ }
 {
-    let first = start_at(n, 0, live, history, base, lists);
+    let first = start_at(house, 0, live, history, base, lists);
     let mut sites = [first; SITES];
     let mut i: usize = 1;
     while i < SITES {
-        let p = start_at(n, i, live, history, base, lists);
+        let p = start_at(house, i, live, history, base, lists);
         sites[i] = p;
         i += 1;
     }

@@ -15,18 +15,21 @@ use kinds::sizes::OUTGOING;
 use kinds::sizes::QUEUES;
 use kinds::sizes::SITES;
 use lines::Command;
+use lines::Scan;
 use pages::PAGE;
 use routing::Play;
 use routing::answered;
 use routing::ended;
 use routing::next_ask;
+use routing::open::open_code;
+use routing::open::open_house;
 use routing::route::MERGER;
 use routing::settled;
 use routing::shown;
 use script::Input;
 use script::LINE;
 use script::TEXT;
-use script::next_line;
+use script::next_scan;
 use spool::ITEM;
 use spool::STORE;
 use stream::ALL_COPIES;
@@ -38,15 +41,19 @@ ghost use mathlib.Core.Path.{_≡_};
 ghost use lib.ListN.{length};
 ghost use Rattle.kinds.specs.Sizes as sizes;
 
-// What a line before an accepted `sites` leaves: the house, once it is accepted. A `sites` that gives first keys is refused.
-fn opened(d: Play, c: Command, page: &mut [u8; PAGE]) -> Play {
+// What a line before an accepted `sites` leaves: the house, once it is accepted. A refused `sites` leaves the next one possible.
+fn opened(d: Play, s: Scan, page: &mut [u8; PAGE]) -> Play {
+    let c = lines::told(s);
     if let Command::Sites(n, given) = c {
-        let house = House { sites: n };
-        if given == 0 && numbers::house_ok(house) {
-            let mut e = d;
-            e.house = house;
-            return answered(e, page, Answer::Done);
+        let keys = lines::table(s);
+        let code = open_code(n, given, keys);
+        if code != 0 {
+            return answered(d, page, Answer::Refused(code));
         }
+        let house = open_house(n, given, keys);
+        let mut e = d;
+        e.house = house;
+        return answered(e, page, Answer::Done);
     }
     answered(d, page, Answer::Refused(MALFORMED))
 }
@@ -57,22 +64,25 @@ fn opening(d: Play, text: &mut [u8; TEXT], page: &mut [u8; PAGE]) -> Play {
         return s;
     }
     let before = s.input;
-    let line = next_line(text, before);
+    let line = next_scan(text, before);
     let input = line.input;
-    let c = line.command;
+    let scan = line.scan;
     let mut e = s;
     e.input = input;
     e.event = std::num::wrapping_add_u64(s.event, 1);
     if line.found != LINE {
         return ended(e, line.found);
     }
-    opened(e, c, page)
+    opened(e, scan, page)
 }
 
 // Reads up to an accepted `sites`.
 fn until_sites(fd: i32, text: &mut [u8; TEXT], page: &mut [u8; PAGE]) -> Play {
     let mut d = Play {
-        house: House { sites: 0 },
+        house: House {
+            sites: 0,
+            firsts: [0; SITES],
+        },
         input: Input { fd, at: 0, end: 0 },
         event: 0,
         used: 0,
@@ -164,9 +174,9 @@ fn rest(
     let mut lists = [0u64; GATHERINGS];
     let mut queues = [0u64; QUEUES];
     let mut tables = [0u64; ALL_COPIES];
-    let n = d.house.sites;
-    let sites = start_sites(n, &mut live, &mut history, &mut base, &mut lists);
-    let g = start_merger(n, &mut queues);
+    let house = d.house;
+    let sites = start_sites(house, &mut live, &mut history, &mut base, &mut lists);
+    let g = start_merger(house, &mut queues);
     start_copies(&mut tables);
     turns(
         d,

@@ -1,18 +1,18 @@
 // A part's keys in words: from word `o` on the counts, the keys read, the keys written and their values. They are read where they lie.
-use kinds::House;
 use kinds::Key;
 use kinds::Value;
 use kinds::sizes::READS;
 use kinds::sizes::WRITES;
 use kinds::word;
-use numbers::home_of;
 ghost use mathlib.Core.Path.{_≡_};
-ghost use Prim.Native.Nat.{_+_, _≤_};
+ghost use Prim.Native.Nat.{ℕ, _+_, _≤_};
 ghost use lib.ListN.{length};
 ghost use Rattle.kinds.specs.Sizes as sizes;
+ghost use Rattle.kinds.specs.declared.House.{House};
 ghost use Rattle.rules.specs.Keys.{keyPlace, wroteKey, wroteValue, keysAt, keysOk};
 ghost use Rattle.lent.specs.Layout.{wordsFrom, keysFrom};
 ghost use Rattle.lent.specs.Read.{Wrote};
+ghost use Rattle.keys.specs.Range.{RangeOf};
 
 // The place of `k` among the first `n` words from word `at` on, or `n`.
 fn key_place_in(w: &[u64], at: usize, n: usize, k: Key) -> usize
@@ -48,15 +48,18 @@ pub fn wrote_value_in(w: &[u64], o: usize, k: Key) -> Value
     w[o + word::KEYS_VALUES + place]
 }
 
-// Whether the first `n` words from word `at` on are keys of site `own`.
-fn keys_at_in(o: House, own: u64, w: &[u64], at: usize, n: usize) -> bool
+// Whether the first `n` words from word `at` on are keys from `first` up to `end`, the range of a site (Q3.1).
+fn keys_at_in(first: Key, end: Key, w: &[u64], at: usize, n: usize) -> bool
     requires { ⌜ (n ≤ sizes.writes) × (at + sizes.writes ≤ length (now w)) ⌝ }
-    ensures { λ r. ⌜ r ≡ keysAt o own (wordsFrom (now (w .entry)) at sizes.writes) n ⌝ }
+    ensures { λ r. ⌜ ((o : House) (own : ℕ) → RangeOf o own first end → r ≡ keysAt o own (wordsFrom (now (w .entry)) at sizes.writes) n) ⌝ }
 {
     let mut i: usize = 0;
     while i < n {
-        let site = home_of(o, w[at + i]);
-        if site != own {
+        let key = w[at + i];
+        if key < first {
+            return false;
+        }
+        if end <= key {
             return false;
         }
         i += 1;
@@ -64,10 +67,10 @@ fn keys_at_in(o: House, own: u64, w: &[u64], at: usize, n: usize) -> bool
     true
 }
 
-// Whether the counts are within the sizes, and the keys are of site `own`.
-pub fn keys_ok_in(o: House, own: u64, w: &[u64], at: usize) -> bool
+// Whether the counts are within the sizes, and the keys are of the site whose range is from `first` up to `end`.
+pub fn keys_ok_in(first: Key, end: Key, w: &[u64], at: usize) -> bool
     requires { ⌜ at + sizes.keyset ≤ length (now w) ⌝ }
-    ensures { λ r. ⌜ r ≡ keysOk o own (keysFrom (now (w .entry)) at) ⌝ }
+    ensures { λ r. ⌜ ((o : House) (own : ℕ) → RangeOf o own first end → r ≡ keysOk o own (keysFrom (now (w .entry)) at)) ⌝ }
 {
     let read = w[at + word::KEYS_READ] as usize;
     let wrote = w[at + word::KEYS_WROTE] as usize;
@@ -77,8 +80,8 @@ pub fn keys_ok_in(o: House, own: u64, w: &[u64], at: usize) -> bool
     if WRITES < wrote {
         return false;
     }
-    if !keys_at_in(o, own, w, at + word::KEYS_READS, read) {
+    if !keys_at_in(first, end, w, at + word::KEYS_READS, read) {
         return false;
     }
-    keys_at_in(o, own, w, at + word::KEYS_WRITES, wrote)
+    keys_at_in(first, end, w, at + word::KEYS_WRITES, wrote)
 }

@@ -2,12 +2,12 @@
 use Prim.Native.Nat.{ℕ, _+_, _*_, _<_}
 use mathlib.Core.Path.{_≡_, sym, ap, _∙_}
 use mathlib.Core.List.{List, [], _∷_, _++_}
-use mathlib.Core.Bool.{Bool, true}
+use mathlib.Core.Bool.{true}
 use native.Mathlib.Omega.{arith}
 use borrow.Author.Tests.{eqb-true}
 use lib.ListN.{getD, set, length}
 use lib.Dec.{eqb}
-use Rattle.laws.specs.Choice.{every, every-at, by-test}
+use Rattle.laws.specs.Choice.{every-at, by-test}
 use Rattle.laws.specs.Overlay.{putAt}
 use Rattle.kinds.specs.Sizes as sizes
 use Rattle.kinds.specs.Word as word
@@ -17,12 +17,12 @@ use Rattle.kinds.specs.declared.Core.{Core}
 use Rattle.kinds.specs.declared.Sub.{Sub}
 use Rattle.kinds.specs.declared.Entry.{Entry}
 use Rattle.kinds.specs.State.{pastSeat, pastSub, pastEntry}
-use Rattle.rules.specs.House.{houseOk}
+use Rattle.rules.specs.House.{countOk, houseOk}
 use Rattle.rules.specs.Valid.{siteOk}
 use Rattle.lent.specs.Rows.{rows, rows-at, rows-length, rows-same, rows-read, rows-append, flat-rows, flat-set}
 use Rattle.lent.specs.Layout.{wordsFrom, keysFrom, subFrom, entryFrom, liveOf, historyOf, keysWords, placeWords, slotWords}
 use Rattle.lent.specs.Layout.{liveWords, historyWords}
-use Rattle.lent.specs.Lent.{lentHouse, siteOf}
+use Rattle.lent.specs.Lent.{lentOk, lentHouse, siteOf}
 
 -- the part at a place, the install in a slot
 pub live-at : (seats : List Seat) (w : List ℕ) (i : ℕ) → i < sizes.live
@@ -47,19 +47,22 @@ pub record Lengths (w h : List ℕ) : Type 0 where
   pub live : length w ≡ sizes.liveWords
   pub history : length h ≡ sizes.historyWords
 
-abbrev right : List ℕ → List ℕ → List Bool
-right w h = eqb (length w) sizes.liveWords ∷ eqb (length h) sizes.historyWords ∷ []
+pub lengths-of : (w h : List ℕ) → lentOk (length w) (length h) ≡ true → Lengths w h
+unfolding lentOk
+lengths-of w h t =
+    let right = eqb (length w) sizes.liveWords ∷ eqb (length h) sizes.historyWords ∷ [] in
+    record { live = eqb-true _ _ (every-at right 0 t); history = eqb-true _ _ (every-at right 1 t) }
 
 pub lent-lengths : (p : Core) (w h : List ℕ) → siteOk (siteOf p w h) ≡ true → Lengths w h
-unfolding siteOk lentHouse houseOk
+unfolding siteOk lentHouse houseOk countOk
 lent-lengths p w h e =
-    by-test (every (right w h))
-    (λ t. record { live = eqb-true _ _ (every-at (right w h) 0 t); history = eqb-true _ _ (every-at (right w h) 1 t) })
+    by-test (lentOk (length w) (length h))
+    (λ t. lengths-of w h t)
     (λ f. absurd (let z = rw f at e in let y : _≡_ {A = ℕ} 0 1 = cc in omega arith))
 
 -- words of the right lengths leave the house as it is
 pub lent-house : (o : House) (w h : List ℕ) → Lengths w h → lentHouse o (length w) (length h) ≡ o
-unfolding lentHouse
+unfolding lentHouse lentOk
 lent-house o w h l = rw (l .live, l .history)
 
 -- Words in two parts, and the words of what is read from words.

@@ -2,6 +2,7 @@
 use Prim.Native.Nat.{ℕ}
 use mathlib.Core.Path.{_≡_}
 use mathlib.Core.List.{List, [], _∷_}
+use mathlib.Core.Bool.{Bool}
 use lib.ListN.{length}
 use lib.Dec.{eqb}
 use Rattle.laws.specs.Choice.{pick, every}
@@ -10,13 +11,22 @@ use Rattle.kinds.specs.declared.House.{House}
 use Rattle.kinds.specs.declared.Core.{Core}
 use Rattle.kinds.specs.declared.Reply.{Reply}
 use Rattle.kinds.specs.declared.Site.{Site}
+use Rattle.rules.specs.House.{noHouse}
 use Rattle.rules.specs.Effect.{Effect}
 use Rattle.lent.specs.Rows.{each}
 use Rattle.lent.specs.Layout.{liveOf, historyOf, seatOf, liveWords, historyWords}
 
--- words of another length than the tables' make the house impossible, so that every call refuses 2
+-- the lengths of the tables' words
+unfoldable pub lentOk : ℕ → ℕ → Bool
+lentOk live history = every (eqb live sizes.liveWords ∷ eqb history sizes.historyWords ∷ [])
+
+-- words of another length make the house impossible, so that every call refuses 2,
 unfoldable pub lentHouse : House → ℕ → ℕ → House
-lentHouse o live history = pick (every (eqb live sizes.liveWords ∷ eqb history sizes.historyWords ∷ [])) o (record { sites = 0 })
+lentHouse o live history = pick (lentOk live history) o noHouse
+
+-- and the number of sites at a start
+unfoldable pub lentSites : ℕ → ℕ → ℕ → ℕ
+lentSites sites live history = pick (lentOk live history) sites 0
 
 -- the site that a core and its words are
 abbrev pub siteOf : Core → List ℕ → List ℕ → Site

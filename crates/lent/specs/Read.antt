@@ -2,34 +2,39 @@
 use Prim.Native.Nat.{ℕ, _+_, _*_, _≤_, _<_}
 use mathlib.Core.Path.{_≡_, refl, sym, ap}
 use mathlib.Core.Bool.{true, false}
-use mathlib.Core.List.{List, [], _∷_}
+use mathlib.Core.List.{List}
 use native.Mathlib.Omega.{arith}
-use borrow.Author.Tests.{eqb-true}
 use lib.ListN.{getD, length}
-use lib.Dec.{eqb}
-use Rattle.laws.specs.Choice.{every, every-at, by-test, set-not}
+use Rattle.laws.specs.Choice.{by-test, set-not}
 use Rattle.kinds.specs.Sizes as sizes
 use Rattle.kinds.specs.Word as word
 use Rattle.kinds.specs.declared.House.{House}
 use Rattle.kinds.specs.declared.Seat.{Seat}
 use Rattle.kinds.specs.declared.Sub.{Sub}
 use Rattle.kinds.specs.State.{pastSub, pastEntry}
-use Rattle.rules.specs.House.{houseOk}
+use Rattle.rules.specs.House.{countOk, houseOk}
 use Rattle.rules.specs.Keys.{wroteKey}
 use Rattle.rules.specs.History.{forgotten, slotOf, recall}
 use Rattle.rules.specs.HistoryLaws.{slot-low}
 use Rattle.lent.specs.Rows.{rows-at}
 use Rattle.lent.specs.Layout.{wordsFrom, keysFrom, subFrom, entryFrom, liveOf, historyOf}
-use Rattle.lent.specs.Lent.{lentHouse}
-use Rattle.lent.specs.Laws.{Lengths, live-at, history-at}
+use Rattle.lent.specs.Lent.{lentOk, lentHouse, lentSites}
+use Rattle.lent.specs.Laws.{Lengths, lengths-of, live-at, history-at}
 
--- words of another length make no house
+-- words of another length make no house,
 pub house-lengths : (o : House) (w h : List ℕ) → houseOk (lentHouse o (length w) (length h)) ≡ true → Lengths w h
-unfolding lentHouse houseOk
+unfolding lentHouse houseOk countOk
 house-lengths o w h e =
-    let lengths = eqb (length w) sizes.liveWords ∷ eqb (length h) sizes.historyWords ∷ [] in
-    by-test (every lengths)
-    (λ t. record { live = eqb-true _ _ (every-at lengths 0 t); history = eqb-true _ _ (every-at lengths 1 t) })
+    by-test (lentOk (length w) (length h))
+    (λ t. lengths-of w h t)
+    (λ f. absurd (set-not false (rw f at e) refl))
+
+-- and leave a start no sites
+pub count-lengths : (sites : ℕ) (w h : List ℕ) → countOk (lentSites sites (length w) (length h)) ≡ true → Lengths w h
+unfolding lentSites countOk
+count-lengths sites w h e =
+    by-test (lentOk (length w) (length h))
+    (λ t. lengths-of w h t)
     (λ f. absurd (set-not false (rw f at e) refl))
 
 -- word i of n from word o on

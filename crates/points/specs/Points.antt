@@ -20,7 +20,7 @@ use Rattle.rules.specs.Access.{readOf, writeOf, searchOf}
 use Rattle.rules.specs.Install.{freshSite, installOf, reportOf}
 use Rattle.rules.specs.Merger.{emitOf}
 use Rattle.said.specs.Said.{Said, ok, abort, no, saidOf}
-use Rattle.points.specs.States.{queued, queueOf, queueing, wrote, read, versions, merging, headWords}
+use Rattle.points.specs.States.{evenHouse, queued, queueOf, queueing, wrote, read, versions, merging, headWords}
 
 -- the numbers of an answer: 0 and what follows `ok`, 1 and the reason of an abort, 2 and the cause of a refusal
 unfoldable pub numbersOf : Said → List ℕ
@@ -48,9 +48,10 @@ installs live = said (installOf (queueing live) sizes.part (replicate sizes.keys
 unfoldable pub points : List Point
 points =
     point (homeOf wholeHouse 255 ∷ homeOf wholeHouse 256 ∷ homeOf wholeHouse 2047 ∷ []) (1 ∷ 2 ∷ 8 ∷ [])
-    ∷ point (said (readOf (freshSite 8 8) (replicate sizes.keys 0) 34359738369 2048 .answer)) (2 ∷ 2 ∷ [])
-    ∷ point (said (beginOf (freshSite 2 1) desk.house .answer)) (0 ∷ 4294967297 ∷ [])
-    ∷ point (said (beginOf (freshSite 2 2) desk.house .answer)) (0 ∷ 8589934593 ∷ [])
+    ∷ point (homeOf (evenHouse 2) 512 ∷ homeOf (evenHouse 2) 255 ∷ []) (2 ∷ 1 ∷ [])
+    ∷ point (said (readOf (freshSite wholeHouse 8) (replicate sizes.keys 0) 34359738369 2048 .answer)) (2 ∷ 2 ∷ [])
+    ∷ point (said (beginOf (freshSite (evenHouse 2) 1) desk.house .answer)) (0 ∷ 4294967297 ∷ [])
+    ∷ point (said (beginOf (freshSite (evenHouse 2) 2) desk.house .answer)) (0 ∷ 8589934593 ∷ [])
     ∷ point (yes (precedes 16777216 2 16777217 1)) (1 ∷ [])
     ∷ point (yes (precedes 7 1 7 2)) (1 ∷ [])
     ∷ point (bitOr (maskOf 1) (maskOf 3) ∷ []) (5 ∷ [])

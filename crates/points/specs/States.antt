@@ -6,15 +6,20 @@ use Rattle.kinds.specs.Sizes as sizes
 use Rattle.kinds.specs.Stage as stage
 use Rattle.kinds.specs.Desk as desk
 use Rattle.kinds.specs.Kind as kind
+use Rattle.kinds.specs.declared.House.{House}
 use Rattle.kinds.specs.declared.Keys.{Keys}
 use Rattle.kinds.specs.declared.Sub.{Sub}
 use Rattle.kinds.specs.declared.Entry.{Entry}
 use Rattle.kinds.specs.declared.Site.{Site}
 use Rattle.kinds.specs.declared.Merger.{Merger}
 use Rattle.kinds.specs.State.{noSub, noKeys, noEntry}
-use Rattle.rules.specs.House.{txOf}
+use Rattle.rules.specs.House.{houseOf, evenTable, txOf}
 use Rattle.rules.specs.Record.{recordWords}
 use Rattle.rules.specs.Merger.{pastSource}
+
+-- a house of n sites with the even table
+abbrev pub evenHouse : ℕ → House
+evenHouse n = houseOf n (evenTable n)
 
 -- a queue entry of coordinator c, open at a mark or decided with a number
 unfoldable pub queued : ℕ → ℕ → ℕ → Sub
@@ -35,7 +40,7 @@ queueOf a b = set (set (replicate sizes.live noSub) 0 a) 1 b
 unfoldable pub queueing : List Sub → Site
 queueing live =
     record {
-      house = record { sites = 2 };
+      house = evenHouse 2;
       counters = record { own = 1; clock = 9; serial = 1; installs = 0 };
       channels = record { sent = replicate sizes.sites 0; taken = replicate sizes.sites 0 };
       live = live;
@@ -68,7 +73,7 @@ installed n b = record { tx = txOf 1 n; mask = 1; number = n; keys = b }
 unfoldable pub versions : Site
 versions =
     record {
-      house = record { sites = 1 };
+      house = evenHouse 1;
       counters = record { own = 1; clock = 4; serial = 5; installs = 4 };
       channels = record { sent = replicate sizes.sites 0; taken = replicate sizes.sites 0 };
       live =
@@ -89,7 +94,7 @@ versions =
 unfoldable pub merging : ℕ → Merger
 merging n =
     record {
-      house = record { sites = 2 };
+      house = evenHouse 2;
       sources =
           set (set (replicate sizes.sites pastSource) 0 (record { state = 0; number = 5; coordinator = 1; queued = 1 })) 1
           (record { state = n; number = 0; coordinator = 0; queued = 0 });

@@ -1,1 +1,2 @@
 pub mod Route
+pub mod Open

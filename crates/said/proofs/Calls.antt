@@ -40,10 +40,10 @@ use Rattle.said.proofs.Taken.{Taken, says, Takes, past, MergerTakes, pa
 use Rattle.said.proofs.Decisions.{commit-taken, message-taken}
 
 -- A site.
-start-taken : (sites own base lists : ℕ) → Taken (startOf sites own base lists .answer) (ok [])
+start-taken : (sites : ℕ) (table : List ℕ) (own base lists : ℕ) → Taken (startOf sites table own base lists .answer) (ok [])
 unfolding saidOf startOf
-start-taken sites own base lists =
-    by-test (eqb (startCode sites own base lists) 0) (λ e. rw e (λ f. refl)) (λ e. rw e (λ f. absurd (set-not _ refl f)))
+start-taken sites table own base lists =
+    by-test (eqb (startCode sites table own base lists) 0) (λ e. rw e (λ f. refl)) (λ e. rw e (λ f. absurd (set-not _ refl f)))
 
 begin-taken : (s : Site) (d : ℕ) → Takes (beginOf s d) (ok (nextTx (s .counters) ∷ []))
 unfolding saidOf beginOf begun
@@ -109,10 +109,10 @@ unfolding saidOf reportOf reportSaid
 report-taken s room = past (reportCode (siteOk s) room) s [] _ _ (record { said = λ r. refl })
 
 -- The merger.
-merger-start-taken : (sites : ℕ) (queues : List ℕ) → Taken (mergerStartOf sites queues .answer) (ok [])
+merger-start-taken : (sites : ℕ) (table queues : List ℕ) → Taken (mergerStartOf sites table queues .answer) (ok [])
 unfolding saidOf mergerStartOf
-merger-start-taken sites queues =
-    by-test (eqb (mergerStartCode sites (length queues)) 0) (λ e. rw e (λ f. refl)) (λ e. rw e (λ f. absurd (set-not _ refl f)))
+merger-start-taken sites table queues =
+    by-test (eqb (mergerStartCode sites table (length queues)) 0) (λ e. rw e (λ f. refl)) (λ e. rw e (λ f. absurd (set-not _ refl f)))
 
 merge-taken : (g : Merger) (queues m : List ℕ) → MergerTakes (mergeOf g queues m) (ok [])
 unfolding saidOf mergeOf mergePart mergeState
@@ -147,7 +147,7 @@ value-taken copy k = by-test (eqb (valueCode copy k) 0) (λ e. rw e (λ f. refl)
 pub calls-say : Says
 calls-say =
     record {
-      site-starts = λ n o b l. says _ _ _ (start-by n o b l) (start-taken n o b l);
+      site-starts = λ n t o b l. says _ _ _ (start-by n t o b l) (start-taken n t o b l);
       begins = λ s d. says _ _ _ (begin-by s d) (begin-taken s d .said);
       enlists = λ s r t n. says _ _ _ (enlist-by s r t n) (enlist-taken s r t n .said);
       reads = λ s b t k. says _ _ _ (read-by s b t k) (read-taken s b t k .said);
@@ -158,7 +158,7 @@ calls-say =
       takes = λ s r l m. says _ _ _ (message-by s r l m) (message-taken s r l m .said);
       installs = λ s r b. says _ _ _ (install-by s r b) (install-taken s r b .said);
       reports = λ s r. says _ _ _ (report-by s r) (report-taken s r .said);
-      merger-starts = λ n q. says _ _ _ (merger-start-by n q) (merger-start-taken n q);
+      merger-starts = λ n t q. says _ _ _ (merger-start-by n t q) (merger-start-taken n t q);
       merges = λ g q m. says _ _ _ (merge-by g q m) (merge-taken g q m .said);
       emits = λ g r q. says _ _ _ (emit-by g r q) (emit-taken g r q .said);
       copy-starts = λ c. says _ _ _ (copy-start-by c) (copy-start-taken c);

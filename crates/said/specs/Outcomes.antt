@@ -60,8 +60,8 @@ valueSaid copy k = ok (copyValue copy k ∷ copyNumber copy ∷ copyCoordinator 
 
 -- Each call's answer, which its contract gives by the rule cited here, says its first cause of refusal, else just that.
 pub record Says : Type 0 where
-  pub site-starts : (sites own base lists : ℕ)
-      → saidOf (startOf sites own base lists .answer) ≡ unlessFirst (startCauses sites own base lists) (ok [])
+  pub site-starts : (sites : ℕ) (table : List ℕ) (own base lists : ℕ)
+      → saidOf (startOf sites table own base lists .answer) ≡ unlessFirst (startCauses sites table own base lists) (ok [])
   pub begins : (s : Site) (d : ℕ) → saidOf (beginOf s d .answer) ≡ unlessFirst (beginHas s d) (ok (nextTx (s .counters) ∷ []))
   pub enlists : (s : Site) (room tx site : ℕ) → saidOf (enlistOf s room tx site .answer) ≡ unlessFirst (enlistHas s room tx site) (ok [])
   pub reads : (s : Site) (base : List Value) (tx k : ℕ)
@@ -78,8 +78,8 @@ pub record Says : Type 0 where
   pub installs : (s : Site) (room : ℕ) (base : List Value)
       → saidOf (installOf s room base .answer) ≡ unlessFirst (installHas s room base) (installSaid s)
   pub reports : (s : Site) (room : ℕ) → saidOf (reportOf s room .answer) ≡ unlessFirst (reportCauses (siteOk s) room) (reportSaid s)
-  pub merger-starts : (sites : ℕ) (queues : List ℕ)
-      → saidOf (mergerStartOf sites queues .answer) ≡ unlessFirst (mergerStartCauses sites (length queues)) (ok [])
+  pub merger-starts : (sites : ℕ) (table queues : List ℕ)
+      → saidOf (mergerStartOf sites table queues .answer) ≡ unlessFirst (mergerStartCauses sites table (length queues)) (ok [])
   pub merges : (g : Merger) (queues m : List ℕ) → saidOf (mergeOf g queues m .answer) ≡ unlessFirst (mergeHas g queues m) (ok [])
   pub emits : (g : Merger) (room : ℕ) (queues : List ℕ)
       → saidOf (emitOf g room queues .answer) ≡ unlessFirst (emitHas g room queues) (emitSaid g queues)

@@ -1,5 +1,6 @@
 // A line as a call of the merger, or of a copy.
 use kinds::Answer;
+use kinds::House;
 use kinds::Merger;
 use kinds::MergerOut;
 use kinds::reason::MALFORMED;
@@ -14,6 +15,7 @@ ghost use lib.ListN.{length, take};
 ghost use Rattle.laws.specs.Overlay.{overlay};
 ghost use Rattle.kinds.specs.Sizes as sizes;
 ghost use Rattle.rules.specs.Merger.{mergerOutOf, mergerStartOf};
+ghost use Rattle.rules.specs.World.{firstsOf};
 ghost use Rattle.pieces.specs.Own.{own, Only};
 ghost use Rattle.routing.specs.Route.{copies};
 ghost use Rattle.stream.specs.Asked.{allCopies, freshCopy, mergingOf, copyingOf};
@@ -21,11 +23,14 @@ ghost use Rattle.stream.specs.Asked.{allCopies, freshCopy, mergingOf, co
 // Words of all copies, one behind the other.
 pub const ALL_COPIES: usize = COPIES * COPY;
 
-pub fn start_merger(n: u64, queues: &mut [u64; QUEUES]) -> Merger
-    ensures { λ r. ⌜ r ≡ mergerOutOf (mergerStartOf n (now (queues .entry))) .merger ⌝ }
-    ensures { λ _. ⌜ now (queues .exit) ≡ mergerStartOf n (now (queues .entry)) .queues ⌝ }
+// The merger of a house, started with the house's first keys (Q3.8).
+pub fn start_merger(house: House, queues: &mut [u64; QUEUES]) -> Merger
+    ensures { λ r. ⌜ r ≡ mergerOutOf (mergerStartOf (house .sites) (firstsOf house) (now (queues .entry))) .merger ⌝ }
+    ensures { λ _. ⌜ now (queues .exit) ≡ mergerStartOf (house .sites) (firstsOf house) (now (queues .entry)) .queues ⌝ }
 {
-    let o = store::start_merger(n, queues);
+    let n = house.sites;
+    let firsts = house.firsts;
+    let o = store::start_merger(n, front(&firsts, n as usize), queues);
     let g = o.merger;
     g
 }

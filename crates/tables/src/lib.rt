@@ -11,6 +11,7 @@ use kinds::sizes::LIVE;
 use kinds::sizes::LIVE_WORDS;
 use kinds::sizes::PLACE;
 use kinds::sizes::READS;
+use kinds::sizes::SITES;
 use kinds::sizes::SLOT;
 use kinds::word::KEYS_READ;
 use kinds::word::KEYS_READS;
@@ -36,9 +37,10 @@ ghost use lib.ListN.{length, getD};
 ghost use Rattle.laws.specs.Overlay.{putAt};
 ghost use Rattle.kinds.specs.Sizes as sizes;
 ghost use Rattle.kinds.specs.State.{pastEntry};
+ghost use Rattle.rules.specs.House.{noHouse};
 ghost use Rattle.rules.specs.Live.{partAt};
 ghost use Rattle.lent.specs.Layout.{wordsFrom, keysFrom, liveOf, historyOf, seatOf, keysWords, placeWords, slotWords};
-ghost use Rattle.lent.specs.Lent.{lentHouse};
+ghost use Rattle.lent.specs.Lent.{lentOk, lentHouse, lentSites};
 ghost use Rattle.lent.specs.Shape.{Sized, Shaped, ShapedEntry};
 
 // The words of one list of keys or values: a part reads as many keys as it writes at most.
@@ -180,15 +182,42 @@ pub fn seat_of(b: Sub) -> Seat
     }
 }
 
-// The house of a site whose live and history words have these lengths.
+// A house that no call accepts.
+pub fn no_house() -> House
+    ensures { λ r. ⌜ r ≡ noHouse ⌝ }
+{
+    House {
+        sites: 0,
+        firsts: [0; SITES],
+    }
+}
+
+// Whether live and history words have the lengths of the tables.
+fn lent_ok(live: usize, history: usize) -> bool
+    ensures { λ r. ⌜ r ≡ lentOk live history ⌝ }
+{
+    if live != LIVE_WORDS {
+        return false;
+    }
+    history == HISTORY_WORDS
+}
+
+// The house of a site whose live and history words have these lengths,
 pub fn lent_house(o: House, live: usize, history: usize) -> House
     ensures { λ r. ⌜ r ≡ lentHouse o live history ⌝ }
 {
-    if live != LIVE_WORDS {
-        return House { sites: 0 };
+    if lent_ok(live, history) {
+        return o;
     }
-    if history != HISTORY_WORDS {
-        return House { sites: 0 };
+    no_house()
+}
+
+// and the number of sites at its start.
+pub fn lent_sites(sites: u64, live: usize, history: usize) -> u64
+    ensures { λ r. ⌜ r ≡ lentSites sites live history ⌝ }
+{
+    if lent_ok(live, history) {
+        return sites;
     }
-    o
+    0
 }

@@ -5,6 +5,7 @@ use keys::keys_ok_in;
 use kinds::Core;
 use kinds::Counters;
 use kinds::House;
+use kinds::Key;
 use kinds::Seat;
 use kinds::sizes::CONC_ENTRIES;
 use kinds::sizes::GATHERED;
@@ -18,6 +19,8 @@ use kinds::stage::FREE;
 use kinds::stage::REJECTED;
 use kinds::word;
 use messages::entries_possible;
+use numbers::end_key;
+use numbers::first_key;
 use numbers::house_ok;
 use numbers::in_mask;
 use numbers::is_desk;
@@ -42,6 +45,7 @@ ghost use Rattle.rules.specs.Valid.{courseOk, deskOk, subOk, slotOk, countersOk
 ghost use Rattle.rules.specs.ValidLaws.{ValidHouse};
 ghost use Rattle.lent.specs.Layout.{keysFrom, subFrom, entryFrom, liveOf, historyOf};
 ghost use Rattle.lent.specs.Lent.{siteOf};
+ghost use Rattle.keys.specs.Range.{RangeOf};
 ghost use Rattle.valid.specs.Lists.{Gathered};
 
 // Replies come from other sites, and each list gathered has at most `CONC_ENTRIES` entries, the own one included. Most places have no
@@ -86,9 +90,10 @@ fn desk_ok(w: &[u64], at: usize) -> bool
     wrote <= write_limit(desk)
 }
 
-// The part of a seat, with its other words from word `at` on: a held one goes out in messages.
-fn part_ok(o: House, own: u64, seat: Seat, w: &[u64], at: usize) -> bool
-    requires { ⌜ ValidHouse o own × (at + sizes.place ≤ length (now w)) ⌝ }
+// The part of a seat, with its other words from word `at` on: a held one goes out in messages. The site's keys are from `first` up to
+// `end` (Q3.1).
+fn part_ok(o: House, own: u64, first: Key, end: Key, seat: Seat, w: &[u64], at: usize) -> bool
+    requires { ⌜ ValidHouse o own × RangeOf o own first end × (at + sizes.place ≤ length (now w)) ⌝ }
     ensures { λ r. ⌜ r ≡ subOk o own (subFrom seat (now (w .entry)) at) ⌝ }
 {
     let stage = seat.stage;
@@ -96,7 +101,7 @@ fn part_ok(o: House, own: u64, seat: Seat, w: &[u64], at: usize) -> bool
     if !course_ok(o, own, seat, w, at) {
         return false;
     }
-    if !keys_ok_in(o, own, w, at + word::PLACE_KEYS) {
+    if !keys_ok_in(first, end, w, at + word::PLACE_KEYS) {
         return false;
     }
     if !desk_ok(w, at) {
@@ -109,15 +114,15 @@ fn part_ok(o: House, own: u64, seat: Seat, w: &[u64], at: usize) -> bool
 }
 
 // An install in a slot of the history, from word `at` on: one that is remembered goes out in messages too.
-fn slot_ok(o: House, own: u64, used: bool, h: &[u64], at: usize) -> bool
-    requires { ⌜ ValidHouse o own × (at + sizes.slot ≤ length (now h)) ⌝ }
+fn slot_ok(o: House, own: u64, first: Key, end: Key, used: bool, h: &[u64], at: usize) -> bool
+    requires { ⌜ ValidHouse o own × RangeOf o own first end × (at + sizes.slot ≤ length (now h)) ⌝ }
     ensures { λ r. ⌜ r ≡ slotOk o own used (entryFrom (now (h .entry)) at) ⌝ }
 {
     let mask = h[at + word::SLOT_MASK];
     if !is_mask(o, mask) {
         return false;
     }
-    if !keys_ok_in(o, own, h, at + word::SLOT_KEYS) {
+    if !keys_ok_in(first, end, h, at + word::SLOT_KEYS) {
         return false;
     }
     if !used {
@@ -138,14 +143,14 @@ fn counters_ok(o: House, c: Counters) -> bool
     serial <= LAST_SERIAL
 }
 
-fn live_ok(o: House, own: u64, seats: [Seat; LIVE], w: &[u64]) -> bool
-    requires { ⌜ ValidHouse o own × (length (now w) ≡ sizes.liveWords) ⌝ }
+fn live_ok(o: House, own: u64, first: Key, end: Key, seats: [Seat; LIVE], w: &[u64]) -> bool
+    requires { ⌜ ValidHouse o own × RangeOf o own first end × (length (now w) ≡ sizes.liveWords) ⌝ }
     ensures { λ r. ⌜ r ≡ liveOk o own (liveOf seats (now (w .entry))) ⌝ }
 {
     let mut i: usize = 0;
     while i < LIVE {
         let seat = seats[i];
-        if !part_ok(o, own, seat, w, PLACE * i) {
+        if !part_ok(o, own, first, end, seat, w, PLACE * i) {
             return false;
         }
         i += 1;
@@ -153,14 +158,14 @@ fn live_ok(o: House, own: u64, seats: [Seat; LIVE], w: &[u64]) -> bool
     true
 }
 
-fn history_ok(o: House, own: u64, installs: u64, h: &[u64]) -> bool
-    requires { ⌜ ValidHouse o own × (length (now h) ≡ sizes.historyWords) ⌝ }
+fn history_ok(o: House, own: u64, first: Key, end: Key, installs: u64, h: &[u64]) -> bool
+    requires { ⌜ ValidHouse o own × RangeOf o own first end × (length (now h) ≡ sizes.historyWords) ⌝ }
     ensures { λ r. ⌜ r ≡ historyOk o own installs (historyOf (now (h .entry))) ⌝ }
 {
     let n = remembered(installs);
     let mut i: usize = 0;
     while i < HISTORY {
-        if !slot_ok(o, own, i < n, h, SLOT * i) {
+        if !slot_ok(o, own, first, end, i < n, h, SLOT * i) {
             return false;
         }
         i += 1;
@@ -182,10 +187,12 @@ pub fn site_ok(p: Core, live: &[u64], history: &[u64]) -> bool
     if !counters_ok(house, counters) {
         return false;
     }
-    if !live_ok(house, own, seats, live) {
+    let first = first_key(house, own);
+    let end = end_key(house, own);
+    if !live_ok(house, own, first, end, seats, live) {
         return false;
     }
-    history_ok(house, own, installs, history)
+    history_ok(house, own, first, end, installs, history)
 }
 
 // The gathered entries of a part at this stage, at the front of `es`.

@@ -5,8 +5,8 @@ use Rattle.laws.specs.Pair.{precedes}
 use Rattle.laws.specs.Digits.{onesBelow}
 use Rattle.laws.specs.Overlay.{overlay, putAt}
 use Rattle.kinds.specs.State.{noKeys, noSub, noEntry}
-use Rattle.rules.specs.House.{houseOk, isSite, homeOf, isKey, txOf, coordinatorOf, serialOf, isTx, maskOf, inMask, isMask, participants}
-use Rattle.rules.specs.House.{repliesWanted, wholeHouse}
+use Rattle.rules.specs.House.{countOk, tableOk, restOk, houseOk, evenTable, isSite, homeOf, isKey, txOf, coordinatorOf, serialOf, isTx}
+use Rattle.rules.specs.House.{maskOf, inMask, isMask, participants, repliesWanted, wholeHouse}
 use Rattle.rules.specs.Desk.{isDesk, writeLimit}
 use Rattle.rules.specs.Message.{entryOffset, messageWords, entryCount, messageHead, messageEntries, toCoordinator, coordinatorEnd}
 use Rattle.rules.specs.Message.{carriesClock, argumentOk, mostEntries, endsOk, headOk, entryBefore, entryOk, messageShape, messageOk}
@@ -44,7 +44,7 @@ use Rattle.points.proofs.points_hold.Statement.{statement}
 use Rattle.points.proofs.points_hold.Tie as tie
 
 returns : tie.Need-returns
-unfolding firstBelow allBelow anyBelow foldBelow precedes onesBelow overlay putAt noKeys noSub noEntry houseOk isSite homeOf isKey txOf
+unfolding firstBelow allBelow anyBelow foldBelow precedes onesBelow overlay putAt noKeys noSub noEntry countOk tableOk restOk houseOk evenTable isSite homeOf isKey txOf
     coordinatorOf serialOf isTx maskOf inMask isMask participants repliesWanted wholeHouse isDesk writeLimit entryOffset messageWords
     entryCount messageHead messageEntries toCoordinator coordinatorEnd carriesClock argumentOk mostEntries endsOk headOk entryBefore
     entryOk messageShape messageOk writeOffset recordWords recordHead recordWrites pairOk partHeadOk stateHeadOk mergedHeadOk keyAscends

@@ -18,12 +18,12 @@ use Rattle.valid.proofs.history_ok.Statement.{statement}
 use Rattle.valid.proofs.history_ok.Tie as tie
 
 abbrev Inv-loop : tie.InvT-loop
-Inv-loop o own installs h n i₀ i =
+Inv-loop o own first end installs h n i₀ i =
     (i ≤ sizes.history)
     × EachBelow (λ j. slotOk o own (ltb j (remembered installs)) (getD (historyOf h) j pastEntry)) i
 
 abbrev μ-loop : tie.MeasureT-loop
-μ-loop o own installs h n i₀ i = sizes.history - i
+μ-loop o own first end installs h n i₀ i = sizes.history - i
 
 -- where the loop begins, and the function's start
 abbrev entered : tie.In-loop Inv-loop μ-loop → tie.After-remembered Inv-loop μ-loop
@@ -54,7 +54,7 @@ mul-slot-ok c = search needs
 slot-ok-requires : tie.Need-slot-ok-requires Inv-loop μ-loop
 slot-ok-requires c κs =
     let p = start (entered c) .pre in
-    (p .0, omega (arith, c .loop-test .taken, p .1))
+    (p .0, p .1, omega (arith, c .loop-test .taken, p .2))
 
 returns : tie.Need-returns Inv-loop μ-loop
 unfolding historyOk

@@ -15,10 +15,10 @@ use Rattle.valid.proofs.live_ok.Statement.{statement}
 use Rattle.valid.proofs.live_ok.Tie as tie
 
 abbrev Inv-loop : tie.InvT-loop
-Inv-loop o own w seats i₀ i = (i ≤ sizes.live) × EachBelow (λ j. subOk o own (partAt (liveOf seats w) j)) i
+Inv-loop o own first end w seats i₀ i = (i ≤ sizes.live) × EachBelow (λ j. subOk o own (partAt (liveOf seats w) j)) i
 
 abbrev μ-loop : tie.MeasureT-loop
-μ-loop o own w seats i₀ i = sizes.live - i
+μ-loop o own first end w seats i₀ i = sizes.live - i
 
 -- the function's start, from a turn of the loop
 abbrev start : tie.In-loop Inv-loop μ-loop → tie.Start Inv-loop μ-loop
@@ -27,11 +27,11 @@ start c = c .before .before .before
 -- what the test of the loop's part says
 told : (c : tie.After-part-ok Inv-loop μ-loop) →
     (let turn = c .before .before in let a = start turn .args in
-    c .part-ok .result ≡ subOk (a .o) (a .own) (partAt (liveOf (a .t3) (a .w .now)) (turn .before .loop .i)))
+    c .part-ok .result ≡ subOk (a .o) (a .own) (partAt (liveOf (a .t5) (a .w .now)) (turn .before .loop .i)))
 told c =
     let turn = c .before .before in
     let a = start turn .args in
-    rw (live-at (a .t3) (a .w .now) (turn .before .loop .i) (turn .loop-test .taken)) (c .part-ok .ensures)
+    rw (live-at (a .t5) (a .w .now) (turn .before .loop .i) (turn .loop-test .taken)) (c .part-ok .ensures)
 
 loop-holds : tie.Need-loop-holds Inv-loop μ-loop
 loop-holds c = (search needs, each-none _)
@@ -49,7 +49,7 @@ part-ok-requires : tie.Need-part-ok-requires Inv-loop μ-loop
 part-ok-requires c κs =
     let turn = c .before in
     let p = start turn .pre in
-    (p .0, omega (arith, turn .loop-test .taken, p .1))
+    (p .0, p .1, omega (arith, turn .loop-test .taken, p .2))
 
 returns : tie.Need-returns Inv-loop μ-loop
 unfolding liveOk

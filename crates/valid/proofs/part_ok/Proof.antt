@@ -25,9 +25,13 @@ course-good : (c : tie.Else1) →
     (let a = start c .args in courseOk (a .o) (a .own) (subFrom (a .seat) (a .w .now) (a .at) .course) ≡ true)
 course-good c = sym (c .before .course-ok .ensures) ∙ not-false _ (c .if1 .left)
 
+keys-told : (c : tie.After-keys-ok-in) →
+    (let a = start (c .before) .args in c .keys-ok-in .result ≡ keysOk (a .o) (a .own) (keysFrom (a .w .now) (a .at + word.placeKeys)))
+keys-told c = let s = start (c .before) in c .keys-ok-in .ensures (s .args .o) (s .args .own) (s .pre .1)
+
 keys-good : (c : tie.Else2) →
     (let a = start (c .before .before) .args in keysOk (a .o) (a .own) (keysFrom (a .w .now) (a .at + word.placeKeys)) ≡ true)
-keys-good c = sym (c .before .keys-ok-in .ensures) ∙ not-false _ (c .if2 .left)
+keys-good c = sym (keys-told (c .before)) ∙ not-false _ (c .if2 .left)
 
 desk-good : (c : tie.Else3) →
     (let a = start (coursed c) .args in
@@ -49,7 +53,7 @@ keys-ok-in-requires c κs = search needs
 
 returns-2 : tie.Need-returns-2
 unfolding subOk subFrom
-returns-2 c = simp (course-good (c .before .before), sym (c .before .keys-ok-in .ensures) ∙ not-true _ (c .if2 .taken))
+returns-2 c = simp (course-good (c .before .before), sym (keys-told (c .before)) ∙ not-true _ (c .if2 .taken))
 
 desk-ok-requires : tie.Need-desk-ok-requires
 desk-ok-requires c κs = search needs

@@ -26,9 +26,13 @@ mask-good : (c : tie.Else1) →
     (let a = start (read c) .args in isMask (a .o) (getD (a .h .now) (a .at + word.slotMask) 0) ≡ true)
 mask-good c = sym (c .before .is-mask .ensures) ∙ not-false _ (c .if1 .left)
 
+keys-told : (c : tie.After-keys-ok-in) →
+    (let a = start (read (c .before)) .args in c .keys-ok-in .result ≡ keysOk (a .o) (a .own) (keysFrom (a .h .now) (a .at + word.slotKeys)))
+keys-told c = let s = start (read (c .before)) in c .keys-ok-in .ensures (s .args .o) (s .args .own) (s .pre .1)
+
 keys-good : (c : tie.Else2) →
     (let a = start (read (c .before .before)) .args in keysOk (a .o) (a .own) (keysFrom (a .h .now) (a .at + word.slotKeys)) ≡ true)
-keys-good c = sym (c .before .keys-ok-in .ensures) ∙ not-false _ (c .if2 .left)
+keys-good c = sym (keys-told (c .before)) ∙ not-false _ (c .if2 .left)
 
 add-mask : tie.Need-add-mask
 add-mask c = search needs
@@ -54,7 +58,7 @@ keys-ok-in-requires c κs = search needs
 
 returns-2 : tie.Need-returns-2
 unfolding slotOk entryFrom
-returns-2 c = simp (mask-good (c .before .before), sym (c .before .keys-ok-in .ensures) ∙ not-true _ (c .if2 .taken))
+returns-2 c = simp (mask-good (c .before .before), sym (keys-told (c .before)) ∙ not-true _ (c .if2 .taken))
 
 returns-3 : tie.Need-returns-3
 unfolding slotOk entryFrom

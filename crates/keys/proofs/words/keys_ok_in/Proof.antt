@@ -1,5 +1,5 @@
 -- Each return is the first of the four tests that fails, or the last one's answer.
-use Prim.Native.Nat.{_+_}
+use Prim.Native.Nat.{ℕ, _+_}
 use mathlib.Core.Path.{_≡_, sym, _∙_}
 use mathlib.Core.Bool.{true}
 use borrow.Author.Needs.{needs}
@@ -9,8 +9,10 @@ use lib.Dec.{leb}
 use Rattle.laws.specs.Choice.{pick-self}
 use Rattle.kinds.specs.Sizes as sizes
 use Rattle.kinds.specs.Word as word
+use Rattle.kinds.specs.declared.House.{House}
 use Rattle.rules.specs.Keys.{keysAt, keysOk}
 use Rattle.lent.specs.Layout.{wordsFrom, keysFrom}
+use Rattle.keys.specs.Range.{RangeOf}
 use Rattle.keys.proofs.words.keys_ok_in.Statement.{statement}
 use Rattle.keys.proofs.words.keys_ok_in.Tie as tie
 
@@ -28,10 +30,11 @@ few-read c = le-leb _ _ (c .if1 .left)
 few-wrote : (c : tie.Else2) → (let a = start (counts c) .args in leb (getD (a .w .now) (a .at + word.keysWrote) 0) sizes.writes ≡ true)
 few-wrote c = le-leb _ _ (c .if2 .left)
 
-reads-here : (c : tie.Else3) →
+reads-here : (c : tie.Else3) (o : House) (own : ℕ) →
     (let a = start (counts (c .before .before)) .args in let w = a .w .now in
-    keysAt (a .o) (a .own) (wordsFrom w (a .at + word.keysReads) sizes.reads) (getD w (a .at + word.keysRead) 0) ≡ true)
-reads-here c = sym (c .before .keys-at-in .ensures) ∙ not-false _ (c .if3 .left)
+    RangeOf o own (a .first) (a .end)
+    → keysAt o own (wordsFrom w (a .at + word.keysReads) sizes.reads) (getD w (a .at + word.keysRead) 0) ≡ true)
+reads-here c o own range = sym (c .before .keys-at-in .ensures o own range) ∙ not-false _ (c .if3 .left)
 
 add-read : tie.Need-add-read
 add-read c = search needs
@@ -53,11 +56,11 @@ shared-slice-read-wrote c = search needs
 
 returns : tie.Need-returns
 unfolding keysOk keysFrom
-returns c = simp (lt-leb _ _ (c .if1 .taken))
+returns c = λ o own range. simp (lt-leb _ _ (c .if1 .taken))
 
 returns-2 : tie.Need-returns-2
 unfolding keysOk keysFrom
-returns-2 c = simp (few-read (c .before), lt-leb _ _ (c .if2 .taken))
+returns-2 c = λ o own range. simp (few-read (c .before), lt-leb _ _ (c .if2 .taken))
 
 add-keys-at-in : tie.Need-add-keys-at-in
 add-keys-at-in c = search needs
@@ -69,7 +72,8 @@ returns-3 : tie.Need-returns-3
 unfolding keysOk keysFrom
 returns-3 c =
     let passed = c .before .before in
-    simp (few-read (passed .before), few-wrote passed, sym (c .before .keys-at-in .ensures) ∙ not-true _ (c .if3 .taken))
+    λ o own range.
+    simp (few-read (passed .before), few-wrote passed, sym (c .before .keys-at-in .ensures o own range) ∙ not-true _ (c .if3 .taken))
 
 add-keys-at-in-2 : tie.Need-add-keys-at-in-2
 add-keys-at-in-2 c = search needs
@@ -81,7 +85,8 @@ returns-4 : tie.Need-returns-4
 unfolding keysOk keysFrom
 returns-4 c =
     let passed = c .before .before .before in
-    simp (few-read (passed .before), few-wrote passed, reads-here (c .before), ← c .keys-at-in2 .ensures, pick-self)
+    λ o own range.
+    simp (few-read (passed .before), few-wrote passed, reads-here (c .before) o own range, ← c .keys-at-in2 .ensures o own range, pick-self)
 
 pub keys-ok-in-spec : {M : Type 1} → statement M
 keys-ok-in-spec =
