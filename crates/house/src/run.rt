@@ -46,11 +46,11 @@ fn opened(d: Play, s: Scan, page: &mut [u8; PAGE]) -> Play {
     let c = lines::told(s);
     if let Command::Sites(n, given) = c {
         let keys = lines::table(s);
-        let code = open_code(n, given, keys);
+        let code = open_code(n, given, &keys);
         if code != 0 {
             return answered(d, page, Answer::Refused(code));
         }
-        let house = open_house(n, given, keys);
+        let house = open_house(n, given, &keys);
         let mut e = d;
         e.house = house;
         return answered(e, page, Answer::Done);

@@ -41,7 +41,7 @@ ghost use Rattle.lent.specs.Lent.{siteOf, Replied};
 fn key_code(ok: bool, room: usize, o: House, own: u64, key: u64) -> u64
     ensures { λ r. ⌜ r ≡ keyCode ok room o own key ⌝ }
 {
-    let known = numbers::is_key(o, key);
+    let known = numbers::is_key(key);
     let site = numbers::home_of(o, key);
     if room != KEYS {
         return MALFORMED;

@@ -1,4 +1,4 @@
-// Start: a fresh site, and its lent tables filled with 0.
+// Start: a fresh site with its table of first keys, and its lent tables filled with 0.
 use kinds::Answer;
 use kinds::Channels;
 use kinds::Core;
@@ -6,6 +6,7 @@ use kinds::Counters;
 use kinds::House;
 use kinds::Reply;
 use kinds::Seat;
+use kinds::reason::BAD_TABLE;
 use kinds::reason::MALFORMED;
 use kinds::sizes::KEYS;
 use kinds::sizes::LISTS;
@@ -17,13 +18,17 @@ ghost use lib.ListN.{length};
 ghost use Rattle.rules.specs.Install.{startCode, startTable};
 ghost use Rattle.lent.specs.Fresh.{freshCore, startedCode, Started};
 
-fn start_code(sites: u64, own: u64, base: usize, lists: usize) -> u64
-    ensures { λ r. ⌜ r ≡ startCode sites own base lists ⌝ }
+// A table that is not good is refused behind everything else (Q3.4).
+fn start_code(sites: u64, firsts: &[u64], own: u64, base: usize, lists: usize) -> u64
+    ensures { λ r. ⌜ r ≡ startCode sites (now (firsts .entry)) own base lists ⌝ }
 {
-    let house = House { sites };
-    if !numbers::house_ok(house) {
+    if !numbers::count_ok(sites) {
         return MALFORMED;
     }
+    if firsts.len() as u64 != sites {
+        return MALFORMED;
+    }
+    let house = numbers::house_of(sites, firsts);
     if !numbers::is_site(house, own) {
         return MALFORMED;
     }
@@ -33,15 +38,18 @@ fn start_code(sites: u64, own: u64, base: usize, lists: usize) -> u64
     if lists != LISTS {
         return MALFORMED;
     }
+    if !numbers::table_ok(sites, firsts) {
+        return BAD_TABLE;
+    }
     0
 }
 
-fn fresh_core(sites: u64, own: u64) -> Core
-    ensures { λ r. ⌜ r ≡ freshCore sites own ⌝ }
+fn fresh_core(house: House, own: u64) -> Core
+    ensures { λ r. ⌜ r ≡ freshCore house own ⌝ }
 {
     let free = Seat { tx: 0, stage: FREE };
     Core {
-        house: House { sites },
+        house,
         counters: Counters {
             own,
             clock: 0,
@@ -58,27 +66,29 @@ fn fresh_core(sites: u64, own: u64) -> Core
 
 pub fn start(
     sites: u64,
+    firsts: &[u64],
     own: u64,
     live: &mut [u64],
     history: &mut [u64],
     base: &mut [u64],
     lists: &mut [u64],
 ) -> Reply
-    ensures { λ r. ⌜ Started sites own (now (live .entry)) (now (history .entry)) (length (now (base .entry))) (length (now (lists .entry)))
-        r (now (live .exit)) (now (history .exit)) ⌝ }
+    ensures { λ r. ⌜ Started sites (now (firsts .entry)) own (now (live .entry)) (now (history .entry)) (length (now (base .entry)))
+        (length (now (lists .entry))) r (now (live .exit)) (now (history .exit)) ⌝ }
     ensures { λ _. ⌜ now (base .exit)
         ≡ startTable
-        (startedCode sites own (now (live .entry)) (now (history .entry)) (length (now (base .entry))) (length (now (lists .entry))))
-        (now (base .entry)) ⌝ }
+        (startedCode sites (now (firsts .entry)) own (now (live .entry)) (now (history .entry)) (length (now (base .entry)))
+        (length (now (lists .entry)))) (now (base .entry)) ⌝ }
     ensures { λ _. ⌜ now (lists .exit)
         ≡ startTable
-        (startedCode sites own (now (live .entry)) (now (history .entry)) (length (now (base .entry))) (length (now (lists .entry))))
-        (now (lists .entry)) ⌝ }
+        (startedCode sites (now (firsts .entry)) own (now (live .entry)) (now (history .entry)) (length (now (base .entry)))
+        (length (now (lists .entry)))) (now (lists .entry)) ⌝ }
 {
-    let house = tables::lent_house(House { sites }, live.len(), history.len());
-    let code = start_code(house.sites, own, base.len(), lists.len());
+    let count = tables::lent_sites(sites, live.len(), history.len());
+    let code = start_code(count, firsts, own, base.len(), lists.len());
     if code != 0 {
-        let core = fresh_core(0, 0);
+        let none = tables::no_house();
+        let core = fresh_core(none, 0);
         return Reply {
             answer: Answer::Refused(code),
             words: 0,
@@ -89,7 +99,8 @@ pub fn start(
     slices::fill_words(history);
     slices::fill_words(base);
     slices::fill_words(lists);
-    let core = fresh_core(sites, own);
+    let house = numbers::house_of(sites, firsts);
+    let core = fresh_core(house, own);
     Reply {
         answer: Answer::Done,
         words: 0,

@@ -66,8 +66,7 @@ loop-less c = search needs
 loop-again : tie.Need-loop-again Inv-loop μ-loop
 loop-again c =
     let loop = c .before .before .before .loop in
-    let write = c .before .part-write-ok in
-    (
+    let write = c .before .part-write-ok in (
       search needs,
       below-more _ _ (loop .inv .1) (sym (write .ensures) ∙ not-false _ (c .if1 .left)),
     )

@@ -7,11 +7,12 @@ use borrow.Author.Needs.{needs}
 use borrow.Author.Tests.{eq-eqb, ne-eqb}
 use lib.ListN.{length}
 use Rattle.kinds.specs.declared.Site.{Site}
+use Rattle.rules.specs.HouseLaws.{key-low}
 use Rattle.rules.specs.Access.{accessCode, readOf}
 use Rattle.rules.specs.CallLaws.{AccessClear, access-clear}
 use Rattle.rules.specs.Live.{placeOf, stageAt}
 use Rattle.rules.specs.Valid.{siteOk}
-use Rattle.rules.specs.ValidLaws.{key-low, valid-site}
+use Rattle.rules.specs.ValidLaws.{valid-site}
 use Rattle.lent.specs.Lent.{siteOf}
 use Rattle.site.proofs.access.read.Statement.{statement}
 use Rattle.site.proofs.access.read.Tie as tie

@@ -6,10 +6,11 @@ use borrow.Author.Needs.{needs}
 use borrow.Author.Tests.{eq-eqb, ne-eqb}
 use lib.ListN.{length}
 use Rattle.kinds.specs.declared.Site.{Site}
+use Rattle.rules.specs.HouseLaws.{key-low}
 use Rattle.rules.specs.Access.{keyCode, searchOf}
 use Rattle.rules.specs.CallLaws.{KeyClear, key-clear}
 use Rattle.rules.specs.Valid.{siteOk}
-use Rattle.rules.specs.ValidLaws.{key-low, valid-site}
+use Rattle.rules.specs.ValidLaws.{valid-site}
 use Rattle.lent.specs.Laws.{lent-lengths}
 use Rattle.lent.specs.Lent.{siteOf}
 use Rattle.site.proofs.access.search.Statement.{statement}
