@@ -1,10 +1,13 @@
 // A site's lines.
 use crate::Done;
 use crate::Lent;
+use crate::TABLE;
 use crate::buffer_of;
+use crate::first_keys;
 use crate::pattern;
 use kinds::Answer;
 use kinds::Core;
+use kinds::Key;
 use kinds::Reply;
 use kinds::sizes::HISTORY_WORDS;
 use kinds::sizes::KEYS;
@@ -21,17 +24,33 @@ pub struct SiteDone {
     pub core: Core,
 }
 
-// A refused start leaves the site as it was.
-fn start(
-    p: Core,
-    l: Line,
-    firsts: &[u64],
+// The start of a site with the first n words of a table.
+pub fn start_by(
+    sites: u64,
+    firsts: [Key; TABLE],
+    n: usize,
+    own: u64,
     live: &mut [u64],
     history: &mut [u64],
     base: &mut [u64],
     lists: &mut [u64],
 ) -> Reply {
-    let o = store::start_site(l.b, firsts, l.c, live, history, base, lists);
+    store::start_site(sites, front(&firsts, n), own, live, history, base, lists)
+}
+
+// A refused start leaves the site as it was.
+fn start(
+    p: Core,
+    l: Line,
+    lent: Lent,
+    live: &mut [u64],
+    history: &mut [u64],
+    base: &mut [u64],
+    lists: &mut [u64],
+) -> Reply {
+    let firsts = lent.firsts;
+    let n = first_keys(lent, l.b);
+    let o = start_by(l.b, firsts, n, l.c, live, history, base, lists);
     let answer = o.answer;
     if is_refused(answer) {
         return Reply {
@@ -56,7 +75,7 @@ fn search(p: Core, l: Line, live: &[u64], history: &[u64], base: &[u64]) -> Repl
 fn call(
     p: Core,
     l: Line,
-    firsts: &[u64],
+    lent: Lent,
     m: &[u64],
     live: &mut [u64],
     history: &mut [u64],
@@ -76,7 +95,7 @@ fn call(
         verb::MESSAGE => store::message(p, live, history, m, lists, out),
         verb::INSTALL => store::install(p, live, history, base, out),
         verb::REPORT => store::report(p, live, history, out),
-        _ => start(p, l, firsts, live, history, base, lists),
+        _ => start(p, l, lent, live, history, base, lists),
     }
 }
 
@@ -95,7 +114,6 @@ fn obeyed(
     p: Core,
     l: Line,
     lent: Lent,
-    firsts: &[u64],
     m: &[u64],
     live: &mut [u64],
     history: &mut [u64],
@@ -109,7 +127,7 @@ fn obeyed(
     call(
         p,
         l,
-        firsts,
+        lent,
         m,
         front_mut(live, lent.live),
         front_mut(history, lent.history),
@@ -138,12 +156,11 @@ fn state_of(a: Answer, p: Core, live: &[u64], history: &[u64], base: &[u64]) -> 
     )
 }
 
-// Calls a site with its tables, and compares it before and after. The first keys are what a start is lent.
+// Calls a site with its tables, and compares it before and after.
 pub fn at_site(
     p: Core,
     l: Line,
     lent: Lent,
-    firsts: &[u64],
     m: &[u64],
     live: &mut [u64],
     history: &mut [u64],
@@ -153,7 +170,7 @@ pub fn at_site(
 ) -> SiteDone {
     let before = whole(p, live, history, base, lists);
     pattern(out);
-    let o = obeyed(p, l, lent, firsts, m, live, history, base, lists, out);
+    let o = obeyed(p, l, lent, m, live, history, base, lists, out);
     let q = o.core;
     let answer = o.answer;
     let after = whole(q, live, history, base, lists);

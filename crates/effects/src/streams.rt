@@ -3,6 +3,7 @@ use crate::Done;
 use crate::Lent;
 use crate::absent;
 use crate::buffer_of;
+use crate::first_keys;
 use crate::pattern;
 use kinds::Answer;
 use kinds::Merger;
@@ -27,8 +28,10 @@ pub struct MergerDone {
     pub merger: Merger,
 }
 
-fn start(g: Merger, sites: u64, firsts: &[u64], queues: &mut [u64]) -> MergerOut {
-    let o = store::start_merger(sites, firsts, queues);
+fn start(g: Merger, sites: u64, lent: Lent, queues: &mut [u64]) -> MergerOut {
+    let firsts = lent.firsts;
+    let table = front(&firsts, first_keys(lent, sites));
+    let o = store::start_merger(sites, table, queues);
     let answer = o.answer;
     if is_refused(answer) {
         return MergerOut {
@@ -43,7 +46,7 @@ fn start(g: Merger, sites: u64, firsts: &[u64], queues: &mut [u64]) -> MergerOut
 fn merger_call(
     g: Merger,
     l: Line,
-    firsts: &[u64],
+    lent: Lent,
     m: &[u64],
     queues: &mut [u64],
     out: &mut [u64],
@@ -52,7 +55,7 @@ fn merger_call(
     match v {
         verb::MERGE => store::merge(g, queues, m),
         verb::EMIT => store::emit(g, queues, out),
-        verb::OPEN => start(g, l.a, firsts, queues),
+        verb::OPEN => start(g, l.a, lent, queues),
         _ => poke_merger(g, queues, l),
     }
 }
@@ -68,19 +71,18 @@ fn state_of(a: Answer, sum: u64) -> u64 {
     sum
 }
 
-// Calls the merger, and compares it before and after. The first keys are what a start is lent.
+// Calls the merger, and compares it before and after.
 pub fn at_merger(
     g: Merger,
     l: Line,
     lent: Lent,
-    firsts: &[u64],
     m: &[u64],
     queues: &mut [u64],
     out: &mut [u64],
 ) -> MergerDone {
     let before = whole(g, queues);
     pattern(out);
-    let o = merger_call(g, l, firsts, m, front_mut(queues, lent.queues), out);
+    let o = merger_call(g, l, lent, m, front_mut(queues, lent.queues), out);
     let h = o.merger;
     let answer = o.answer;
     let after = whole(h, queues);

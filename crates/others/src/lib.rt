@@ -2,17 +2,17 @@
 use effects::COPIES;
 use effects::COPY_PLACE;
 use effects::Done;
+use effects::Lent;
 use effects::SiteDone;
-use effects::TABLE;
 use effects::absent;
 use effects::at_copy;
 use effects::at_merger;
+use effects::first_keys;
 use hand::HAND;
 use hand::shaped;
 use hand::shown;
 use hand::store::STORE;
 use kinds::Core;
-use kinds::Key;
 use kinds::Merger;
 use kinds::sizes::HISTORY_WORDS;
 use kinds::sizes::KEYS;
@@ -22,13 +22,12 @@ use kinds::sizes::QUEUES;
 use kinds::sizes::SITES;
 use outcomes::ROOM;
 use outcomes::Work;
-use outcomes::all_lent;
 use outcomes::answered;
-use outcomes::first_keys;
 use outcomes::is_for_site;
 use outcomes::is_over;
 use outcomes::kept;
 use outcomes::lent_anew;
+use outcomes::lent_at_start;
 use outcomes::place_of;
 use outcomes::read_line;
 use outcomes::told_of;
@@ -68,24 +67,24 @@ pub struct Waiting {
     pub merger: Merger,
 }
 
-fn start_merger(n: u64, firsts: [Key; TABLE], queues: &mut [u64]) -> Merger {
-    let words = first_keys(all_lent(), n);
-    let o = store::start_merger(n, front(&firsts, words), front_mut(queues, QUEUES));
+fn start_merger(n: u64, lent: Lent, queues: &mut [u64]) -> Merger {
+    let firsts = lent.firsts;
+    let table = front(&firsts, first_keys(lent, n));
+    let o = store::start_merger(n, table, front_mut(queues, QUEUES));
     let g = o.merger;
     g
 }
 
 // Nothing in hand, nothing kept, every table lent whole.
 pub fn opened(w: Work, queues: &mut [u64; QUEUED]) -> Waiting {
-    let lent = all_lent();
-    let firsts = w.firsts;
+    let lent = lent_at_start(w);
     let mut v = w;
     v.lent = lent;
     v.held = 0;
     v.kept = 0;
     Waiting {
         work: v,
-        merger: start_merger(w.sites, firsts, queues),
+        merger: start_merger(w.sites, lent, queues),
     }
 }
 
@@ -101,12 +100,10 @@ fn to_merger(
     let g = v.merger;
     let l = w.line;
     let lent = w.lent;
-    let firsts = w.firsts;
     let o = at_merger(
         g,
         l,
         lent,
-        front(&firsts, first_keys(lent, l.a)),
         front(hand, w.held),
         queues,
         front_mut(out, lent.room),
@@ -237,12 +234,10 @@ fn in_place(
 {
     let l = w.line;
     let lent = w.lent;
-    let firsts = w.firsts;
     effects::at_site(
         p,
         l,
         lent,
-        front(&firsts, first_keys(lent, l.b)),
         front(hand, w.held),
         piece_mut(live, place * LIVE_PLACE, LIVE_PLACE),
         piece_mut(history, place * HISTORY_PLACE, HISTORY_PLACE),

@@ -43,7 +43,6 @@ pub const ROOM: usize = 8192;
 const EVEN: [Key; TABLE] = [0, 256, 512, 768, 1024, 1280, 1536, 1792, 2048];
 
 // A probe under way: `state` is LINE until it ends, and then says why; `held` words are in hand, `kept` of the store are used.
-// `firsts` is the table that starts are lent, of whatever house.
 pub struct Work {
     pub input: Input,
     pub event: u64,
@@ -54,11 +53,10 @@ pub struct Work {
     pub held: usize,
     pub kept: usize,
     pub sites: u64,
-    pub firsts: [Key; TABLE],
 }
 
-// Every table as long as it should be.
-pub fn all_lent() -> Lent {
+// Every table as long as it should be, with these first keys.
+fn all_lent(firsts: [Key; TABLE]) -> Lent {
     Lent {
         room: OUTGOING,
         live: LIVE_WORDS,
@@ -67,8 +65,16 @@ pub fn all_lent() -> Lent {
         lists: LISTS,
         queues: QUEUES,
         copy: kinds::sizes::COPY,
-        firsts: AS_SITES,
+        table: AS_SITES,
+        firsts,
     }
+}
+
+// What a house begins with: the first keys stay as they are set.
+pub fn lent_at_start(w: Work) -> Lent {
+    let lent = w.lent;
+    let firsts = lent.firsts;
+    all_lent(firsts)
 }
 
 pub fn begun(fd: i32) -> Work {
@@ -78,11 +84,10 @@ pub fn begun(fd: i32) -> Work {
         used: 0,
         state: LINE,
         line: remark(),
-        lent: all_lent(),
+        lent: all_lent(EVEN),
         held: 0,
         kept: 0,
         sites: 1,
-        firsts: EVEN,
     }
 }
 
@@ -113,10 +118,11 @@ fn starts(n: u64, firsts: [Key; TABLE]) -> bool {
 }
 
 // Where a house does not start, its line is a remark.
-fn opened(l: Line, firsts: [Key; TABLE]) -> Line {
+fn opened(l: Line, lent: Lent) -> Line {
     if l.group != HOUSE {
         return l;
     }
+    let firsts = lent.firsts;
     if starts(l.a, firsts) {
         return l;
     }
@@ -141,8 +147,8 @@ pub fn read_line(w: Work, text: &mut [u8; TEXT]) -> Work {
     let r = next_scan(text, before);
     let input = r.input;
     let s = r.scan;
-    let firsts = w.firsts;
-    let l = opened(told(s), firsts);
+    let lent = w.lent;
+    let l = opened(told(s), lent);
     let mut v = w;
     v.input = input;
     v.event = std::num::wrapping_add_u64(w.event, 1);
@@ -261,7 +267,7 @@ fn lend(lent: Lent, verb: u64, n: u64) -> Lent {
             t
         }
         verb::TABLES => {
-            t.firsts = least(n, TABLE);
+            t.table = least(n, TABLE);
             t
         }
         _ => {
@@ -271,39 +277,34 @@ fn lend(lent: Lent, verb: u64, n: u64) -> Lent {
     }
 }
 
-// Sets word i, from 1, of the table of first keys. Another i sets nothing.
-fn with_first(w: Work, i: u64, key: Key) -> Work {
+// First key i, from 1, set from now on. Another i sets nothing.
+fn with_first(lent: Lent, i: u64, key: Key) -> Lent {
+    let mut t = lent;
     if i < 1 {
-        return w;
+        return t;
     }
     if i > TABLE as u64 {
-        return w;
+        return t;
     }
     let at = (i - 1) as usize;
-    let mut v = w;
-    v.firsts[at] = key;
-    v
+    t.firsts[at] = key;
+    t
+}
+
+fn lent_by(lent: Lent, l: Line) -> Lent {
+    if l.verb == verb::TABLE {
+        return with_first(lent, l.a, l.b);
+    }
+    lend(lent, l.verb, l.a)
 }
 
 pub fn lent_anew(w: Work) -> Work {
     let l = w.line;
-    if l.verb == verb::TABLE {
-        return with_first(w, l.a, l.b);
-    }
     let lent = w.lent;
-    let t = lend(lent, l.verb, l.a);
+    let t = lent_by(lent, l);
     let mut v = w;
     v.lent = t;
     v
-}
-
-// How many words of the table a start with so many sites is lent.
-pub fn first_keys(lent: Lent, sites: u64) -> usize {
-    let n = lent.firsts;
-    if n <= TABLE {
-        return n;
-    }
-    least(sites, TABLE)
 }
 
 // The place of the site that a line names; SITES where the house lacks it.
