@@ -3,10 +3,13 @@ mod sites;
 mod streams;
 
 use kinds::Answer;
+use kinds::Key;
 use kinds::reason::MALFORMED;
+use kinds::sizes::SITES;
 use pieces::put;
 pub use sites::SiteDone;
 pub use sites::at_site;
+pub use sites::start_by;
 pub use streams::COPIES;
 pub use streams::COPY_PLACE;
 pub use streams::MergerDone;
@@ -14,7 +17,14 @@ pub use streams::at_copy;
 pub use streams::at_merger;
 use verbs::verb;
 
-// Lengths lent: the outgoing buffer, the live parts, the history, the base values, the gathered lists, the merger's queues, a copy.
+// Words of the table of first keys: one more than a house has, so that too many can be lent.
+pub const TABLE: usize = SITES + 1;
+
+// The length of a table that is as long as the number of sites at its start says.
+pub const AS_SITES: usize = TABLE + 1;
+
+// Lengths lent: the outgoing buffer, the live parts, the history, the base values, the gathered lists, the merger's queues, a copy,
+// the table of first keys. The table itself stands behind them; only starts are lent it.
 pub struct Lent {
     pub room: usize,
     pub live: usize,
@@ -23,6 +33,20 @@ pub struct Lent {
     pub lists: usize,
     pub queues: usize,
     pub copy: usize,
+    pub table: usize,
+    pub firsts: [Key; TABLE],
+}
+
+// How many first keys a start with so many sites is lent.
+pub fn first_keys(lent: Lent, sites: u64) -> usize {
+    let n = lent.table;
+    if n <= TABLE {
+        return n;
+    }
+    if sites < TABLE as u64 {
+        return sites as usize;
+    }
+    TABLE
 }
 
 // What a call answered and wrote: whether the state and the lent tables are the same, the checksums of the outgoing buffer and

@@ -1,10 +1,13 @@
 // A site's lines.
 use crate::Done;
 use crate::Lent;
+use crate::TABLE;
 use crate::buffer_of;
+use crate::first_keys;
 use crate::pattern;
 use kinds::Answer;
 use kinds::Core;
+use kinds::Key;
 use kinds::Reply;
 use kinds::sizes::HISTORY_WORDS;
 use kinds::sizes::KEYS;
@@ -21,16 +24,33 @@ pub struct SiteDone {
     pub core: Core,
 }
 
-// A refused start leaves the site as it was.
-fn start(
-    p: Core,
-    l: Line,
+// The start of a site with the first n words of a table.
+pub fn start_by(
+    sites: u64,
+    firsts: [Key; TABLE],
+    n: usize,
+    own: u64,
     live: &mut [u64],
     history: &mut [u64],
     base: &mut [u64],
     lists: &mut [u64],
 ) -> Reply {
-    let o = store::start_site(l.b, l.c, live, history, base, lists);
+    store::start_site(sites, front(&firsts, n), own, live, history, base, lists)
+}
+
+// A refused start leaves the site as it was.
+fn start(
+    p: Core,
+    l: Line,
+    lent: Lent,
+    live: &mut [u64],
+    history: &mut [u64],
+    base: &mut [u64],
+    lists: &mut [u64],
+) -> Reply {
+    let firsts = lent.firsts;
+    let n = first_keys(lent, l.b);
+    let o = start_by(l.b, firsts, n, l.c, live, history, base, lists);
     let answer = o.answer;
     if is_refused(answer) {
         return Reply {
@@ -55,6 +75,7 @@ fn search(p: Core, l: Line, live: &[u64], history: &[u64], base: &[u64]) -> Repl
 fn call(
     p: Core,
     l: Line,
+    lent: Lent,
     m: &[u64],
     live: &mut [u64],
     history: &mut [u64],
@@ -74,7 +95,7 @@ fn call(
         verb::MESSAGE => store::message(p, live, history, m, lists, out),
         verb::INSTALL => store::install(p, live, history, base, out),
         verb::REPORT => store::report(p, live, history, out),
-        _ => start(p, l, live, history, base, lists),
+        _ => start(p, l, lent, live, history, base, lists),
     }
 }
 
@@ -106,6 +127,7 @@ fn obeyed(
     call(
         p,
         l,
+        lent,
         m,
         front_mut(live, lent.live),
         front_mut(history, lent.history),

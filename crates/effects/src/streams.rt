@@ -3,6 +3,7 @@ use crate::Done;
 use crate::Lent;
 use crate::absent;
 use crate::buffer_of;
+use crate::first_keys;
 use crate::pattern;
 use kinds::Answer;
 use kinds::Merger;
@@ -27,8 +28,10 @@ pub struct MergerDone {
     pub merger: Merger,
 }
 
-fn start(g: Merger, sites: u64, queues: &mut [u64]) -> MergerOut {
-    let o = store::start_merger(sites, queues);
+fn start(g: Merger, sites: u64, lent: Lent, queues: &mut [u64]) -> MergerOut {
+    let firsts = lent.firsts;
+    let table = front(&firsts, first_keys(lent, sites));
+    let o = store::start_merger(sites, table, queues);
     let answer = o.answer;
     if is_refused(answer) {
         return MergerOut {
@@ -40,12 +43,19 @@ fn start(g: Merger, sites: u64, queues: &mut [u64]) -> MergerOut {
     o
 }
 
-fn merger_call(g: Merger, l: Line, m: &[u64], queues: &mut [u64], out: &mut [u64]) -> MergerOut {
+fn merger_call(
+    g: Merger,
+    l: Line,
+    lent: Lent,
+    m: &[u64],
+    queues: &mut [u64],
+    out: &mut [u64],
+) -> MergerOut {
     let v = l.verb;
     match v {
         verb::MERGE => store::merge(g, queues, m),
         verb::EMIT => store::emit(g, queues, out),
-        verb::OPEN => start(g, l.a, queues),
+        verb::OPEN => start(g, l.a, lent, queues),
         _ => poke_merger(g, queues, l),
     }
 }
@@ -72,7 +82,7 @@ pub fn at_merger(
 ) -> MergerDone {
     let before = whole(g, queues);
     pattern(out);
-    let o = merger_call(g, l, m, front_mut(queues, lent.queues), out);
+    let o = merger_call(g, l, lent, m, front_mut(queues, lent.queues), out);
     let h = o.merger;
     let answer = o.answer;
     let after = whole(h, queues);

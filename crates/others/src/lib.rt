@@ -2,10 +2,12 @@
 use effects::COPIES;
 use effects::COPY_PLACE;
 use effects::Done;
+use effects::Lent;
 use effects::SiteDone;
 use effects::absent;
 use effects::at_copy;
 use effects::at_merger;
+use effects::first_keys;
 use hand::HAND;
 use hand::shaped;
 use hand::shown;
@@ -20,12 +22,12 @@ use kinds::sizes::QUEUES;
 use kinds::sizes::SITES;
 use outcomes::ROOM;
 use outcomes::Work;
-use outcomes::all_lent;
 use outcomes::answered;
 use outcomes::is_for_site;
 use outcomes::is_over;
 use outcomes::kept;
 use outcomes::lent_anew;
+use outcomes::lent_at_start;
 use outcomes::place_of;
 use outcomes::read_line;
 use outcomes::told_of;
@@ -65,22 +67,24 @@ pub struct Waiting {
     pub merger: Merger,
 }
 
-fn start_merger(n: u64, queues: &mut [u64]) -> Merger {
-    let o = store::start_merger(n, front_mut(queues, QUEUES));
+fn start_merger(n: u64, lent: Lent, queues: &mut [u64]) -> Merger {
+    let firsts = lent.firsts;
+    let table = front(&firsts, first_keys(lent, n));
+    let o = store::start_merger(n, table, front_mut(queues, QUEUES));
     let g = o.merger;
     g
 }
 
 // Nothing in hand, nothing kept, every table lent whole.
 pub fn opened(w: Work, queues: &mut [u64; QUEUED]) -> Waiting {
-    let lent = all_lent();
+    let lent = lent_at_start(w);
     let mut v = w;
     v.lent = lent;
     v.held = 0;
     v.kept = 0;
     Waiting {
         work: v,
-        merger: start_merger(w.sites, queues),
+        merger: start_merger(w.sites, lent, queues),
     }
 }
 

@@ -1,12 +1,14 @@
 // What stands around a probe's calls: a line is read, what a call wrote is kept, and its outcome printed.
+use effects::AS_SITES;
 use effects::COPY_PLACE;
 use effects::Done;
 use effects::Lent;
+use effects::TABLE;
 use effects::is_logged;
 use hand::store::keep_letters;
 use hand::store::keep_record;
 use kinds::Answer;
-use kinds::House;
+use kinds::Key;
 use kinds::sizes::HISTORY_WORDS;
 use kinds::sizes::KEYS;
 use kinds::sizes::LISTS;
@@ -14,6 +16,7 @@ use kinds::sizes::LIVE_WORDS;
 use kinds::sizes::OUTGOING;
 use kinds::sizes::QUEUES;
 use kinds::sizes::SITES;
+use numbers::table_ok;
 use pages::Filled;
 use pages::PAGE;
 use pages::is_refused;
@@ -36,6 +39,9 @@ use verbs::verb;
 // Words for the outgoing buffer, more than any call wants.
 pub const ROOM: usize = 8192;
 
+// The table of first keys at the beginning of a probe.
+const EVEN: [Key; TABLE] = [0, 256, 512, 768, 1024, 1280, 1536, 1792, 2048];
+
 // A probe under way: `state` is LINE until it ends, and then says why; `held` words are in hand, `kept` of the store are used.
 pub struct Work {
     pub input: Input,
@@ -49,8 +55,8 @@ pub struct Work {
     pub sites: u64,
 }
 
-// Every table as long as it should be.
-pub fn all_lent() -> Lent {
+// Every table as long as it should be, with these first keys.
+fn all_lent(firsts: [Key; TABLE]) -> Lent {
     Lent {
         room: OUTGOING,
         live: LIVE_WORDS,
@@ -59,7 +65,16 @@ pub fn all_lent() -> Lent {
         lists: LISTS,
         queues: QUEUES,
         copy: kinds::sizes::COPY,
+        table: AS_SITES,
+        firsts,
     }
+}
+
+// What a house begins with: the first keys stay as they are set.
+pub fn lent_at_start(w: Work) -> Lent {
+    let lent = w.lent;
+    let firsts = lent.firsts;
+    all_lent(firsts)
 }
 
 pub fn begun(fd: i32) -> Work {
@@ -69,7 +84,7 @@ pub fn begun(fd: i32) -> Work {
         used: 0,
         state: LINE,
         line: remark(),
-        lent: all_lent(),
+        lent: all_lent(EVEN),
         held: 0,
         kept: 0,
         sites: 1,
@@ -91,12 +106,24 @@ pub fn is_for_site(w: Work) -> bool {
     l.group == SITE
 }
 
-// A house has 1 to 8 sites; else the line is a remark.
-fn opened(l: Line) -> Line {
+// Whether a house of n sites starts with the first n words of the table (Q3.3).
+fn starts(n: u64, firsts: [Key; TABLE]) -> bool {
+    if n < 1 {
+        return false;
+    }
+    if n > SITES as u64 {
+        return false;
+    }
+    table_ok(n, &firsts)
+}
+
+// Where a house does not start, its line is a remark.
+fn opened(l: Line, lent: Lent) -> Line {
     if l.group != HOUSE {
         return l;
     }
-    if numbers::house_ok(House { sites: l.a }) {
+    let firsts = lent.firsts;
+    if starts(l.a, firsts) {
         return l;
     }
     let mut m = l;
@@ -120,7 +147,8 @@ pub fn read_line(w: Work, text: &mut [u8; TEXT]) -> Work {
     let r = next_scan(text, before);
     let input = r.input;
     let s = r.scan;
-    let l = opened(told(s));
+    let lent = w.lent;
+    let l = opened(told(s), lent);
     let mut v = w;
     v.input = input;
     v.event = std::num::wrapping_add_u64(w.event, 1);
@@ -238,6 +266,10 @@ fn lend(lent: Lent, verb: u64, n: u64) -> Lent {
             t.queues = least(n, QUEUES + 1);
             t
         }
+        verb::TABLES => {
+            t.table = least(n, TABLE);
+            t
+        }
         _ => {
             t.copy = least(n, COPY_PLACE);
             t
@@ -245,10 +277,31 @@ fn lend(lent: Lent, verb: u64, n: u64) -> Lent {
     }
 }
 
+// First key i, from 1, set from now on. Another i sets nothing.
+fn with_first(lent: Lent, i: u64, key: Key) -> Lent {
+    let mut t = lent;
+    if i < 1 {
+        return t;
+    }
+    if i > TABLE as u64 {
+        return t;
+    }
+    let at = (i - 1) as usize;
+    t.firsts[at] = key;
+    t
+}
+
+fn lent_by(lent: Lent, l: Line) -> Lent {
+    if l.verb == verb::TABLE {
+        return with_first(lent, l.a, l.b);
+    }
+    lend(lent, l.verb, l.a)
+}
+
 pub fn lent_anew(w: Work) -> Work {
     let l = w.line;
     let lent = w.lent;
-    let t = lend(lent, l.verb, l.a);
+    let t = lent_by(lent, l);
     let mut v = w;
     v.lent = t;
     v

@@ -1,4 +1,5 @@
 // Pokes of a site.
+use crate::houses::poke_house;
 use kinds::Answer;
 use kinds::Channels;
 use kinds::Core;
@@ -23,8 +24,6 @@ ghost use Prim.Native.Nat.{_+_, _≤_, _<_};
 ghost use Rattle.kinds.specs.Sizes as sizes;
 
 // Fields of a site that are numbers, and those that count what is sent to its first site and what is taken from it.
-const HOUSE: u64 = 0;
-
 const OWN: u64 = 1;
 
 const CLOCK: u64 = 2;
@@ -203,12 +202,10 @@ fn refused(p: Core, code: u64) -> Reply {
 
 fn poke_counts(p: Core, field: u64, v: u64) -> Reply {
     let mut q = p;
-    if field == HOUSE {
-        q.house.sites = v;
-        return done(q);
-    }
+    let h = poke_house(p.house, field, v);
     let c = counters(p.counters, field, v);
     let d = channels(p.channels, field, v);
+    q.house = h;
     q.counters = c;
     q.channels = d;
     done(q)

@@ -1,4 +1,5 @@
 // Pokes of the merger and of a copy.
+use crate::houses::poke_house;
 use kinds::Answer;
 use kinds::Merger;
 use kinds::MergerOut;
@@ -42,9 +43,10 @@ fn source(c: Source, field: u64, v: u64) -> Source {
     }
 }
 
-fn poke_house(g: Merger, sites: u64) -> Merger {
+fn poke_table(g: Merger, field: u64, v: u64) -> Merger {
+    let k = poke_house(g.house, field, v);
     let mut h = g;
-    h.house.sites = sites;
+    h.house = k;
     h
 }
 
@@ -80,7 +82,7 @@ fn poke_queue(queues: &mut [u64], site: u64, i: u64, v: u64) {
 fn poked(g: Merger, queues: &mut [u64], l: Line) -> Merger {
     let v = l.verb;
     match v {
-        verb::MERGER => poke_house(g, l.a),
+        verb::MERGER => poke_table(g, l.a, l.b),
         verb::SOURCE => poke_source(g, l.a, l.b, l.c),
         _ => {
             poke_queue(queues, l.a, l.b, l.c);

@@ -1,4 +1,7 @@
 // A probe from its first line to its last.
+use effects::Lent;
+use effects::first_keys;
+use effects::start_by;
 use hand::HAND;
 use hand::store::STORE;
 use kinds::Core;
@@ -20,6 +23,7 @@ use others::settled;
 use outcomes::ROOM;
 use outcomes::Work;
 use outcomes::is_over;
+use outcomes::lent_at_start;
 use outcomes::place_of;
 use pages::PAGE;
 use script::LINE;
@@ -29,26 +33,36 @@ ghost use lib.ListN.{length};
 ghost use Rattle.kinds.specs.Sizes as sizes;
 
 // A fresh core; the words of a fresh site are zeros.
-fn start_at(n: u64, place: usize) -> Core {
+fn start_at(n: u64, lent: Lent, place: usize) -> Core {
     let mut live = [0u64; LIVE_WORDS];
     let mut history = [0u64; HISTORY_WORDS];
     let mut base = [0u64; KEYS];
     let mut lists = [0u64; LISTS];
     let own = std::num::wrapping_add_u64(place as u64, 1);
-    let o = store::start_site(n, own, &mut live, &mut history, &mut base, &mut lists);
+    let firsts = lent.firsts;
+    let o = start_by(
+        n,
+        firsts,
+        first_keys(lent, n),
+        own,
+        &mut live,
+        &mut history,
+        &mut base,
+        &mut lists,
+    );
     let p = o.core;
     p
 }
 
 // Every site of a house of n. A place that the house lacks holds what a refused start hands back; no line goes there.
-fn start_sites(n: u64) -> [Core; SITES]
+fn start_sites(n: u64, lent: Lent) -> [Core; SITES]
     ensures { λ r. ⌜ length r ≡ sizes.sites ⌝ }
 {
-    let first = start_at(n, 0);
+    let first = start_at(n, lent, 0);
     let mut sites = [first; SITES];
     let mut i: usize = 1;
     while i < SITES {
-        let p = start_at(n, i);
+        let p = start_at(n, lent, i);
         sites[i] = p;
         i += 1;
     }
@@ -66,7 +80,7 @@ fn one_house(w: Work, text: &mut [u8; TEXT], page: &mut [u8; PAGE]) -> Work {
     let mut store = [0u64; STORE];
     let mut hand = [0u64; HAND];
     let mut out = [0u64; ROOM];
-    let mut sites = start_sites(w.sites);
+    let mut sites = start_sites(w.sites, lent_at_start(w));
     let mut u = opened(w, &mut queues);
     let mut left = u64::MAX;
     while left > 0 {

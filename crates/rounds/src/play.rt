@@ -15,9 +15,13 @@ use kinds::sizes::LISTS;
 use kinds::sizes::LIVE_WORDS;
 use kinds::sizes::OUTGOING;
 use kinds::sizes::QUEUES;
+use kinds::sizes::SITE_KEYS;
 use pieces::front;
 
 pub const PAIR: usize = 2;
+
+// The first keys of both sites.
+const EVEN: [u64; PAIR] = [0, SITE_KEYS];
 
 // Live parts, histories, base values and gathered lists of both sites, one behind the other.
 pub const LIVES: usize = PAIR * LIVE_WORDS;
@@ -45,8 +49,10 @@ fn start_at(
     base: &mut [u64],
     lists: &mut [u64],
 ) -> Core {
+    let firsts = EVEN;
     let o = store::start_site(
         PAIR as u64,
+        &firsts,
         own,
         half(live, i),
         half(history, i),
@@ -67,7 +73,8 @@ fn start(
 ) -> Store {
     let one = start_at(0, 1, live, history, base, lists);
     let two = start_at(1, 2, live, history, base, lists);
-    let o = store::start_merger(PAIR as u64, queues);
+    let firsts = EVEN;
+    let o = store::start_merger(PAIR as u64, &firsts, queues);
     let merger = o.merger;
     store::start_copy(copy);
     Store {

@@ -2,6 +2,7 @@
 pub mod seen;
 pub mod whole;
 
+use kinds::House;
 ghost use Prim.Native.Nat.{_<_};
 
 const PRIME: u64 = 4294967291;
@@ -37,6 +38,12 @@ pub fn of_words(h: u64, ws: &[u64]) -> u64 {
         i += 1;
     }
     sum
+}
+
+// The number of sites of a house, and the eight places of its table (Q3.5).
+fn of_house(h: House) -> u64 {
+    let firsts = h.firsts;
+    of_words(h.sites, &firsts)
 }
 
 // The first n keys as a set.

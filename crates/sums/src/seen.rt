@@ -1,5 +1,6 @@
 // The checksum of what the rules fix of a site: its parts and its history as sets, without what a stage does not use.
 use crate::more;
+use crate::of_house;
 use crate::of_set;
 use crate::of_words;
 use crate::of_writes;
@@ -166,7 +167,8 @@ pub fn site(p: Core, l: &[u64], h: &[u64], base: &[u64]) -> u64 {
     let sent = p.channels.sent;
     let taken = p.channels.taken;
     let seats = p.seats;
-    let a = three_more(p.house.sites, c.own, c.clock, c.serial);
+    let house = p.house;
+    let a = three_more(of_house(house), c.own, c.clock, c.serial);
     let b = of_words(of_words(more(a, c.installs), &sent), &taken);
     let d = more(more(b, live(c.own, seats, l)), history(h, c.installs));
     of_words(d, base)

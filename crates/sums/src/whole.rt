@@ -1,5 +1,6 @@
 // The checksum of every field of a core and of a merger, used or not: a refused call leaves it.
 use crate::more;
+use crate::of_house;
 use crate::of_words;
 use crate::three_more;
 use kinds::Channels;
@@ -36,7 +37,8 @@ pub fn core(p: Core) -> u64 {
     let c = p.counters;
     let d = p.channels;
     let t = p.seats;
-    let a = counters(p.house.sites, c);
+    let house = p.house;
+    let a = counters(of_house(house), c);
     seats(channels(a, d), t)
 }
 
@@ -48,7 +50,8 @@ fn source(h: u64, c: Source) -> u64 {
 }
 
 pub fn merger(g: Merger) -> u64 {
-    let mut sum = g.house.sites;
+    let house = g.house;
+    let mut sum = of_house(house);
     let mut i: usize = 0;
     while i < SITES {
         let c = g.sources[i];

@@ -10,6 +10,7 @@ use kinds::Channels;
 use kinds::Core;
 use kinds::Counters;
 use kinds::House;
+use kinds::Key;
 use kinds::Seat;
 use kinds::kind::CERT;
 use kinds::sizes::CERT_ENTRIES;
@@ -47,6 +48,9 @@ const OWN: u64 = 2;
 const INSTALLS: u64 = 40;
 
 const CLOCK: u64 = 1000;
+
+// The first keys of the house.
+const EVEN: [Key; SITES] = [0, 256, 512, 768, 1024, 1280, 1536, 1792];
 
 // All sites, and all but this one.
 const ALL: u64 = 255;
@@ -163,9 +167,11 @@ fn core() -> Core {
     let sent = [0u64; SITES];
     let taken = [0u64; SITES];
     let seats = seats();
+    let firsts = EVEN;
     Core {
         house: House {
             sites: SITES as u64,
+            firsts,
         },
         counters: Counters {
             own: OWN,

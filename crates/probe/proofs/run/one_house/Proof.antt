@@ -33,6 +33,9 @@ entered c =
     let hand = base .before .before .before in
     placed (hand .before .before .before)
 
+lent-at-start-requires : tie.Need-lent-at-start-requires Inv-loop μ-loop
+lent-at-start-requires c κs = search needs
+
 start-sites-requires : tie.Need-start-sites-requires Inv-loop μ-loop
 start-sites-requires c κs = search needs
 
@@ -87,6 +90,7 @@ one-house-spec =
     (tie.spec
     Inv-loop
     μ-loop
+    lent-at-start-requires
     start-sites-requires
     opened-requires
     loop-holds

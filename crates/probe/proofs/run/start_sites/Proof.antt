@@ -8,10 +8,10 @@ use Rattle.probe.proofs.run.start_sites.Statement.{statement}
 use Rattle.probe.proofs.run.start_sites.Tie as tie
 
 abbrev Inv-loop : tie.InvT-loop
-Inv-loop n sites₀ i₀ sites i = length sites ≡ sizes.sites
+Inv-loop n lent sites₀ i₀ sites i = length sites ≡ sizes.sites
 
 abbrev μ-loop : tie.MeasureT-loop
-μ-loop n sites₀ i₀ sites i = sizes.sites - i
+μ-loop n lent sites₀ i₀ sites i = sizes.sites - i
 
 start-at-requires : tie.Need-start-at-requires Inv-loop μ-loop
 start-at-requires c κs = search needs

@@ -10,6 +10,9 @@ Inv-loop g sum₀ i₀ sum i = Unit {0}
 abbrev μ-loop : tie.MeasureT-loop
 μ-loop g sum₀ i₀ sum i = 8 - i
 
+of-house-requires : tie.Need-of-house-requires Inv-loop μ-loop
+of-house-requires c κs = search needs
+
 loop-holds : tie.Need-loop-holds Inv-loop μ-loop
 loop-holds c = search needs
 
@@ -40,6 +43,7 @@ merger-spec =
     (tie.spec
     Inv-loop
     μ-loop
+    of-house-requires
     loop-holds
     mul-c
     element-copy-out-c
