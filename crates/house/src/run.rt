@@ -41,27 +41,45 @@ ghost use mathlib.Core.Path.{_≡_};
 ghost use lib.ListN.{length};
 ghost use Rattle.kinds.specs.Sizes as sizes;
 
-// What a line before an accepted `sites` leaves: the house, once it is accepted. A refused `sites` leaves the next one possible.
-fn opened(d: Play, s: Scan, page: &mut [u8; PAGE]) -> Play {
+// A script before its accepted `sites`, and the house once it is accepted: of 0 sites till then.
+struct Opening {
+    play: Play,
+    house: House,
+}
+
+fn unopened(play: Play) -> Opening {
+    Opening {
+        play,
+        house: House {
+            sites: 0,
+            firsts: [0; SITES],
+        },
+    }
+}
+
+// What a line before an accepted `sites` leaves. A refused `sites` leaves the next one possible.
+fn opened(d: Play, s: Scan, page: &mut [u8; PAGE]) -> Opening {
     let c = lines::told(s);
     if let Command::Sites(n, given) = c {
         let keys = lines::table(s);
         let code = open_code(n, given, &keys);
         if code != 0 {
-            return answered(d, page, Answer::Refused(code));
+            return unopened(answered(d, page, Answer::Refused(code)));
         }
-        let house = open_house(n, given, &keys);
         let mut e = d;
-        e.house = house;
-        return answered(e, page, Answer::Done);
+        e.sites = n;
+        return Opening {
+            play: answered(e, page, Answer::Done),
+            house: open_house(n, given, &keys),
+        };
     }
-    answered(d, page, Answer::Refused(MALFORMED))
+    unopened(answered(d, page, Answer::Refused(MALFORMED)))
 }
 
-fn opening(d: Play, text: &mut [u8; TEXT], page: &mut [u8; PAGE]) -> Play {
+fn opening(d: Play, text: &mut [u8; TEXT], page: &mut [u8; PAGE]) -> Opening {
     let s = shown(d, page);
     if s.state != LINE {
-        return s;
+        return unopened(s);
     }
     let before = s.input;
     let line = next_scan(text, before);
@@ -71,36 +89,33 @@ fn opening(d: Play, text: &mut [u8; TEXT], page: &mut [u8; PAGE]) -> Play {
     e.input = input;
     e.event = std::num::wrapping_add_u64(s.event, 1);
     if line.found != LINE {
-        return ended(e, line.found);
+        return unopened(ended(e, line.found));
     }
     opened(e, scan, page)
 }
 
 // Reads up to an accepted `sites`.
-fn until_sites(fd: i32, text: &mut [u8; TEXT], page: &mut [u8; PAGE]) -> Play {
-    let mut d = Play {
-        house: House {
-            sites: 0,
-            firsts: [0; SITES],
-        },
+fn until_sites(fd: i32, text: &mut [u8; TEXT], page: &mut [u8; PAGE]) -> Opening {
+    let mut o = unopened(Play {
+        sites: 0,
         input: Input { fd, at: 0, end: 0 },
         event: 0,
         used: 0,
         state: LINE,
-    };
+    });
     let mut left = u64::MAX;
     while left > 0 {
         left -= 1;
-        let house = d.house;
-        if house.sites != 0 {
+        let d = o.play;
+        if d.sites != 0 {
             break;
         }
         if d.state != LINE {
             break;
         }
-        d = opening(d, text, page);
+        o = opening(d, text, page);
     }
-    d
+    o
 }
 
 // Every line behind the accepted `sites`, with the house's sites and merger as they start.
@@ -163,6 +178,7 @@ fn turns(
 // Everything behind the accepted `sites`.
 fn rest(
     d: Play,
+    house: House,
     fd: i32,
     text: &mut [u8; TEXT],
     store: &mut [u64; STORE],
@@ -174,7 +190,6 @@ fn rest(
     let mut lists = [0u64; GATHERINGS];
     let mut queues = [0u64; QUEUES];
     let mut tables = [0u64; ALL_COPIES];
-    let house = d.house;
     let sites = start_sites(house, &mut live, &mut history, &mut base, &mut lists);
     let g = start_merger(house, &mut queues);
     start_copies(&mut tables);
@@ -197,10 +212,12 @@ fn rest(
 
 // Plays the script that fd reads, with what is under way beyond memory in the file of `spare`.
 pub fn play(fd: i32, spare: i32, text: &mut [u8; TEXT], page: &mut [u8; PAGE]) -> Play {
-    let d = until_sites(fd, text, page);
+    let o = until_sites(fd, text, page);
+    let d = o.play;
+    let house = o.house;
     if d.state != LINE {
         return d;
     }
     let mut store = [0u64; STORE];
-    rest(d, spare, text, &mut store, page)
+    rest(d, house, spare, text, &mut store, page)
 }

@@ -9,8 +9,7 @@ use lib.Dec.{leb}
 use Rattle.laws.specs.Choice.{pick, every, every-at}
 use Rattle.kinds.specs.Sizes as sizes
 use Rattle.kinds.specs.Reason as reason
-use Rattle.kinds.specs.declared.House.{House}
-use Rattle.rules.specs.House.{isSite, coordinatorOf}
+use Rattle.rules.specs.House.{coordinatorOf}
 use Rattle.lines.specs.declared.Command.{Command}
 use Rattle.lines.specs.declared.Command.the-variants as command
 use Rattle.routing.specs.declared.route.Route.{Route}
@@ -50,27 +49,31 @@ refuse code = record { place = nowhere; queue = none; code = code }
 abbrev pub goes : ℕ → ℕ → Route
 goes place queue = record { place = place; queue = queue; code = 0 }
 
--- a site of the house with a place
-unfoldable pub isPlaced : House → ℕ → Bool
-isPlaced o site = every (isSite o site ∷ leb site sizes.sites ∷ [])
+-- a site of a house of so many,
+unfoldable pub hasSite : ℕ → ℕ → Bool
+hasSite sites site = every (leb 1 site ∷ leb site sites ∷ [])
 
-unfoldable pub toSite : House → ℕ → Route
-toSite o site = pick (isPlaced o site) (goes (site - 1) none) (refuse reason.malformed)
+-- with a place
+unfoldable pub isPlaced : ℕ → ℕ → Bool
+isPlaced sites site = every (hasSite sites site ∷ leb site sizes.sites ∷ [])
+
+unfoldable pub toSite : ℕ → ℕ → Route
+toSite sites site = pick (isPlaced sites site) (goes (site - 1) none) (refuse reason.malformed)
 
 -- a number whose coordinator the house lacks is held nowhere
-unfoldable pub toCoordinator : House → ℕ → Route
-toCoordinator o tx = pick (isSite o (coordinatorOf tx)) (toSite o (coordinatorOf tx)) (refuse reason.unknown)
+unfoldable pub toCoordinator : ℕ → ℕ → Route
+toCoordinator sites tx = pick (hasSite sites (coordinatorOf tx)) (toSite sites (coordinatorOf tx)) (refuse reason.unknown)
 
-unfoldable pub toEnlister : House → ℕ → ℕ → Route
-toEnlister o tx site = pick (isSite o site) (toCoordinator o tx) (refuse reason.malformed)
+unfoldable pub toEnlister : ℕ → ℕ → ℕ → Route
+toEnlister sites tx site = pick (hasSite sites site) (toCoordinator sites tx) (refuse reason.malformed)
 
 -- a message's receiver, with the channel from its sender
-unfoldable pub toReceiver : House → ℕ → ℕ → Route
-toReceiver o from to =
-    pick (every (isPlaced o from ∷ isPlaced o to ∷ [])) (goes (to - 1) (channel (from - 1) (to - 1))) (refuse reason.malformed)
+unfoldable pub toReceiver : ℕ → ℕ → ℕ → Route
+toReceiver sites from to =
+    pick (every (isPlaced sites from ∷ isPlaced sites to ∷ [])) (goes (to - 1) (channel (from - 1) (to - 1))) (refuse reason.malformed)
 
-unfoldable pub fromLog : House → ℕ → Route
-fromLog o site = pick (isPlaced o site) (goes merger (log (site - 1))) (refuse reason.malformed)
+unfoldable pub fromLog : ℕ → ℕ → Route
+fromLog sites site = pick (isPlaced sites site) (goes merger (log (site - 1))) (refuse reason.malformed)
 
 abbrev pub isCopy : ℕ → Bool
 isCopy copy = every (leb 1 copy ∷ leb copy copies ∷ [])
@@ -81,31 +84,31 @@ toCopy copy = pick (isCopy copy) (goes (firstCopy + (copy - 1)) none) (refuse re
 unfoldable pub fromStream : ℕ → Route
 fromStream copy = pick (isCopy copy) (goes (firstCopy + (copy - 1)) (cursor (copy - 1))) (refuse reason.malformed)
 
-unfoldable pub routeOf : House → Command → Route
-routeOf o (command.Sites n given) = refuse reason.malformed
-routeOf o (command.Begin site d) = toSite o site
-routeOf o (command.Enlist tx site) = toEnlister o tx site
-routeOf o (command.Read site tx key) = toSite o site
-routeOf o (command.Write site tx key value) = toSite o site
-routeOf o (command.Commit tx) = toCoordinator o tx
-routeOf o (command.Abandon tx) = toCoordinator o tx
-routeOf o (command.Take from to) = toReceiver o from to
-routeOf o (command.Install site) = toSite o site
-routeOf o (command.Report site) = toSite o site
-routeOf o (command.Merge site) = fromLog o site
-routeOf o command.Emit = goes merger none
-routeOf o (command.Replay copy) = fromStream copy
-routeOf o (command.Value copy key) = toCopy copy
-routeOf o command.Bad = refuse reason.malformed
+unfoldable pub routeOf : ℕ → Command → Route
+routeOf sites (command.Sites n given) = refuse reason.malformed
+routeOf sites (command.Begin site d) = toSite sites site
+routeOf sites (command.Enlist tx site) = toEnlister sites tx site
+routeOf sites (command.Read site tx key) = toSite sites site
+routeOf sites (command.Write site tx key value) = toSite sites site
+routeOf sites (command.Commit tx) = toCoordinator sites tx
+routeOf sites (command.Abandon tx) = toCoordinator sites tx
+routeOf sites (command.Take from to) = toReceiver sites from to
+routeOf sites (command.Install site) = toSite sites site
+routeOf sites (command.Report site) = toSite sites site
+routeOf sites (command.Merge site) = fromLog sites site
+routeOf sites command.Emit = goes merger none
+routeOf sites (command.Replay copy) = fromStream copy
+routeOf sites (command.Value copy key) = toCopy copy
+routeOf sites command.Bad = refuse reason.malformed
 
 -- what a placed site says
 pub record Placed (site : ℕ) : Type 0 where
   pub low : 1 ≤ site
   pub high : site ≤ sizes.sites
 
-pub placed : (o : House) (site : ℕ) → isPlaced o site ≡ true → Placed site
-unfolding isPlaced isSite
-placed o site e =
-    let both = isSite o site ∷ leb site sizes.sites ∷ [] in
-    let inside = leb 1 site ∷ leb site (o .sites) ∷ [] in
+pub placed : (sites : ℕ) (site : ℕ) → isPlaced sites site ≡ true → Placed site
+unfolding isPlaced hasSite
+placed sites site e =
+    let both = hasSite sites site ∷ leb site sizes.sites ∷ [] in
+    let inside = leb 1 site ∷ leb site sites ∷ [] in
     record { low = leb-true 1 site (every-at inside 0 (every-at both 0 e)); high = leb-true site sizes.sites (every-at both 1 e) }

@@ -4,7 +4,6 @@ mod post;
 pub mod route;
 
 use kinds::Answer;
-use kinds::House;
 use kinds::reason::NOTHING;
 use kinds::sizes::OUTGOING;
 use kinds::sizes::SITES;
@@ -40,7 +39,7 @@ ghost use Rattle.routing.specs.Route.{none};
 
 // A script under way: `state` is LINE until it ends, and then says why.
 pub struct Play {
-    pub house: House,
+    pub sites: u64,
     pub input: Input,
     pub event: u64,
     pub used: usize,
@@ -176,8 +175,7 @@ pub fn next_ask(
     if line.found != LINE {
         return idle(ended(e, line.found));
     }
-    let house = e.house;
-    let r = routed(house, c);
+    let r = routed(e.sites, c);
     if NOWHERE <= r.place {
         return idle(answered(e, page, Answer::Refused(r.code)));
     }

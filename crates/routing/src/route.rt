@@ -3,17 +3,15 @@ use crate::post::COPIES;
 use crate::post::channel;
 use crate::post::cursor;
 use crate::post::log;
-use kinds::House;
 use kinds::reason::MALFORMED;
 use kinds::reason::UNKNOWN;
 use kinds::sizes::SITES;
 use lines::Command;
 use numbers::coordinator_of;
-use numbers::is_site;
 use spool::QUEUES;
 ghost use mathlib.Core.Path.{_≡_};
 ghost use Prim.Native.Nat.{_<_};
-ghost use Rattle.routing.specs.Route.{refuse as refuseOf, goes, none, isPlaced, toSite, toCoordinator, toEnlister, toReceiver};
+ghost use Rattle.routing.specs.Route.{hasSite, refuse as refuseOf, goes, none, isPlaced, toSite, toCoordinator, toEnlister, toReceiver};
 ghost use Rattle.routing.specs.Route.{fromLog, toCopy, fromStream, routeOf};
 
 // A place below SITES is a site, less 1; one from FIRST_COPY to NOWHERE is a copy.
@@ -51,53 +49,63 @@ fn to(place: usize) -> Route
     }
 }
 
-fn to_site(h: House, site: u64) -> Route
-    ensures { λ r. ⌜ r ≡ toSite h site ⌝ }
+fn to_site(sites: u64, site: u64) -> Route
+    ensures { λ r. ⌜ r ≡ toSite sites site ⌝ }
 {
-    if !is_placed(h, site) {
+    if !is_placed(sites, site) {
         return refuse(MALFORMED);
     }
     to((site - 1) as usize)
 }
 
-// A site of the house with a place.
-fn is_placed(h: House, site: u64) -> bool
-    ensures { λ r. ⌜ r ≡ isPlaced h site ⌝ }
+// A site of a house of so many.
+fn has_site(sites: u64, site: u64) -> bool
+    ensures { λ r. ⌜ r ≡ hasSite sites site ⌝ }
 {
-    if !is_site(h, site) {
+    if site < 1 {
+        return false;
+    }
+    site <= sites
+}
+
+// One with a place.
+fn is_placed(sites: u64, site: u64) -> bool
+    ensures { λ r. ⌜ r ≡ isPlaced sites site ⌝ }
+{
+    if !has_site(sites, site) {
         return false;
     }
     site <= SITES as u64
 }
 
 // A number whose coordinator the house lacks is held nowhere.
-fn to_coordinator(h: House, tx: u64) -> Route
-    ensures { λ r. ⌜ r ≡ toCoordinator h tx ⌝ }
+fn to_coordinator(sites: u64, tx: u64) -> Route
+    ensures { λ r. ⌜ r ≡ toCoordinator sites tx ⌝ }
 {
     let coordinator = coordinator_of(tx);
-    if !is_site(h, coordinator) {
+    if !has_site(sites, coordinator) {
         return refuse(UNKNOWN);
     }
-    to_site(h, coordinator)
+    to_site(sites, coordinator)
 }
 
-fn to_enlister(h: House, tx: u64, site: u64) -> Route
-    ensures { λ r. ⌜ r ≡ toEnlister h tx site ⌝ }
+fn to_enlister(sites: u64, tx: u64, site: u64) -> Route
+    ensures { λ r. ⌜ r ≡ toEnlister sites tx site ⌝ }
 {
-    if !is_site(h, site) {
+    if !has_site(sites, site) {
         return refuse(MALFORMED);
     }
-    to_coordinator(h, tx)
+    to_coordinator(sites, tx)
 }
 
 // A message's receiver.
-fn to_receiver(h: House, from: u64, to: u64) -> Route
-    ensures { λ r. ⌜ r ≡ toReceiver h from to ⌝ }
+fn to_receiver(sites: u64, from: u64, to: u64) -> Route
+    ensures { λ r. ⌜ r ≡ toReceiver sites from to ⌝ }
 {
-    if !is_placed(h, from) {
+    if !is_placed(sites, from) {
         return refuse(MALFORMED);
     }
-    if !is_placed(h, to) {
+    if !is_placed(sites, to) {
         return refuse(MALFORMED);
     }
     let sender = (from - 1) as usize;
@@ -109,10 +117,10 @@ fn to_receiver(h: House, from: u64, to: u64) -> Route
     }
 }
 
-fn from_log(h: House, site: u64) -> Route
-    ensures { λ r. ⌜ r ≡ fromLog h site ⌝ }
+fn from_log(sites: u64, site: u64) -> Route
+    ensures { λ r. ⌜ r ≡ fromLog sites site ⌝ }
 {
-    if !is_placed(h, site) {
+    if !is_placed(sites, site) {
         return refuse(MALFORMED);
     }
     let i = (site - 1) as usize;
@@ -153,20 +161,20 @@ fn from_stream(copy: u64) -> Route
     }
 }
 
-pub fn routed(h: House, c: Command) -> Route
-    ensures { λ r. ⌜ r ≡ routeOf h c ⌝ }
+pub fn routed(sites: u64, c: Command) -> Route
+    ensures { λ r. ⌜ r ≡ routeOf sites c ⌝ }
 {
     match c {
-        Command::Begin(site, _) => to_site(h, site),
-        Command::Enlist(tx, site) => to_enlister(h, tx, site),
-        Command::Read(site, _, _) => to_site(h, site),
-        Command::Write(site, _, _, _) => to_site(h, site),
-        Command::Commit(tx) => to_coordinator(h, tx),
-        Command::Abandon(tx) => to_coordinator(h, tx),
-        Command::Take(from, site) => to_receiver(h, from, site),
-        Command::Install(site) => to_site(h, site),
-        Command::Report(site) => to_site(h, site),
-        Command::Merge(site) => from_log(h, site),
+        Command::Begin(site, _) => to_site(sites, site),
+        Command::Enlist(tx, site) => to_enlister(sites, tx, site),
+        Command::Read(site, _, _) => to_site(sites, site),
+        Command::Write(site, _, _, _) => to_site(sites, site),
+        Command::Commit(tx) => to_coordinator(sites, tx),
+        Command::Abandon(tx) => to_coordinator(sites, tx),
+        Command::Take(from, site) => to_receiver(sites, from, site),
+        Command::Install(site) => to_site(sites, site),
+        Command::Report(site) => to_site(sites, site),
+        Command::Merge(site) => from_log(sites, site),
         Command::Emit => to(MERGER),
         Command::Replay(copy) => from_stream(copy),
         Command::Value(copy, _) => to_copy(copy),

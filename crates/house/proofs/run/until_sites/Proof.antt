@@ -4,10 +4,10 @@ use Rattle.house.proofs.run.until_sites.Statement.{statement}
 use Rattle.house.proofs.run.until_sites.Tie as tie
 
 abbrev Inv-loop : tie.InvT-loop
-Inv-loop fd text₀ page₀ d₀ left₀ text page d left = Unit {0}
+Inv-loop fd text₀ page₀ o₀ left₀ text page o left = Unit {0}
 
 abbrev μ-loop : tie.MeasureT-loop
-μ-loop fd text₀ page₀ d₀ left₀ text page d left = left
+μ-loop fd text₀ page₀ o₀ left₀ text page o left = left
 
 loop-holds : tie.Need-loop-holds Inv-loop μ-loop
 loop-holds c = search needs

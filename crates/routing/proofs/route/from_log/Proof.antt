@@ -19,11 +19,11 @@ returns c = rw (← c .before .before .is-placed .ensures, not-true (c .before .
     (c .refuse .ensures)
 
 sub-i : tie.Need-sub-i
-sub-i c = let p = placed (c .before .before .args .h) (c .before .before .args .site)
+sub-i c = let p = placed (c .before .before .args .sites) (c .before .before .args .site)
     (sym (c .before .is-placed .ensures) ∙ not-false (c .before .is-placed .result) (c .if1 .left)) in omega (arith, p .low)
 
 log-requires : tie.Need-log-requires
-log-requires c κs = let p = placed (c .before .before .args .h) (c .before .before .args .site)
+log-requires c κs = let p = placed (c .before .before .args .sites) (c .before .before .args .site)
     (sym (c .before .is-placed .ensures) ∙ not-false (c .before .is-placed .result) (c .if1 .left)) in omega (arith, p .low, p .high)
 
 returns-2 : tie.Need-returns-2

@@ -6,7 +6,6 @@ use borrow.Author.Needs.{needs}
 use denote.Enum.Declared.{tagOf}
 use types.Run.{OneOf, miss}
 use Rattle.kinds.specs.Reason as reason
-use Rattle.kinds.specs.declared.House.{House}
 use Rattle.lines.proofs.Command.{the-type}
 use Rattle.lines.specs.declared.Command.{Command}
 use Rattle.lines.specs.declared.Command.the-variants as command
@@ -18,7 +17,7 @@ use Rattle.routing.proofs.route.routed.Tie as tie
 abbrev others : List ℕ
 others = 0 ∷ 14 ∷ []
 
-other : (o : House) (c : Command) → OneOf others (tagOf the-type c) → refuse reason.malformed ≡ routeOf o c
+other : (sites : ℕ) (c : Command) → OneOf others (tagOf the-type c) → refuse reason.malformed ≡ routeOf sites c
 unfolding routeOf
 other o (command.Sites n given) h = refl
 other o command.Bad h = refl
@@ -171,7 +170,7 @@ returns-13 c = rw (c .before .before .c12 .given .1) (c .to-copy .ensures)
 
 returns-14 : tie.Need-returns-14
 unfolding routeOf
-returns-14 c = c .refuse .ensures ∙ other (c .before .before .args .h) (c .before .before .args .c) (c .before .match .keys14)
+returns-14 c = c .refuse .ensures ∙ other (c .before .before .args .sites) (c .before .before .args .c) (c .before .match .keys14)
 
 pub routed-spec : {M : Type 1} → statement M
 routed-spec =

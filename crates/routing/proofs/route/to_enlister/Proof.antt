@@ -5,15 +5,15 @@ use borrow.Author.Tests.{not-false, not-true}
 use Rattle.routing.proofs.route.to_enlister.Statement.{statement}
 use Rattle.routing.proofs.route.to_enlister.Tie as tie
 
-is-site-requires : tie.Need-is-site-requires
-is-site-requires c κs = search needs
+has-site-requires : tie.Need-has-site-requires
+has-site-requires c κs = search needs
 
 refuse-requires : tie.Need-refuse-requires
 refuse-requires c κs = search needs
 
 returns : tie.Need-returns
 unfolding toEnlister
-returns c = rw (← c .before .before .is-site .ensures, not-true (c .before .before .is-site .result) (c .before .if1 .taken))
+returns c = rw (← c .before .before .has-site .ensures, not-true (c .before .before .has-site .result) (c .before .if1 .taken))
     (c .refuse .ensures)
 
 to-coordinator-requires : tie.Need-to-coordinator-requires
@@ -21,9 +21,9 @@ to-coordinator-requires c κs = search needs
 
 returns-2 : tie.Need-returns-2
 unfolding toEnlister
-returns-2 c = rw (← c .before .before .is-site .ensures, not-false (c .before .before .is-site .result) (c .before .if1 .left))
+returns-2 c = rw (← c .before .before .has-site .ensures, not-false (c .before .before .has-site .result) (c .before .if1 .left))
     (c .to-coordinator .ensures)
 
 pub to-enlister-spec : {M : Type 1} → statement M
 to-enlister-spec =
-    tie.close (tie.spec is-site-requires refuse-requires returns to-coordinator-requires returns-2)
+    tie.close (tie.spec has-site-requires refuse-requires returns to-coordinator-requires returns-2)

@@ -14,11 +14,11 @@ abbrev start : tie.Else1 → tie.Start
 start c = c .before .before
 
 sender : (c : tie.Else2) → Placed (start (tested c) .args .from)
-sender c = placed (start (tested c) .args .h) _ (sym (tested c .before .is-placed .ensures) ∙ not-false
+sender c = placed (start (tested c) .args .sites) _ (sym (tested c .before .is-placed .ensures) ∙ not-false
     (tested c .before .is-placed .result) (tested c .if1 .left))
 
 receiver : (c : tie.Else2) → Placed (start (tested c) .args .to)
-receiver c = placed (start (tested c) .args .h) _ (sym (c .before .is-placed2 .ensures) ∙ not-false (c .before .is-placed2 .result)
+receiver c = placed (start (tested c) .args .sites) _ (sym (c .before .is-placed2 .ensures) ∙ not-false (c .before .is-placed2 .result)
     (c .if2 .left))
 
 is-placed-requires : tie.Need-is-placed-requires

@@ -19,7 +19,7 @@ returns c = rw (← c .before .before .is-placed .ensures, not-true (c .before .
     (c .refuse .ensures)
 
 sub-to : tie.Need-sub-to
-sub-to c = let p = placed (c .before .before .args .h) (c .before .before .args .site)
+sub-to c = let p = placed (c .before .before .args .sites) (c .before .before .args .site)
     (sym (c .before .is-placed .ensures) ∙ not-false (c .before .is-placed .result) (c .if1 .left)) in omega (arith, p .low)
 
 to-requires : tie.Need-to-requires
