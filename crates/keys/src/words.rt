@@ -53,7 +53,8 @@ pub fn wrote_value_in(w: &[u64], o: usize, k: Key) -> Value
 // `first` wraps to a number above every count.
 fn keys_at_in(first: Key, count: u64, w: &[u64], at: usize, n: usize) -> bool
     requires { ⌜ (n ≤ sizes.writes) × (at + sizes.writes ≤ length (now w)) × (first + count ≤ sizes.keys) ⌝ }
-    ensures { λ r. ⌜ ((o : House) (own : ℕ) → RangeOf o own first count → r ≡ keysAt o own (wordsFrom (now (w .entry)) at sizes.writes) n) ⌝ }
+    ensures { λ r. ⌜ ((o : House) (own : ℕ) → RangeOf o own first count
+        → r ≡ keysAt o own (wordsFrom (now (w .entry)) at sizes.writes) n) ⌝ }
 {
     let mut i: usize = 0;
     while i < n {

@@ -34,9 +34,9 @@ use Rattle.played.proofs.Playable.{reachable, playable, allPlayable}
 
 unfoldable pub Open : Type 0
 unfolding scan.firstBelow scan.allBelow scan.anyBelow scan.foldBelow pair.precedes digits.onesBelow overlay.overlay overlay.putAt
-    state.noKeys state.noSub state.noEntry house.countOk house.tableOk house.restOk house.houseOk house.evenTable house.isSite house.homeOf house.isKey house.txOf house.coordinatorOf house.serialOf
-    house.isTx house.maskOf house.inMask house.isMask house.participants house.repliesWanted house.wholeHouse desk.isDesk desk.writeLimit
-    message.entryOffset
+    state.noKeys state.noSub state.noEntry house.countOk house.tableOk house.restOk house.houseOk house.evenTable house.isSite house.homeOf
+    house.isKey house.txOf house.coordinatorOf house.serialOf house.isTx house.maskOf house.inMask house.isMask house.participants
+    house.repliesWanted house.wholeHouse desk.isDesk desk.writeLimit message.entryOffset
     message.messageWords message.entryCount message.messageHead message.messageEntries message.toCoordinator message.coordinatorEnd
     message.carriesClock message.argumentOk message.mostEntries message.endsOk message.headOk message.entryBefore message.entryOk
     message.entryPossible message.messageShape message.messageOk records.writeOffset records.recordWords records.recordHead

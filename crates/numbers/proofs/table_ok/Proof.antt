@@ -103,7 +103,8 @@ loop-again c =
 returns-4 : tie.Need-returns-4 Inv-loop μ-loop
 returns-4 c =
     let l = c .before .loop in
-    let start = c .before .before .before .before in
+    let zeroed = c .before .before in
+    let start = zeroed .before .before in
     let n = start .args .n in
     let e : l .i ≡ n = omega (arith, c .loop-test .left) in
     sym (good-table n _ (rw e at (l .inv .2)))

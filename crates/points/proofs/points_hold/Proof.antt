@@ -44,8 +44,9 @@ use Rattle.points.proofs.points_hold.Statement.{statement}
 use Rattle.points.proofs.points_hold.Tie as tie
 
 returns : tie.Need-returns
-unfolding firstBelow allBelow anyBelow foldBelow precedes onesBelow overlay putAt noKeys noSub noEntry countOk tableOk restOk houseOk evenTable isSite homeOf isKey txOf
-    coordinatorOf serialOf isTx maskOf inMask isMask participants repliesWanted wholeHouse isDesk writeLimit entryOffset messageWords
+unfolding firstBelow allBelow anyBelow foldBelow precedes onesBelow overlay putAt noKeys noSub noEntry countOk tableOk restOk
+    houseOk evenTable isSite homeOf isKey txOf coordinatorOf serialOf isTx maskOf inMask isMask participants repliesWanted wholeHouse
+    isDesk writeLimit entryOffset messageWords
     entryCount messageHead messageEntries toCoordinator coordinatorEnd carriesClock argumentOk mostEntries endsOk headOk entryBefore
     entryOk messageShape messageOk writeOffset recordWords recordHead recordWrites pairOk partHeadOk stateHeadOk mergedHeadOk keyAscends
     partWriteOk mergedWriteOk recordShape partOk stateOk mergedOk keyPlace wroteKey readKey wroteValue withRead withWrite commonKey

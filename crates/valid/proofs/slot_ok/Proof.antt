@@ -27,7 +27,8 @@ mask-good : (c : tie.Else1) →
 mask-good c = sym (c .before .is-mask .ensures) ∙ not-false _ (c .if1 .left)
 
 keys-told : (c : tie.After-keys-ok-in) →
-    (let a = start (read (c .before)) .args in c .keys-ok-in .result ≡ keysOk (a .o) (a .own) (keysFrom (a .h .now) (a .at + word.slotKeys)))
+    (let a = start (read (c .before)) .args in
+    c .keys-ok-in .result ≡ keysOk (a .o) (a .own) (keysFrom (a .h .now) (a .at + word.slotKeys)))
 keys-told c = let s = start (read (c .before)) in c .keys-ok-in .ensures (s .args .o) (s .args .own) (s .pre .1)
 
 keys-good : (c : tie.Else2) →

@@ -56,7 +56,8 @@ returns c =
     let sub = c .before .wrapping-sub-u64 in
     let t = turn (c .before) in
     let s = start t in
-    let out = outside (s .args .first) (s .args .count) (looked t) (sub .result) (s .pre .2) (search needs) (sub .ensures) (c .if1 .taken) in
+    let out = outside (s .args .first) (s .args .count) (looked t) (sub .result) (s .pre .2) (search needs) (sub .ensures)
+    (c .if1 .taken) in
     λ o own range.
     not-all-below _ _ (t .before .loop .i) (t .loop-test .taken) (rw (word t) out) ∙ keys-within o own _ _ _ _ range
 

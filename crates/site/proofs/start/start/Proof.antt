@@ -30,7 +30,8 @@ first : (c : tie.After-start-code) → c .start-code .result ≡ codeOf (start (
 first c =
     let a = start (c .before) .args in
     c .start-code .ensures
-    ∙ ap (λ (n : ℕ). startCode n (a .firsts .now) (a .own) (length (a .base .now)) (length (a .lists .now))) (c .before .lent-sites .ensures)
+    ∙ ap (λ (n : ℕ). startCode n (a .firsts .now) (a .own) (length (a .base .now)) (length (a .lists .now)))
+    (c .before .lent-sites .ensures)
 
 lent-sites-requires : tie.Need-lent-sites-requires
 lent-sites-requires c κs = search needs
@@ -85,7 +86,8 @@ past c = live c .before .before
 clear : (c : tie.After-slice-known8) → codeOf (start (past c .before .before)) ≡ 0
 clear c = sym (first (past c .before)) ∙ past c .if1 .left
 
-fitting : (c : tie.After-slice-known8) → (let a = start (past c .before .before) .args in Fitting (a .firsts .now) (a .live .now) (a .history .now))
+fitting : (c : tie.After-slice-known8) →
+    (let a = start (past c .before .before) .args in Fitting (a .firsts .now) (a .live .now) (a .history .now))
 fitting c = started-fits _ _ _ _ _ _ _ (clear c)
 
 fresh : (sites : ℕ) (table : List ℕ) (own : ℕ) (w h : List ℕ) (b l : ℕ) (core : Core) (v g : List ℕ)
