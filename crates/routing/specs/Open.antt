@@ -28,7 +28,8 @@ even-starts (suc (suc (suc (suc (suc zero))))) e = refl
 even-starts (suc (suc (suc (suc (suc (suc zero)))))) e = refl
 even-starts (suc (suc (suc (suc (suc (suc (suc zero))))))) e = refl
 even-starts (suc (suc (suc (suc (suc (suc (suc (suc zero)))))))) e = refl
-even-starts (suc (suc (suc (suc (suc (suc (suc (suc (suc n))))))))) e = let h = count-clear (suc (suc (suc (suc (suc (suc (suc (suc (suc n))))))))) e .1 in absurd (omega arith)
+even-starts (suc (suc (suc (suc (suc (suc (suc (suc (suc n))))))))) e =
+    let h = count-clear (suc (suc (suc (suc (suc (suc (suc (suc (suc n))))))))) e .1 in absurd (omega arith)
 
 -- words from the front are not more
 take-few : (n : ℕ) (l : List ℕ) → length (take n l) ≤ length l

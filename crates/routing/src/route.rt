@@ -11,8 +11,8 @@ use numbers::coordinator_of;
 use spool::QUEUES;
 ghost use mathlib.Core.Path.{_≡_};
 ghost use Prim.Native.Nat.{_<_};
-ghost use Rattle.routing.specs.Route.{hasSite, refuse as refuseOf, goes, none, isPlaced, toSite, toCoordinator, toEnlister, toReceiver};
-ghost use Rattle.routing.specs.Route.{fromLog, toCopy, fromStream, routeOf};
+ghost use Rattle.routing.specs.Route.{refuse as refuseOf, goes, none, isPlaced, toSite, toCoordinator, toEnlister, toReceiver};
+ghost use Rattle.routing.specs.Route.{hasSite, fromLog, toCopy, fromStream, routeOf};
 
 // A place below SITES is a site, less 1; one from FIRST_COPY to NOWHERE is a copy.
 pub const MERGER: usize = SITES;

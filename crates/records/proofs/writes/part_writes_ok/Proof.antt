@@ -55,7 +55,11 @@ part-write-ok-requires : tie.Need-part-write-ok-requires Inv-loop μ-loop
 part-write-ok-requires c κs = search needs
 
 returns : tie.Need-returns Inv-loop μ-loop
-returns c = not-all-below _ _ _ (c .before .before .loop-test .taken) (by-range (c .before .before .before .before) _ ∙ sym (c .before .part-write-ok .ensures) ∙ not-true _ (c .if1 .taken))
+returns c =
+    let loop = c .before .before .before in
+    let write = c .before .part-write-ok in
+    not-all-below _ _ _ (c .before .before .loop-test .taken)
+    (by-range (loop .before) _ ∙ sym (write .ensures) ∙ not-true _ (c .if1 .taken))
 
 add-i : tie.Need-add-i Inv-loop μ-loop
 add-i c = search needs

@@ -1,5 +1,4 @@
 -- From 1 to the last.
-use borrow.Author.Needs.{needs}
 use borrow.Author.Tests.{le-leb, lt-leb}
 use Rattle.laws.specs.Choice.{pick-self}
 use Rattle.routing.specs.Route.{hasSite}
