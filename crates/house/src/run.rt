@@ -42,13 +42,13 @@ ghost use lib.ListN.{length};
 ghost use Rattle.kinds.specs.Sizes as sizes;
 
 // A script before its accepted `sites`, and the house once it is accepted: of 0 sites till then.
-struct Opening {
+struct Prelude {
     play: Play,
     house: House,
 }
 
-fn unopened(play: Play) -> Opening {
-    Opening {
+fn unopened(play: Play) -> Prelude {
+    Prelude {
         play,
         house: House {
             sites: 0,
@@ -58,7 +58,7 @@ fn unopened(play: Play) -> Opening {
 }
 
 // What a line before an accepted `sites` leaves. A refused `sites` leaves the next one possible.
-fn opened(d: Play, s: Scan, page: &mut [u8; PAGE]) -> Opening {
+fn opened(d: Play, s: Scan, page: &mut [u8; PAGE]) -> Prelude {
     let c = lines::told(s);
     if let Command::Sites(n, given) = c {
         let keys = lines::table(s);
@@ -68,7 +68,7 @@ fn opened(d: Play, s: Scan, page: &mut [u8; PAGE]) -> Opening {
         }
         let mut e = d;
         e.sites = n;
-        return Opening {
+        return Prelude {
             play: answered(e, page, Answer::Done),
             house: open_house(n, given, &keys),
         };
@@ -76,7 +76,7 @@ fn opened(d: Play, s: Scan, page: &mut [u8; PAGE]) -> Opening {
     unopened(answered(d, page, Answer::Refused(MALFORMED)))
 }
 
-fn opening(d: Play, text: &mut [u8; TEXT], page: &mut [u8; PAGE]) -> Opening {
+fn opening(d: Play, text: &mut [u8; TEXT], page: &mut [u8; PAGE]) -> Prelude {
     let s = shown(d, page);
     if s.state != LINE {
         return unopened(s);
@@ -95,7 +95,7 @@ fn opening(d: Play, text: &mut [u8; TEXT], page: &mut [u8; PAGE]) -> Opening {
 }
 
 // Reads up to an accepted `sites`.
-fn until_sites(fd: i32, text: &mut [u8; TEXT], page: &mut [u8; PAGE]) -> Opening {
+fn until_sites(fd: i32, text: &mut [u8; TEXT], page: &mut [u8; PAGE]) -> Prelude {
     let mut o = unopened(Play {
         sites: 0,
         input: Input { fd, at: 0, end: 0 },

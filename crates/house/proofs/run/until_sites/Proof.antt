@@ -9,6 +9,9 @@ Inv-loop fd text₀ page₀ o₀ left₀ text page o left = Unit {0}
 abbrev μ-loop : tie.MeasureT-loop
 μ-loop fd text₀ page₀ o₀ left₀ text page o left = left
 
+unopened-requires : tie.Need-unopened-requires Inv-loop μ-loop
+unopened-requires c κs = search needs
+
 loop-holds : tie.Need-loop-holds Inv-loop μ-loop
 loop-holds c = search needs
 
@@ -39,6 +42,7 @@ until-sites-spec =
     (tie.spec
     Inv-loop
     μ-loop
+    unopened-requires
     loop-holds
     sub-left
     opening-requires
