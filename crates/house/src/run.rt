@@ -15,7 +15,8 @@ use kinds::sizes::OUTGOING;
 use kinds::sizes::QUEUES;
 use kinds::sizes::SITES;
 use lines::Command;
-use lines::Scan;
+use lines::Place;
+use lines::WORDS;
 use pages::PAGE;
 use routing::Play;
 use routing::answered;
@@ -58,10 +59,10 @@ fn unopened(play: Play) -> Prelude {
 }
 
 // What a line before an accepted `sites` leaves. A refused `sites` leaves the next one possible.
-fn opened(d: Play, s: Scan, page: &mut [u8; PAGE]) -> Prelude {
-    let c = lines::told(s);
+fn opened(d: Play, s: Place, words: &[u64; WORDS], page: &mut [u8; PAGE]) -> Prelude {
+    let c = lines::told(s, words);
     if let Command::Sites(n, given) = c {
-        let keys = lines::table(s);
+        let keys = lines::table(s, words);
         let code = open_code(n, given, &keys);
         if code != 0 {
             return unopened(answered(d, page, Answer::Refused(code)));
@@ -82,16 +83,17 @@ fn opening(d: Play, text: &mut [u8; TEXT], page: &mut [u8; PAGE]) -> Prelude {
         return unopened(s);
     }
     let before = s.input;
-    let line = next_scan(text, before);
+    let mut words = [0u64; WORDS];
+    let line = next_scan(text, &mut words, before);
     let input = line.input;
-    let scan = line.scan;
+    let place = line.place;
     let mut e = s;
     e.input = input;
     e.event = std::num::wrapping_add_u64(s.event, 1);
     if line.found != LINE {
         return unopened(ended(e, line.found));
     }
-    opened(e, scan, page)
+    opened(e, place, &words, page)
 }
 
 // Reads up to an accepted `sites`.

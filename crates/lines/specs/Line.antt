@@ -15,7 +15,6 @@ use Rattle.lines.specs.declared.Command.the-variants as command
 use Rattle.lines.specs.declared.Grown.{Grown}
 use Rattle.lines.specs.declared.Grown.the-variants as grew
 use Rattle.lines.specs.declared.Place.{Place}
-use Rattle.lines.specs.declared.Scan.{Scan}
 
 -- a letter more of a verb of at most seven
 unfoldable pub letter : ℕ → ℕ → Grown
@@ -28,6 +27,13 @@ digit v x = pick (ltb x 48) grew.Spoilt
 
 unfoldable pub grown : ℕ → ℕ → ℕ → Grown
 grown ended v x = pick (eqb ended 0) (letter v x) (digit v x)
+
+-- What has been read of a line: how many words ended, whether the present one has begun, the present one, and the ended ones.
+pub record Scan : Type 0 where
+  pub ended : ℕ
+  pub begun : ℕ
+  pub word : ℕ
+  pub words : List ℕ
 
 unfoldable pub start : Scan
 start = record { ended = 0; begun = 0; word = 0; words = 0 ∷ 0 ∷ 0 ∷ 0 ∷ 0 ∷ 0 ∷ 0 ∷ 0 ∷ 0 ∷ [] }

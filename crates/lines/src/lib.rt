@@ -12,7 +12,7 @@ ghost use mathlib.Core.Path.{_≡_};
 ghost use Prim.Native.Nat.{_+_, _-_, _≤_, _<_};
 ghost use lib.ListN.{length};
 ghost use Rattle.lines.specs.Line.{letter as letterOf, digit as digitOf, grown, start as startOf, stepped, readOn, Ends};
-ghost use Rattle.lines.specs.Line.{scanOf, spaced, took, commandOf, wordAt, tableOf};
+ghost use Rattle.lines.specs.Line.{scanOf, placeOf, spaced, took, commandOf, wordAt, tableOf};
 
 pub enum Command {
     // How many sites, and how many first keys the line gives behind that number.
@@ -39,7 +39,7 @@ const SPACE: u8 = 32;
 // A line of this many ended words is none of a script's.
 const BAD: u64 = 10;
 // How many words can end: a verb and eight numbers. A ninth number is the last word of its line.
-const WORDS: usize = 9;
+pub const WORDS: usize = 9;
 
 const FULL: u64 = 9;
 
@@ -50,16 +50,9 @@ const TENTH: u64 = 1844674407370955161;
 // A verb of seven letters is at least this.
 const LONGEST: u64 = 281474976710656;
 
-// What has been read of a line: how many words ended, whether the present one has begun (0 or 1), the present one, and the ended
-// ones in their order, the verb first. A verb is its letters as digits to the base 256.
-pub struct Scan {
-    pub ended: u64,
-    pub begun: u64,
-    pub word: u64,
-    pub words: [u64; WORDS],
-}
-
-// Where a scan stands: all of it but its ended words.
+// What has been read of a line: how many words ended, whether the present one has begun (0 or 1), and the present one. The ended
+// ones stand in lent words, in their order, the verb first: no step and no reading copies them. A verb is its letters as digits to
+// the base 256.
 pub struct Place {
     pub ended: u64,
     pub begun: u64,
@@ -72,14 +65,13 @@ pub enum Grown {
     Spoilt,
 }
 
-pub fn start() -> Scan
-    ensures { λ r. ⌜ r ≡ startOf ⌝ }
+pub fn start() -> Place
+    ensures { λ r. ⌜ r ≡ placeOf startOf ⌝ }
 {
-    Scan {
+    Place {
         ended: 0,
         begun: 0,
         word: 0,
-        words: [0; WORDS],
     }
 }
 
@@ -129,7 +121,7 @@ fn grow(ended: u64, word: u64, b: u8) -> Grown
     digit(word, b)
 }
 
-// The scan with one byte more. Its ended words are lent, so that no byte copies them.
+// The scan with one byte more.
 pub fn step(p: Place, words: &mut [u64; WORDS], b: u8) -> Place
     ensures { λ r. ⌜ scanOf r (now (words .exit)) ≡ stepped (scanOf p (now (words .entry))) b ⌝ }
 {
@@ -188,12 +180,11 @@ fn grow_word(p: Place, b: u8) -> Place
 }
 
 // The command that a line is.
-pub fn told(s: Scan) -> Command
-    ensures { λ r. ⌜ r ≡ commandOf s ⌝ }
+pub fn told(s: Place, words: &[u64; WORDS]) -> Command
+    ensures { λ r. ⌜ r ≡ commandOf (scanOf s (now (words .entry))) ⌝ }
 {
     let ended = s.ended;
     let begun = s.begun;
-    let words = s.words;
     if begun == 0 {
         return Command::Bad;
     }
@@ -219,8 +210,8 @@ pub fn told(s: Scan) -> Command
 }
 
 // A line's word by its place: an ended one, the present one, or 0 behind it.
-fn word_at(s: Scan, at: u64) -> u64
-    ensures { λ r. ⌜ r ≡ wordAt s at ⌝ }
+fn word_at(s: Place, words: &[u64; WORDS], at: u64) -> u64
+    ensures { λ r. ⌜ r ≡ wordAt (scanOf s (now (words .entry))) at ⌝ }
 {
     let ended = s.ended;
     if ended < at {
@@ -233,59 +224,45 @@ fn word_at(s: Scan, at: u64) -> u64
         return 0;
     }
     let i = at as usize;
-    let words = s.words;
     words[i]
 }
 
 // The first keys of a `sites` line in their order, and 0 behind those that it gives.
-pub fn table(s: Scan) -> [u64; 8]
-    ensures { λ r. ⌜ r ≡ tableOf s ⌝ }
+pub fn table(s: Place, words: &[u64; WORDS]) -> [u64; 8]
+    ensures { λ r. ⌜ r ≡ tableOf (scanOf s (now (words .entry))) ⌝ }
 {
-    let key1 = word_at(s, 2);
-    let key2 = word_at(s, 3);
-    let key3 = word_at(s, 4);
-    let key4 = word_at(s, 5);
-    let key5 = word_at(s, 6);
-    let key6 = word_at(s, 7);
-    let key7 = word_at(s, 8);
-    let key8 = word_at(s, 9);
+    let key1 = word_at(s, words, 2);
+    let key2 = word_at(s, words, 3);
+    let key3 = word_at(s, words, 4);
+    let key4 = word_at(s, words, 5);
+    let key5 = word_at(s, words, 6);
+    let key6 = word_at(s, words, 7);
+    let key7 = word_at(s, words, 8);
+    let key8 = word_at(s, words, 9);
     [key1, key2, key3, key4, key5, key6, key7, key8]
 }
 
 // How far a scan went: to a newline, or to the end of what there is.
 pub struct Reached {
     pub at: usize,
-    pub scan: Scan,
+    pub place: Place,
 }
 
 // Goes on with a scan over text's bytes from `from` on, up to a newline or `to`.
-pub fn read(s: Scan, text: &[u8], from: usize, to: usize) -> Reached
+pub fn read(s: Place, words: &mut [u64; WORDS], text: &[u8], from: usize, to: usize) -> Reached
     requires { ⌜ (from ≤ to) × (to ≤ length (now text)) ⌝ }
-    ensures { λ r. ⌜ r .scan ≡ readOn (now (text .entry)) from (r .at - from) s ⌝ }
+    ensures { λ r. ⌜ scanOf (r .place) (now (words .exit)) ≡ readOn (now (text .entry)) from (r .at - from) (scanOf s (now (words .entry))) ⌝ }
     ensures { λ r. ⌜ Ends (now (text .entry)) from to (r .at) ⌝ }
 {
-    let mut words = s.words;
-    let mut p = Place {
-        ended: s.ended,
-        begun: s.begun,
-        word: s.word,
-    };
+    let mut p = s;
     let mut i = from;
     while i < to {
         let b = text[i];
         if b == NEWLINE {
             break;
         }
-        p = step(p, &mut words, b);
+        p = step(p, words, b);
         i += 1;
     }
-    Reached {
-        at: i,
-        scan: Scan {
-            ended: p.ended,
-            begun: p.begun,
-            word: p.word,
-            words,
-        },
-    }
+    Reached { at: i, place: p }
 }

@@ -16,6 +16,7 @@ use kinds::sizes::LIVE_WORDS;
 use kinds::sizes::OUTGOING;
 use kinds::sizes::QUEUES;
 use kinds::sizes::SITES;
+use lines::WORDS;
 use numbers::table_ok;
 use pages::Filled;
 use pages::PAGE;
@@ -144,11 +145,12 @@ pub fn read_line(w: Work, text: &mut [u8; TEXT]) -> Work {
         return w;
     }
     let before = w.input;
-    let r = next_scan(text, before);
+    let mut words = [0u64; WORDS];
+    let r = next_scan(text, &mut words, before);
     let input = r.input;
-    let s = r.scan;
+    let s = r.place;
     let lent = w.lent;
-    let l = opened(told(s), lent);
+    let l = opened(told(s, &words), lent);
     let mut v = w;
     v.input = input;
     v.event = std::num::wrapping_add_u64(w.event, 1);

@@ -1,6 +1,7 @@
 // A script's lines, read in large blocks.
 use lines::Command;
-use lines::Scan;
+use lines::Place;
+use lines::WORDS;
 ghost use mathlib.Core.Path.{_≡_};
 ghost use Prim.Native.Nat.{_≤_};
 ghost use lib.Dec.{eqb};
@@ -35,7 +36,7 @@ pub struct Input {
 pub struct Reading {
     pub found: u64,
     pub input: Input,
-    pub scan: Scan,
+    pub place: Place,
 }
 
 pub struct Line {
@@ -56,23 +57,23 @@ fn refilled(text: &mut [u8; TEXT], r: Reading) -> Reading {
     } else {
         GOING
     };
-    let scan = r.scan;
+    let place = r.place;
     Reading {
         found,
         input: Input { fd, at: 0, end },
-        scan,
+        place,
     }
 }
 
 // Scans the block on.
-fn scanned(text: &[u8; TEXT], r: Reading) -> Reading
+fn scanned(text: &[u8; TEXT], words: &mut [u64; WORDS], r: Reading) -> Reading
     requires { ⌜ (r .input .at ≤ r .input .end) × (r .input .end ≤ sizes.text) ⌝ }
 {
     let fd = r.input.fd;
     let end = r.input.end;
-    let scan = r.scan;
-    let m = lines::read(scan, text, r.input.at, end);
-    let next = m.scan;
+    let place = r.place;
+    let m = lines::read(place, words, text, r.input.at, end);
+    let next = m.place;
     let at = m.at;
     if at < end {
         return Reading {
@@ -82,17 +83,17 @@ fn scanned(text: &[u8; TEXT], r: Reading) -> Reading
                 at: at + 1,
                 end,
             },
-            scan: next,
+            place: next,
         };
     }
     Reading {
         found: GOING,
         input: Input { fd, at, end },
-        scan: next,
+        place: next,
     }
 }
 
-fn read_on(text: &mut [u8; TEXT], r: Reading) -> Reading {
+fn read_on(text: &mut [u8; TEXT], words: &mut [u64; WORDS], r: Reading) -> Reading {
     let at = r.input.at;
     let end = r.input.end;
     if end <= at {
@@ -101,11 +102,11 @@ fn read_on(text: &mut [u8; TEXT], r: Reading) -> Reading {
     if TEXT < end {
         return refilled(text, r);
     }
-    scanned(text, r)
+    scanned(text, words, r)
 }
 
 // What was found: a last line need not end in a newline, and every byte of a line marks its scan.
-fn found_in(found: u64, s: Scan) -> u64
+fn found_in(found: u64, s: Place) -> u64
     ensures { λ r. ⌜ r ≡ pick (eqb found 2) (pick (eqb (s .ended) 0) (pick (eqb (s .begun) 0) 2 1) 1) found ⌝ }
 {
     if found != END {
@@ -120,13 +121,13 @@ fn found_in(found: u64, s: Scan) -> u64
     END
 }
 
-// Reads a line: its scan, and what was found.
-pub fn next_scan(text: &mut [u8; TEXT], input: Input) -> Reading {
-    let scan = lines::start();
+// Reads a line: its scan, whose ended words are put in `words`, and what was found.
+pub fn next_scan(text: &mut [u8; TEXT], words: &mut [u64; WORDS], input: Input) -> Reading {
+    let place = lines::start();
     let mut r = Reading {
         found: GOING,
         input,
-        scan,
+        place,
     };
     // A loop has to end, and nothing says that a script does.
     let mut left = u64::MAX;
@@ -134,23 +135,24 @@ pub fn next_scan(text: &mut [u8; TEXT], input: Input) -> Reading {
         if left == 0 {
             break;
         }
-        r = read_on(text, r);
+        r = read_on(text, words, r);
         left -= 1;
     }
-    let s = r.scan;
+    let s = r.place;
     let input = r.input;
     Reading {
         found: found_in(r.found, s),
         input,
-        scan: s,
+        place: s,
     }
 }
 
 pub fn next_line(text: &mut [u8; TEXT], input: Input) -> Line {
-    let r = next_scan(text, input);
-    let s = r.scan;
+    let mut words = [0u64; WORDS];
+    let r = next_scan(text, &mut words, input);
+    let s = r.place;
     let input = r.input;
-    let command = lines::told(s);
+    let command = lines::told(s, &words);
     Line {
         found: r.found,
         input,

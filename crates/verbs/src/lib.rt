@@ -1,7 +1,8 @@
 // Lines of a probe: a verb and up to four numbers. Any other line is a remark.
 pub mod verb;
 
-use lines::Scan;
+use lines::Place;
+use lines::WORDS;
 
 // Whom a line is for.
 pub const NOBODY: u64 = 0;
@@ -118,9 +119,8 @@ fn four(v: u64) -> u64 {
 }
 
 // The line that a scan has read.
-pub fn told(s: Scan) -> Line {
+pub fn told(s: Place, words: &[u64; WORDS]) -> Line {
     let n = s.ended;
-    let words = s.words;
     if s.begun == 0 {
         return remark();
     }

@@ -8,15 +8,15 @@ use Rattle.lines.proofs.read.Statement.{statement}
 use Rattle.lines.proofs.read.Tie as tie
 
 abbrev Inv-loop : tie.InvT-loop
-Inv-loop text from to words₀ p₀ i₀ words p i =
+Inv-loop words₀ text from to p₀ i₀ words p i =
     (from ≤ i) × (i ≤ to) × (scanOf p words ≡ readOn text from (i - from) (scanOf p₀ words₀))
     × ((k : ℕ) → k < i - from → getD text (from + k) 0 ≡ 10 → ⊥)
 
 abbrev μ-loop : tie.MeasureT-loop
-μ-loop text from to words₀ p₀ i₀ words p i = to - i
+μ-loop words₀ text from to p₀ i₀ words p i = to - i
 
 abbrev start : tie.At-loop Inv-loop μ-loop → tie.Start Inv-loop μ-loop
-start c = c .before .before .before
+start c = c .before .before
 
 abbrev byte-read : tie.After-step Inv-loop μ-loop → tie.After-shared-slice-known2 Inv-loop μ-loop
 byte-read c = c .before .before .before
@@ -25,7 +25,7 @@ abbrev at-loop : tie.After-step Inv-loop μ-loop → tie.At-loop Inv-loop μ-loo
 at-loop c = byte-read c .before .before
 
 loop-holds : tie.Need-loop-holds Inv-loop μ-loop
-loop-holds c = let a = c .before .before .args in
+loop-holds c = let a = c .before .args in
     (search needs, search needs, read-none (a .text .now) (a .from) _, no-newline-none (a .text .now) (a .from))
 
 shared-slice-read-b : tie.Need-shared-slice-read-b Inv-loop μ-loop

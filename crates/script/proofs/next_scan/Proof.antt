@@ -4,10 +4,10 @@ use Rattle.script.proofs.next_scan.Statement.{statement}
 use Rattle.script.proofs.next_scan.Tie as tie
 
 abbrev Inv-loop : tie.InvT-loop
-Inv-loop text₀ r₀ left₀ text r left = Unit {0}
+Inv-loop text₀ words₀ r₀ left₀ text words r left = Unit {0}
 
 abbrev μ-loop : tie.MeasureT-loop
-μ-loop text₀ r₀ left₀ text r left = left
+μ-loop text₀ words₀ r₀ left₀ text words r left = left
 
 start-requires : tie.Need-start-requires Inv-loop μ-loop
 start-requires c κs = search needs
