@@ -251,7 +251,8 @@ pub struct Reached {
 // Goes on with a scan over text's bytes from `from` on, up to a newline or `to`.
 pub fn read(s: Place, words: &mut [u64; WORDS], text: &[u8], from: usize, to: usize) -> Reached
     requires { ⌜ (from ≤ to) × (to ≤ length (now text)) ⌝ }
-    ensures { λ r. ⌜ scanOf (r .place) (now (words .exit)) ≡ readOn (now (text .entry)) from (r .at - from) (scanOf s (now (words .entry))) ⌝ }
+    ensures { λ r. ⌜ scanOf (r .place) (now (words .exit))
+        ≡ readOn (now (text .entry)) from (r .at - from) (scanOf s (now (words .entry))) ⌝ }
     ensures { λ r. ⌜ Ends (now (text .entry)) from to (r .at) ⌝ }
 {
     let mut p = s;

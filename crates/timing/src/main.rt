@@ -11,7 +11,8 @@ use kinds::sizes::OUTGOING;
 use kinds::sizes::QUEUES;
 use libc::STDERR_FILENO;
 use libc::STDOUT_FILENO;
-use lines::Scan;
+use lines::Place;
+use lines::WORDS;
 use rounds::play::BASES;
 use rounds::play::GATHERINGS;
 use rounds::play::HISTORIES;
@@ -37,18 +38,18 @@ struct Number {
 }
 
 // A scan whose first word, which would be a verb, has ended: the next is a number.
-fn behind_verb() -> Scan {
-    Scan {
+fn behind_verb() -> Place {
+    Place {
         ended: 1,
         begun: 0,
         word: 0,
-        words: [0; 9],
     }
 }
 
 fn number_in(text: &[u8]) -> Number {
-    let r = lines::read(behind_verb(), text, 0, text.len());
-    let s = r.scan;
+    let mut words = [0u64; WORDS];
+    let r = lines::read(behind_verb(), &mut words, text, 0, text.len());
+    let s = r.place;
     Number {
         ok: s.ended == 1 && s.begun == 1 && r.at == text.len(),
         value: s.word,
