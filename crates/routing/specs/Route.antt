@@ -9,7 +9,7 @@ use lib.Dec.{leb}
 use Rattle.laws.specs.Choice.{pick, every, every-at}
 use Rattle.kinds.specs.Sizes as sizes
 use Rattle.kinds.specs.Reason as reason
-use Rattle.rules.specs.House.{coordinatorOf}
+use Rattle.rules.specs.House.{houseOf, isSite, coordinatorOf}
 use Rattle.lines.specs.declared.Command.{Command}
 use Rattle.lines.specs.declared.Command.the-variants as command
 use Rattle.routing.specs.declared.route.Route.{Route}
@@ -51,7 +51,7 @@ goes place queue = record { place = place; queue = queue; code = 0 }
 
 -- a site of a house of so many,
 unfoldable pub hasSite : ℕ → ℕ → Bool
-hasSite sites site = every (leb 1 site ∷ leb site sites ∷ [])
+hasSite sites site = isSite (houseOf sites []) site
 
 -- with a place
 unfoldable pub isPlaced : ℕ → ℕ → Bool
@@ -107,7 +107,7 @@ pub record Placed (site : ℕ) : Type 0 where
   pub high : site ≤ sizes.sites
 
 pub placed : (sites : ℕ) (site : ℕ) → isPlaced sites site ≡ true → Placed site
-unfolding isPlaced hasSite
+unfolding isPlaced hasSite isSite
 placed sites site e =
     let both = hasSite sites site ∷ leb site sizes.sites ∷ [] in
     let inside = leb 1 site ∷ leb site sites ∷ [] in
