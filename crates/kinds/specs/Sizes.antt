@@ -61,8 +61,11 @@ lists = live * gathered
 abbrev pub recordHeader : ℕ
 recordHeader = 9
 
+abbrev pub value : ℕ
+value = 1
+
 abbrev pub write : ℕ
-write = 2
+write = 1 + value
 
 abbrev pub part : ℕ
 part = recordHeader + write * writes
@@ -79,14 +82,17 @@ siteQueue = queue * part
 abbrev pub queues : ℕ
 queues = sites * siteQueue
 
+abbrev pub base : ℕ
+base = value * keys
+
 abbrev pub copyHeader : ℕ
 copyHeader = 2
 
 abbrev pub copy : ℕ
-copy = copyHeader + keys
+copy = copyHeader + base
 
 abbrev pub keyset : ℕ
-keyset = 2 + reads + writes + writes
+keyset = 2 + reads + writes + value * writes
 
 abbrev pub place : ℕ
 place = 7 + keyset

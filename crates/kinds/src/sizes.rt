@@ -41,10 +41,12 @@ pub const GATHERED: usize = ENTRY * CERT_ENTRIES;
 
 pub const LISTS: usize = LIVE * GATHERED;
 
-// Words of a record: header, then writes.
+// Words of a value.
+pub const VALUE: usize = 1;
+// Words of a record: header, then writes, each a key and its value.
 pub const RECORD_HEADER: usize = 9;
 
-pub const WRITE: usize = 2;
+pub const WRITE: usize = 1 + VALUE;
 
 pub const PART: usize = RECORD_HEADER + WRITE * WRITES;
 
@@ -56,13 +58,15 @@ pub const MERGED: usize = RECORD_HEADER + WRITE * MERGED_WRITES;
 pub const SITE_QUEUE: usize = QUEUE * PART;
 
 pub const QUEUES: usize = SITES * SITE_QUEUE;
-// Words of a copy: last number, last coordinator, then the values.
+// Words of a site's base values: one value for each key.
+pub const BASE: usize = VALUE * KEYS;
+// Words of a copy: last number, last coordinator, then one value for each key.
 pub const COPY_HEADER: usize = 2;
 
-pub const COPY: usize = COPY_HEADER + KEYS;
+pub const COPY: usize = COPY_HEADER + BASE;
 
 // Words of a part's keys: two counts, the keys read, the keys written and their values.
-pub const KEYSET: usize = 2 + READS + WRITES + WRITES;
+pub const KEYSET: usize = 2 + READS + WRITES + VALUE * WRITES;
 // Words of a place of the live table beside its seat: snapshot, course and desk, then the keys.
 pub const PLACE: usize = 7 + KEYSET;
 

@@ -27,7 +27,7 @@ use Rattle.rules.specs.Course.{withSubOf, quietly}
 -- Causes that read, write and search have: the state and the key;
 abbrev pub keyCauses : Bool → ℕ → House → ℕ → ℕ → List Cause
 keyCauses ok room o own k =
-    cause (not (eqb room sizes.keys)) reason.malformed
+    cause (not (eqb room sizes.base)) reason.malformed
     ∷ cause (not ok) reason.malformed
     ∷ cause (not (isKey k)) reason.malformed
     ∷ cause (not (eqb (homeOf o k) own)) reason.elsewhere
@@ -56,7 +56,7 @@ readCauses lost has read =
 unfoldable pub readCode : Bool → Bool → ℕ → ℕ
 readCode lost has read = codeOf (readCauses lost has read)
 
-unfoldable pub readVersion : Site → List Value → ℕ → ℕ → Effect
+unfoldable pub readVersion : Site → List ℕ → ℕ → ℕ → Effect
 readVersion s base place k =
     let b = subAt s place in
     changed s place
@@ -67,7 +67,7 @@ readVersion s base place k =
     })
     []
 
-unfoldable pub readAt : Site → List Value → ℕ → ℕ → Effect
+unfoldable pub readAt : Site → List ℕ → ℕ → ℕ → Effect
 readAt s base place k =
     let b = subAt s place in
     pick (wroteKey (b .keys) k)
@@ -75,14 +75,14 @@ readAt s base place k =
     (unless (readCode (isForgotten (s .counters .installs) (b .snapshot)) (readKey (b .keys) k) (b .keys .read)) s []
     (readVersion s base place k))
 
-unfoldable pub readOf : Site → List Value → ℕ → ℕ → Effect
+unfoldable pub readOf : Site → List ℕ → ℕ → ℕ → Effect
 readOf s base tx k =
     let place = placeOf (s .live) tx in
     unless (accessCode (siteOk s) (length base) (s .house) (s .counters .own) k place (stageAt (s .live) place)) s []
     (readAt s base place k)
 
 -- Search: the version that any snapshot sees, and how many entries were looked at. It leaves all as it was.
-unfoldable pub searchOf : Site → List Value → Snapshot → ℕ → Answer
+unfoldable pub searchOf : Site → List ℕ → Snapshot → ℕ → Answer
 searchOf s base p k =
     let code = keyCode (siteOk s) (length base) (s .house) (s .counters .own) k in
     let found = searchIn (s .history) (s .counters .installs) base p k in
@@ -120,4 +120,4 @@ writeAt s place k v =
 unfoldable pub writeOf : Site → ℕ → ℕ → Value → Effect
 writeOf s tx k v =
     let place = placeOf (s .live) tx in
-    unless (accessCode (siteOk s) sizes.keys (s .house) (s .counters .own) k place (stageAt (s .live) place)) s [] (writeAt s place k v)
+    unless (accessCode (siteOk s) sizes.base (s .house) (s .counters .own) k place (stageAt (s .live) place)) s [] (writeAt s place k v)

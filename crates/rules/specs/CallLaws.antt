@@ -25,7 +25,7 @@ not-both true false e h = refl
 not-both false b e h = absurd (let y : _≡_ {A = ℕ} 0 1 = cc in omega arith)
 
 pub record KeyClear (ok : Bool) (room : ℕ) (o : House) (own : ℕ) (k : ℕ) : Type 0 where
-  pub whole : room ≡ sizes.keys
+  pub whole : room ≡ sizes.base
   pub valid : ok ≡ true
   pub known : isKey k ≡ true
   pub here : homeOf o k ≡ own
@@ -35,7 +35,7 @@ unfolding keyCode
 key-clear ok room o own k e =
     let l = keyCauses ok room o own k in
     record {
-      whole = eqb-true room sizes.keys (not-false (eqb room sizes.keys) (clear-at l 0 refl e));
+      whole = eqb-true room sizes.base (not-false (eqb room sizes.base) (clear-at l 0 refl e));
       valid = not-false ok (clear-at l 1 refl e);
       known = not-false (isKey k) (clear-at l 2 refl e);
       here = eqb-true (homeOf o k) own (not-false (eqb (homeOf o k) own) (clear-at l 3 refl e));
@@ -223,7 +223,7 @@ reply-clear inTurn spent e =
 
 pub record InstallClear (ok : Bool) (room : ℕ) (given : ℕ) (due : Bool) (installs : ℕ) : Type 0 where
   pub long : sizes.part ≤ room
-  pub whole : given ≡ sizes.keys
+  pub whole : given ≡ sizes.base
   pub valid : ok ≡ true
   pub unspent : installs < sizes.last
   pub least : due ≡ true
@@ -235,7 +235,7 @@ install-clear ok room given due installs e =
     let l = installCauses ok room given due installs in
     record {
       long = ltb-false room sizes.part (clear-at l 0 refl e);
-      whole = eqb-true given sizes.keys (not-false (eqb given sizes.keys) (clear-at l 1 refl e));
+      whole = eqb-true given sizes.base (not-false (eqb given sizes.base) (clear-at l 1 refl e));
       valid = not-false ok (clear-at l 2 refl e);
       unspent = leb-false sizes.last installs
           (not-both due (leb sizes.last installs) (clear-at l 3 refl e) (not-false due (clear-at l 4 refl e)));

@@ -1,5 +1,5 @@
 -- G5 and G6: a copy is words: its last number, its last coordinator, then the value of each key.
-use Prim.Native.Nat.{ℕ, _+_}
+use Prim.Native.Nat.{ℕ, _+_, _*_}
 use mathlib.Core.List.{List, [], _∷_}
 use mathlib.Core.Bool.{not}
 use lib.ListN.{length, getD, set, replicate}
@@ -14,6 +14,7 @@ use Rattle.kinds.specs.Word as word
 use Rattle.kinds.specs.State.{Value}
 use Rattle.kinds.specs.declared.Answer.{Answer}
 use Rattle.kinds.specs.declared.Answer.the-variants.{Refused, Done, Replayed, Standing}
+use Rattle.rules.specs.Value.{valueAt, putValue}
 use Rattle.rules.specs.Record.{recordHead, recordWrites, writeKey, writeValue, mergedOk}
 
 -- the answer, and the copy's words after it
@@ -28,11 +29,11 @@ abbrev pub copyCoordinator : List ℕ → ℕ
 copyCoordinator copy = getD copy word.lastCoordinator 0
 
 abbrev pub copyValue : List ℕ → ℕ → Value
-copyValue copy k = getD copy (sizes.copyHeader + k) 0
+copyValue copy k = valueAt copy (sizes.copyHeader + sizes.value * k)
 
 -- the copy with the first n writes
 unfoldable pub putWrites : List ℕ → List ℕ → ℕ → List ℕ
-putWrites copy ws n = foldBelow (λ i l. set l (sizes.copyHeader + writeKey ws i) (writeValue ws i)) n copy
+putWrites copy ws n = foldBelow (λ i l. putValue l (sizes.copyHeader + sizes.value * writeKey ws i) (writeValue ws i)) n copy
 
 -- Replay: a merged record whose pair is above the last.
 abbrev pub replayCauses : List ℕ → List ℕ → List Cause

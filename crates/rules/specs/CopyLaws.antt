@@ -1,17 +1,18 @@
 -- G5 and G6: what a call that is not refused says, by name; and one write more.
-use Prim.Native.Nat.{ℕ, _+_, _≤_, _<_}
+use Prim.Native.Nat.{ℕ, _+_, _*_, _≤_, _<_}
 use mathlib.Core.Path.{_≡_, refl}
 use mathlib.Core.Bool.{true, not}
 use mathlib.Core.List.{List, [], _∷_}
 use borrow.Author.Tests.{eqb-true, leb-false, ltb-true, not-false}
 use lib.Dec.{eqb, leb, ltb}
-use lib.ListN.{length, set}
+use lib.ListN.{length}
 use Rattle.laws.specs.Cause.{cause, clear-at}
 use Rattle.laws.specs.Choice.{every-at}
 use Rattle.laws.specs.Pair.{precedes}
 use Rattle.laws.specs.Scan.{all-below-at, fold-more}
 use Rattle.kinds.specs.Reason as reason
 use Rattle.kinds.specs.Sizes as sizes
+use Rattle.rules.specs.Value.{putValue}
 use Rattle.rules.specs.Record.{keyAscends, mergedOk, mergedTests, mergedWriteOk, recordHead, recordLength, recordWrites, writeKey}
 use Rattle.rules.specs.Record.{writeValue}
 use Rattle.rules.specs.RecordLaws.{merged-clear, merged-passed-good, shape-clear}
@@ -69,6 +70,6 @@ value-ready copy k e =
 
 -- One write more.
 pub put-more : (copy ws : List ℕ) (i : ℕ)
-    → putWrites copy ws (i + 1) ≡ set (putWrites copy ws i) (sizes.copyHeader + writeKey ws i) (writeValue ws i)
+    → putWrites copy ws (i + 1) ≡ putValue (putWrites copy ws i) (sizes.copyHeader + sizes.value * writeKey ws i) (writeValue ws i)
 unfolding putWrites
 put-more copy ws i = fold-more _ i copy

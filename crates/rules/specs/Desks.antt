@@ -40,7 +40,7 @@ module _ (s : Site) (tx k : ℕ) (v : Value) where
 
   -- no cause before 8 holds
   abbrev Reaches : Type 0
-  Reaches = accessCode (siteOk s) sizes.keys (s .house) (s .counters .own) k place (stageAt (s .live) place) ≡ 0
+  Reaches = accessCode (siteOk s) sizes.base (s .house) (s .counters .own) k place (stageAt (s .live) place) ≡ 0
 
   -- and none of 8, 9 and 10 does, for a key that the part has not written
   pub record OneMore : Type 0 where

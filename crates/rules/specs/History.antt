@@ -1,9 +1,9 @@
 -- S9, C9, C23, C29, C37, C39, C54, Q5.1 and Q5.2: the history of the 32 last installed parts, what is forgotten, the version that a
 -- snapshot sees, and the search for it.
-use Prim.Native.Nat.{ℕ, zero, suc, _+_, _-_, _%_, min}
+use Prim.Native.Nat.{ℕ, zero, suc, _+_, _-_, _*_, _%_, min}
 use mathlib.Core.List.{List}
 use mathlib.Core.Bool.{Bool, false}
-use lib.ListN.{getD, set}
+use lib.ListN.{getD}
 use lib.Dec.{ltb, leb, eqb}
 use Rattle.laws.specs.Choice.{pick}
 use Rattle.laws.specs.Scan.{firstBelow, anyBelow, foldBelow}
@@ -13,6 +13,7 @@ use Rattle.kinds.specs.declared.Entry.{Entry}
 use Rattle.kinds.specs.declared.Search.{Search}
 use Rattle.kinds.specs.declared.Snapshot.{Snapshot}
 use Rattle.kinds.specs.State.{Value, fresh, pastEntry}
+use Rattle.rules.specs.Value.{putValue, baseValue}
 use Rattle.rules.specs.Keys.{wroteKey, wroteValue}
 
 -- how many installs are remembered, and how many forgotten
@@ -46,10 +47,10 @@ backwards history installs visible j = recall history installs (visible - 1 - j)
 unfoldable pub newer : List Entry → ℕ → ℕ → ℕ → ℕ
 newer history installs visible k = firstBelow (λ j. wroteKey (backwards history installs visible j .keys) k) visible
 
-unfoldable pub versionOf : List Entry → ℕ → List Value → Snapshot → ℕ → Value
+unfoldable pub versionOf : List Entry → ℕ → List ℕ → Snapshot → ℕ → Value
 versionOf history installs base p k =
     let n = newer history installs (within installs p) k in
-    pick (ltb n (within installs p)) (wroteValue (backwards history installs (within installs p) n .keys) k) (getD base k fresh)
+    pick (ltb n (within installs p)) (wroteValue (backwards history installs (within installs p) n .keys) k) (baseValue base k)
 
 -- The search: it looks at the newest of the `left` oldest entries, having looked at `looked` others, and ends at the first that has the
 -- key. Where none has it the value is v.
@@ -61,8 +62,8 @@ walk entry k v (suc left) looked =
     (walk entry k v left (looked + 1))
 
 -- among the entries within the snapshot
-unfoldable pub searchIn : List Entry → ℕ → List Value → Snapshot → ℕ → Search
-searchIn history installs base p k = walk (recall history installs) k (getD base k fresh) (within installs p) 0
+unfoldable pub searchIn : List Entry → ℕ → List ℕ → Snapshot → ℕ → Search
+searchIn history installs base p k = walk (recall history installs) k (baseValue base k) (within installs p) 0
 
 -- a remembered install after the snapshot wrote k
 unfoldable pub isNewer : List Entry → ℕ → Snapshot → ℕ → Bool
@@ -74,5 +75,5 @@ unfoldable pub recallPlace : List Entry → ℕ → ℕ → ℕ
 recallPlace history installs tx = firstBelow (λ i. eqb (recall history installs i .tx) tx) (remembered installs)
 
 -- the base values with the writes of a forgotten entry
-unfoldable pub forgetInto : List Value → Keys → List Value
-forgetInto base b = foldBelow (λ i l. set l (getD (b .writes) i 0) (getD (b .values) i fresh)) (b .wrote) base
+unfoldable pub forgetInto : List ℕ → Keys → List ℕ
+forgetInto base b = foldBelow (λ i l. putValue l (sizes.value * getD (b .writes) i 0) (getD (b .values) i fresh)) (b .wrote) base

@@ -14,6 +14,7 @@ use Rattle.laws.specs.Scan.{NoneBelow, first-below, first-below-none}
 use Rattle.kinds.specs.declared.Entry.{Entry}
 use Rattle.kinds.specs.declared.Snapshot.{Snapshot}
 use Rattle.kinds.specs.State.{Value, fresh}
+use Rattle.rules.specs.Value.{baseValue}
 use Rattle.rules.specs.Keys.{wroteKey, wroteValue}
 use Rattle.rules.specs.History.{remembered, forgotten, slotOf, recall, isForgotten, within, backwards, newer, versionOf}
 
@@ -62,7 +63,7 @@ slot-used n i h =
 
 -- Reading goes backwards from the newest version within the snapshot, and ends at the first that wrote the key.
 
-module _ (history : List Entry) (installs : ℕ) (base : List Value) (p : Snapshot) (k v : ℕ) (e : v ≡ within installs p) where
+module _ (history : List Entry) (installs : ℕ) (base : List ℕ) (p : Snapshot) (k v : ℕ) (e : v ≡ within installs p) where
   pub version-found : (j : ℕ) → j < v → NoneBelow (λ i. wroteKey (backwards history installs v i .keys) k) j
       → wroteKey (backwards history installs v j .keys) k ≡ true
       → versionOf history installs base p k ≡ wroteValue (backwards history installs v j .keys) k
@@ -72,7 +73,7 @@ module _ (history : List Entry) (installs : ℕ) (base : List Value) (p : Snapsh
       rw (← e, ← n, lt-ltb j v h)
 
   pub version-none : NoneBelow (λ i. wroteKey (backwards history installs v i .keys) k) v
-      → versionOf history installs base p k ≡ getD base k fresh
+      → versionOf history installs base p k ≡ baseValue base k
   unfolding versionOf newer
   version-none none =
       let n = first-below-none (λ i. wroteKey (backwards history installs v i .keys) k) v none in
@@ -80,7 +81,7 @@ module _ (history : List Entry) (installs : ℕ) (base : List Value) (p : Snapsh
 
 -- So the version is that of the last install within the snapshot that wrote the key, else the base value.
 
-module _ (history : List Entry) (installs : ℕ) (base : List Value) (p : Snapshot) (k : ℕ) where
+module _ (history : List Entry) (installs : ℕ) (base : List ℕ) (p : Snapshot) (k : ℕ) where
   pub version-wrote : (i : ℕ) → i < within installs p → wroteKey (recall history installs i .keys) k ≡ true
       → ((j : ℕ) → i < j → j < within installs p → wroteKey (recall history installs j .keys) k ≡ false)
       → versionOf history installs base p k ≡ wroteValue (recall history installs i .keys) k
@@ -92,7 +93,7 @@ module _ (history : List Entry) (installs : ℕ) (base : List Value) (p : Snapsh
       (rw q t) ∙ rw q
 
   pub version-base : ((j : ℕ) → j < within installs p → wroteKey (recall history installs j .keys) k ≡ false)
-      → versionOf history installs base p k ≡ getD base k fresh
+      → versionOf history installs base p k ≡ baseValue base k
   unfolding backwards
   version-base none =
       let v = within installs p in

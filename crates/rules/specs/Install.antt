@@ -28,7 +28,7 @@ use Rattle.rules.specs.Effect.{Effect, refused, unless}
 abbrev pub installCauses : Bool → ℕ → ℕ → Bool → ℕ → List Cause
 installCauses ok room given due installs =
     cause (ltb room sizes.part) reason.short
-    ∷ cause (not (eqb given sizes.keys)) reason.malformed
+    ∷ cause (not (eqb given sizes.base)) reason.malformed
     ∷ cause (not ok) reason.malformed
     ∷ cause (every (due ∷ leb sizes.last installs ∷ [])) reason.spent
     ∷ cause (not due) reason.nothing
@@ -58,12 +58,12 @@ unfoldable pub partWords : ℕ → Sub → List ℕ
 partWords own b = recordWords (partHead own b) (sortedWords (b .keys) (sortedCount (b .keys)))
 
 -- the oldest entry beyond 32 stands where the new one goes, and is forgotten into the base values
-unfoldable pub baseAfter : Site → List Value → List Value
+unfoldable pub baseAfter : Site → List ℕ → List ℕ
 baseAfter s base =
     let n = s .counters .installs in
     pick (leb sizes.history n) (forgetInto base (entryAt s (slotOf n) .keys)) base
 
-unfoldable pub installedAt : Site → List Value → ℕ → Effect
+unfoldable pub installedAt : Site → List ℕ → ℕ → Effect
 installedAt s base place =
     let b = subAt s place in
     let n = s .counters .installs in
@@ -81,7 +81,7 @@ installedAt s base place =
       lent = baseAfter s base;
     }
 
-unfoldable pub installOf : Site → ℕ → List Value → Effect
+unfoldable pub installOf : Site → ℕ → List ℕ → Effect
 installOf s room base =
     let place = leastQueued (s .live) sizes.live in
     unless (installCode (siteOk s) room (length base) (isInstallable (s .live) place) (s .counters .installs)) s base
@@ -118,7 +118,7 @@ startCauses sites table own base lists =
     cause (not (countOk sites)) reason.malformed
     ∷ cause (not (eqb (length table) sites)) reason.malformed
     ∷ cause (not (isSite (houseOf sites table) own)) reason.malformed
-    ∷ cause (not (eqb base sizes.keys)) reason.malformed
+    ∷ cause (not (eqb base sizes.base)) reason.malformed
     ∷ cause (not (eqb lists sizes.lists)) reason.malformed
     ∷ cause (not (tableOk sites table)) reason.badTable
     ∷ []

@@ -59,8 +59,7 @@ part-write : (o : House) (own : ℕ) (b : Keys) → ((j : ℕ) → j < b .wrote 
     → partWriteOk o own (sortedWords b n) i ≡ true
 unfolding partWriteOk keyAscends
 part-write o own b here n i e h =
-    let k : (j : ℕ) → j < n → writeKey (sortedWords b n) j ≡ sortedKey b j = λ j l. ap (λ (x : ℕ). getD (sortedWords b n) x 0) (omega arith)
-    ∙ word-key b n j l in
+    let k : (j : ℕ) → j < n → writeKey (sortedWords b n) j ≡ sortedKey b j = word-key b n in
     let (j, l, q) = wrote-among b (sortedKey b i) (sorted-wrote b i (sorted-low b i (omega arith))) in
     let s = ap (homeOf o) (sym q) ∙ here j l in
     by-test (eqb i 0)

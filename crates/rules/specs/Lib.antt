@@ -2,6 +2,7 @@
 pub mod House
 pub mod HouseLaws
 pub mod Desk
+pub mod Value
 pub mod Message
 pub mod Record
 pub mod Send
@@ -39,6 +40,7 @@ pub mod Possible
 pub mod Refusals
 pub mod Moments
 -- Laws of the rules.
+pub mod ValueLaws
 pub mod MessageLaws
 pub mod RecordLaws
 pub mod SendLaws

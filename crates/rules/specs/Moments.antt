@@ -55,7 +55,7 @@ pub record AtPart (s : Site) (possible : Bool) (out : List ℕ) (tx : ℕ) : Typ
 
 -- A read or write past 2, 3 and 5: what is handed in is possible, the key lives here, and the part is held.
 pub record AtKey (s : Site) (room tx key : ℕ) : Type 0 where
-  pub whole : room ≡ sizes.keys
+  pub whole : room ≡ sizes.base
   pub is-possible : siteOk s ≡ true
   pub known : isKey key ≡ true
   pub here : homeOf (s .house) key ≡ s .counters .own
@@ -94,7 +94,7 @@ pub record WrongMoments : Type 0 where
       → ByMoment (step w (world.abandon s out tx) .answer) (isMine (w .site s) tx) (isDecided (w .site s) tx)
   pub read : (w : World) (s tx key : ℕ) → AtKey (w .site s) (length (w .base s)) tx key
       → ByMoment (step w (world.read s tx key) .answer) true (isPast (w .site s) tx)
-  pub write : (w : World) (s tx key : ℕ) (v : Value) → AtKey (w .site s) sizes.keys tx key
+  pub write : (w : World) (s tx key : ℕ) (v : Value) → AtKey (w .site s) sizes.base tx key
       → ByMoment (step w (world.write s tx key v) .answer) true (isPast (w .site s) tx)
   pub message : (w : World) (s : ℕ) (out m : List ℕ) → AtMessage (w .site s) (w .lists s) out m
       → ByMoment (step w (world.message s out m) .answer) true (outOfTurn (w .site s) m)

@@ -41,7 +41,7 @@ Impossible o (world.value c key) = sizes.keys ≤ key
 pub record StatesPossible (o : House) (w : World) : Type 0 where
   pub house : (s : ℕ) → isSite o s ≡ true → w .site s .house ≡ o
   pub site : (s : ℕ) → isSite o s ≡ true → handedOk (w .site s) (w .lists s) ≡ true
-  pub base : (s : ℕ) → isSite o s ≡ true → length (w .base s) ≡ sizes.keys
+  pub base : (s : ℕ) → isSite o s ≡ true → length (w .base s) ≡ sizes.base
   pub merger-house : w .merger .house ≡ o
   pub merger : mergerOk (w .merger) (w .queues) ≡ true
   pub copy : (c : ℕ) → length (w .copy c) ≡ sizes.copy

@@ -10,8 +10,10 @@ use Rattle.laws.specs.Scan.{allBelow}
 use Rattle.kinds.specs.Sizes as sizes
 use Rattle.kinds.specs.Kind as kind
 use Rattle.kinds.specs.Word as word
+use Rattle.kinds.specs.State.{Value}
 use Rattle.kinds.specs.declared.House.{House}
 use Rattle.kinds.specs.declared.RecordHead.{RecordHead}
+use Rattle.rules.specs.Value.{valueAt}
 use Rattle.rules.specs.House.{isSite, isTx, coordinatorOf, inMask, isMask, homeOf, wholeHouse}
 
 -- The layout.
@@ -37,8 +39,8 @@ recordWords r ws = recordHeadWords r ++ ws
 abbrev pub writeKey : List ℕ → ℕ → ℕ
 writeKey ws i = getD ws (sizes.write * i + word.writeKey) 0
 
-abbrev pub writeValue : List ℕ → ℕ → ℕ
-writeValue ws i = getD ws (sizes.write * i + word.writeValue) 0
+abbrev pub writeValue : List ℕ → ℕ → Value
+writeValue ws i = valueAt ws (sizes.write * i + word.writeValue)
 
 -- what is read
 unfoldable pub recordHead : List ℕ → RecordHead

@@ -84,7 +84,7 @@ accessHas s room tx k =
     let place = placeOf (s .live) tx in
     accessCauses (siteOk s) room (s .house) (s .counters .own) k place (stageAt (s .live) place)
 
-unfoldable pub readHas : Site → List Value → ℕ → ℕ → List Cause
+unfoldable pub readHas : Site → List ℕ → ℕ → ℕ → List Cause
 readHas s base tx k =
     let b = subAt s (placeOf (s .live) tx) in
     accessHas s (length base) tx k
@@ -95,12 +95,12 @@ writeHas s tx k =
     let place = placeOf (s .live) tx in
     let b = subAt s place in
     let n = s .counters .installs in
-    accessHas s sizes.keys tx k
+    accessHas s sizes.base tx k
     ++ pick (wroteKey (b .keys) k) []
     (writeCauses (isForgotten n (b .snapshot)) (keyHeld (s .live) place k) (isNewer (s .history) n (b .snapshot) k) (writeLimit (b .desk))
     (b .keys .wrote))
 
-unfoldable pub searchHas : Site → List Value → ℕ → List Cause
+unfoldable pub searchHas : Site → List ℕ → ℕ → List Cause
 searchHas s base k = keyCauses (siteOk s) (length base) (s .house) (s .counters .own) k
 
 unfoldable pub enlistHas : Site → ℕ → ℕ → ℕ → List Cause
@@ -166,7 +166,7 @@ messageHas s room lists m =
     ++ (nextCauses (h .to) (s .counters .own) (h .channel) (getD (s .channels .taken) (h .from - 1) 0)
     ++ replyCauses (isInTurn (h .kind) s h place) (isSpent (h .kind) s h place))
 
-unfoldable pub installHas : Site → ℕ → List Value → List Cause
+unfoldable pub installHas : Site → ℕ → List ℕ → List Cause
 installHas s room base =
     installCauses (siteOk s) room (length base) (isInstallable (s .live) (leastQueued (s .live) sizes.live)) (s .counters .installs)
 

@@ -11,6 +11,7 @@ use Rattle.kinds.specs.declared.Entry.{Entry}
 use Rattle.kinds.specs.declared.Search.{Search}
 use Rattle.kinds.specs.declared.Snapshot.{Snapshot}
 use Rattle.kinds.specs.State.{Value, fresh}
+use Rattle.rules.specs.Value.{baseValue}
 use Rattle.rules.specs.Keys.{wroteKey, wroteValue}
 use Rattle.rules.specs.History.{recall, within, versionOf, walk, searchIn}
 use Rattle.rules.specs.HistoryLaws.{version-wrote, version-base}
@@ -58,20 +59,20 @@ module _ (entry : ℕ → Entry) (k : ℕ) (v : Value) where
       walk-on left looked (none left (omega arith)) ∙ rw n at (walk-none left (looked + 1) (λ j a. none j (omega arith)))
 
 -- The search: the base value, or the last entry within the snapshot that has the key.
-module _ (history : List Entry) (installs : ℕ) (base : List Value) (p : Snapshot) (k : ℕ) where
+module _ (history : List Entry) (installs : ℕ) (base : List ℕ) (p : Snapshot) (k : ℕ) where
   pub search-none : NoneBelow (has (recall history installs) k) (within installs p)
-      → searchIn history installs base p k ≡ answer (getD base k fresh) (within installs p)
+      → searchIn history installs base p k ≡ answer (baseValue base k) (within installs p)
   unfolding searchIn
   search-none none =
       let n : 0 + within installs p ≡ within installs p = omega arith in
-      rw n at (walk-none (recall history installs) k (getD base k fresh) (within installs p) 0 none)
+      rw n at (walk-none (recall history installs) k (baseValue base k) (within installs p) 0 none)
 
   pub search-last : (i : ℕ) → LastBelow (has (recall history installs) k) (within installs p) i
       → searchIn history installs base p k ≡ answer (wroteValue (recall history installs i .keys) k) (within installs p - i)
   unfolding searchIn
   search-last i l =
       let n : 0 + (within installs p - i) ≡ within installs p - i = omega arith in
-      rw n at (walk-last (recall history installs) k (getD base k fresh) (within installs p) 0 i l)
+      rw n at (walk-last (recall history installs) k (baseValue base k) (within installs p) 0 i l)
 
   -- so it finds the version that the snapshot sees
   pub search-same : searchIn history installs base p k .value ≡ versionOf history installs base p k

@@ -15,7 +15,7 @@ use Rattle.rules.specs.Live.{placeOf}
 use Rattle.rules.specs.History.{within, backwards, versionOf, searchIn}
 use Rattle.rules.specs.Access.{readOf, searchOf}
 
-module _ (history : List Entry) (installs : ℕ) (base : List Value) (p : Snapshot) (k : ℕ) where
+module _ (history : List Entry) (installs : ℕ) (base : List ℕ) (p : Snapshot) (k : ℕ) where
   -- how many entries are visible, and how many of them the search looks at
   abbrev visible : ℕ
   visible = within installs p
@@ -41,11 +41,11 @@ module _ (history : List Entry) (installs : ℕ) (base : List Value) (p : Snapsh
 -- A read of a key that its part has not written answers what the search answers for the part's snapshot.
 unfoldable pub ReadRuns : Type 0
 ReadRuns =
-    (s : Site) (base : List Value) (tx k : ℕ) (v : Value)
+    (s : Site) (base : List ℕ) (tx k : ℕ) (v : Value)
     → (let b = subAt s (placeOf (s .live) tx) in
     wroteKey (b .keys) k ≡ false → readOf s base tx k .answer ≡ Found v → (n : ℕ) × (searchOf s base (b .snapshot) k ≡ Searched v n))
 
 -- the claim
 pub record SearchesRight : Type 0 where
-  pub exact : (history : List Entry) (installs : ℕ) (base : List Value) (p : Snapshot) (k : ℕ) → Exact history installs base p k
+  pub exact : (history : List Entry) (installs : ℕ) (base : List ℕ) (p : Snapshot) (k : ℕ) → Exact history installs base p k
   pub read : ReadRuns

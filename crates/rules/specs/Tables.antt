@@ -43,7 +43,7 @@ pub record StartFits (sites : ℕ) (table : List ℕ) (own base lists : ℕ) : T
   pub table-fits : CountFits sites table
   pub own-first : 1 ≤ own
   pub own-last : own ≤ sites
-  pub base-fits : base ≡ sizes.keys
+  pub base-fits : base ≡ sizes.base
   pub lists-fit : lists ≡ sizes.lists
 
 -- 22 exactly where all that fits and the table is bad; a start that fits and has a good table is taken

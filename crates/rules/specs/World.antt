@@ -51,7 +51,7 @@ pub data Call : Type 0 where
 -- merger, and `replayed c` of the stream by copy c.
 pub record World : Type 0 where
   pub site : ℕ → Site
-  pub base : ℕ → List Value
+  pub base : ℕ → List ℕ
   pub lists : ℕ → List ℕ
   pub merger : Merger
   pub queues : List ℕ
@@ -70,9 +70,9 @@ firstsOf o = take (o .sites) (o .firsts)
 unfoldable pub freshWorld : House → World
 freshWorld o =
     record {
-      site = λ s. startOf (o .sites) (firstsOf o) s sizes.keys sizes.lists .site;
-      base = λ s. startTable (startCode (o .sites) (firstsOf o) s sizes.keys sizes.lists) (replicate sizes.keys 0);
-      lists = λ s. startTable (startCode (o .sites) (firstsOf o) s sizes.keys sizes.lists) (replicate sizes.lists 0);
+      site = λ s. startOf (o .sites) (firstsOf o) s sizes.base sizes.lists .site;
+      base = λ s. startTable (startCode (o .sites) (firstsOf o) s sizes.base sizes.lists) (replicate sizes.base 0);
+      lists = λ s. startTable (startCode (o .sites) (firstsOf o) s sizes.base sizes.lists) (replicate sizes.lists 0);
       merger = mergerStartOf (o .sites) (firstsOf o) (replicate sizes.queues 0) .merger;
       queues = mergerStartOf (o .sites) (firstsOf o) (replicate sizes.queues 0) .queues;
       copy = λ c. copyStartOf (replicate sizes.copy 0) .copy;
@@ -99,7 +99,7 @@ unfoldable pub messagesIn : List ℕ → List (List ℕ)
 messagesIn ws = splitWords (length ws) ws
 
 -- a call of site s that changes the site, and sends what it wrote
-unfoldable pub siteStep : World → ℕ → Effect → List Value → List ℕ → Result
+unfoldable pub siteStep : World → ℕ → Effect → List ℕ → List ℕ → Result
 siteStep w s e base lists =
     record {
       world =
@@ -126,7 +126,7 @@ recordIn [] = []
 recordIn (n ∷ ws) = (n ∷ ws) ∷ []
 
 -- a call of site s that writes its log
-unfoldable pub logStep : World → ℕ → Effect → List Value → Result
+unfoldable pub logStep : World → ℕ → Effect → List ℕ → Result
 logStep w s e base =
     record {
       world =

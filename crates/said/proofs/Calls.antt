@@ -64,7 +64,7 @@ accessNo s room tx k =
     let place = placeOf (s .live) tx in
     accessCode (siteOk s) room (s .house) (s .counters .own) k place (stageAt (s .live) place)
 
-read-taken : (s : Site) (base : List Value) (tx k : ℕ) → Takes (readOf s base tx k) (readSaid s base tx k)
+read-taken : (s : Site) (base : List ℕ) (tx k : ℕ) → Takes (readOf s base tx k) (readSaid s base tx k)
 unfolding saidOf readOf readAt readVersion readSaid
 read-taken s base tx k =
     let b = subAt s (placeOf (s .live) tx) in
@@ -74,7 +74,7 @@ read-taken s base tx k =
     (λ w. rw (w, ← search-same (s .history) (s .counters .installs) base (b .snapshot) k)
     (past (accessNo s (length base) tx k) s [] _ _ (past late s [] _ _ (record { said = λ r. refl }))))
 
-search-taken : (s : Site) (base : List Value) (p : Snapshot) (k : ℕ) → Taken (searchOf s base p k) (searchSaid s base p k)
+search-taken : (s : Site) (base : List ℕ) (p : Snapshot) (k : ℕ) → Taken (searchOf s base p k) (searchSaid s base p k)
 unfolding saidOf searchOf searchSaid
 search-taken s base p k =
     by-test (eqb (keyCode (siteOk s) (length base) (s .house) (s .counters .own) k) 0)
@@ -97,7 +97,7 @@ abandon-taken s room tx =
     past (requestCode (siteOk s) room place (isMine s tx)) s [] _ _
     (past (abandonCode (c .stage) (countsLow (s .channels .sent) (c .mask) (s .counters .own))) s [] _ _ (record { said = λ r. refl }))
 
-install-taken : (s : Site) (room : ℕ) (base : List Value) → Takes (installOf s room base) (installSaid s)
+install-taken : (s : Site) (room : ℕ) (base : List ℕ) → Takes (installOf s room base) (installSaid s)
 unfolding saidOf installOf installedAt installSaid
 install-taken s room base =
     let place = leastQueued (s .live) sizes.live in

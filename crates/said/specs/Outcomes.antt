@@ -34,12 +34,12 @@ use Rattle.said.specs.Said.{Said, ok, abort, saidOf, unlessFirst}
 use Rattle.said.specs.Decided.{commitSaid, messageSaid}
 
 -- read: the own write, else the newest version within the snapshot
-unfoldable pub readSaid : Site → List Value → ℕ → ℕ → Said
+unfoldable pub readSaid : Site → List ℕ → ℕ → ℕ → Said
 readSaid s base tx k =
     let b = subAt s (placeOf (s .live) tx) in
     ok (pick (wroteKey (b .keys) k) (wroteValue (b .keys) k) (versionOf (s .history) (s .counters .installs) base (b .snapshot) k) ∷ [])
 
-unfoldable pub searchSaid : Site → List Value → Snapshot → ℕ → Said
+unfoldable pub searchSaid : Site → List ℕ → Snapshot → ℕ → Said
 searchSaid s base p k = let found = searchIn (s .history) (s .counters .installs) base p k in ok (found .value ∷ found .looked ∷ [])
 
 -- install: the pair of the queue's least
@@ -64,10 +64,10 @@ pub record Says : Type 0 where
       → saidOf (startOf sites table own base lists .answer) ≡ unlessFirst (startCauses sites table own base lists) (ok [])
   pub begins : (s : Site) (d : ℕ) → saidOf (beginOf s d .answer) ≡ unlessFirst (beginHas s d) (ok (nextTx (s .counters) ∷ []))
   pub enlists : (s : Site) (room tx site : ℕ) → saidOf (enlistOf s room tx site .answer) ≡ unlessFirst (enlistHas s room tx site) (ok [])
-  pub reads : (s : Site) (base : List Value) (tx k : ℕ)
+  pub reads : (s : Site) (base : List ℕ) (tx k : ℕ)
       → saidOf (readOf s base tx k .answer) ≡ unlessFirst (readHas s base tx k) (readSaid s base tx k)
   pub writes : (s : Site) (tx k : ℕ) (v : Value) → saidOf (writeOf s tx k v .answer) ≡ unlessFirst (writeHas s tx k) (ok [])
-  pub searches : (s : Site) (base : List Value) (p : Snapshot) (k : ℕ)
+  pub searches : (s : Site) (base : List ℕ) (p : Snapshot) (k : ℕ)
       → saidOf (searchOf s base p k) ≡ unlessFirst (searchHas s base k) (searchSaid s base p k)
   pub commits : (s : Site) (room : ℕ) (lists : List ℕ) (tx : ℕ)
       → saidOf (commitOf s room lists tx .answer) ≡ unlessFirst (commitHas s room lists tx) (commitSaid s tx)
@@ -75,7 +75,7 @@ pub record Says : Type 0 where
       → saidOf (abandonOf s room tx .answer) ≡ unlessFirst (abandonHas s room tx) (abort reason.abandoned)
   pub takes : (s : Site) (room : ℕ) (lists m : List ℕ)
       → saidOf (messageOf s room lists m .answer) ≡ unlessFirst (messageHas s room lists m) (messageSaid s lists m)
-  pub installs : (s : Site) (room : ℕ) (base : List Value)
+  pub installs : (s : Site) (room : ℕ) (base : List ℕ)
       → saidOf (installOf s room base .answer) ≡ unlessFirst (installHas s room base) (installSaid s)
   pub reports : (s : Site) (room : ℕ) → saidOf (reportOf s room .answer) ≡ unlessFirst (reportCauses (siteOk s) room) (reportSaid s)
   pub merger-starts : (sites : ℕ) (table queues : List ℕ)

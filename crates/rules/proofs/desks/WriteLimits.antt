@@ -43,7 +43,7 @@ module _ (s : Site) (tx k : ℕ) (v : Value) where
   part = subAt s place
 
   abbrev code : ℕ
-  code = accessCode (siteOk s) sizes.keys (s .house) (s .counters .own) k place (stageAt (s .live) place)
+  code = accessCode (siteOk s) sizes.base (s .house) (s .counters .own) k place (stageAt (s .live) place)
 
   abbrev late : ℕ
   late = writeCodeAt s place k
@@ -73,7 +73,7 @@ module _ (s : Site) (tx k : ℕ) (v : Value) where
   unfolding accessCode
   before-eight e =
       other-code reason.tooMany
-      (accessCauses (siteOk s) sizes.keys (s .house) (s .counters .own) k place (stageAt (s .live) place)) (λ z. omega arith) refl e
+      (accessCauses (siteOk s) sizes.base (s .house) (s .counters .own) k place (stageAt (s .live) place)) (λ z. omega arith) refl e
 
   at-limit : late ≡ reason.tooMany → writeLimit (part .desk) ≤ part .keys .wrote
   unfolding writeCodeAt writeCode

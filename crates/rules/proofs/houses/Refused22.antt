@@ -106,10 +106,10 @@ start-table sites table own base lists =
     let here = leb 1 own ∷ leb own sites ∷ [] in
     let long = eqb (length table) sites in
     let says = start-answer sites table own base lists
-    ∙ five (countOk sites) long (every here) (eqb base sizes.keys) (eqb lists sizes.lists) (tableOk sites table) in
+    ∙ five (countOk sites) long (every here) (eqb base sizes.base) (eqb lists sizes.lists) (tableOk sites table) in
     subst (λ (a : Answer). ByTable a (StartFits sites table own base lists) (GoodTable sites table)) (sym says)
     (by-table sites table
-    (countOk sites ∷ long ∷ every here ∷ eqb base sizes.keys ∷ eqb lists sizes.lists ∷ [])
+    (countOk sites ∷ long ∷ every here ∷ eqb base sizes.base ∷ eqb lists sizes.lists ∷ [])
     (StartFits sites table own base lists)
     (λ f. (
       clear-count sites (f .table-fits .some) (f .table-fits .few),

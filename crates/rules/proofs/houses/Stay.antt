@@ -69,7 +69,7 @@ enlist-stays s room tx site =
     (or-refused (joinerCode (c .stage) (eqb site (s .counters .own)) (inMask (c .mask) site) (channelSpent (s .channels) site)) s [] _
     (kept s _ refl))
 
-read-stays : (s : Site) (base : List Value) (tx key : ℕ) → Stays s (readOf s base tx key)
+read-stays : (s : Site) (base : List ℕ) (tx key : ℕ) → Stays s (readOf s base tx key)
 unfolding readOf readAt readVersion settle
 read-stays s base tx key =
     let place = placeOf (s .live) tx in
@@ -84,7 +84,7 @@ write-stays : (s : Site) (tx key : ℕ) (v : Value) → Stays s (writeOf s tx ke
 unfolding writeOf writeAt written settle
 write-stays s tx key v =
     let place = placeOf (s .live) tx in
-    or-refused (accessCode (siteOk s) sizes.keys (s .house) (s .counters .own) key place (stageAt (s .live) place)) s [] _
+    or-refused (accessCode (siteOk s) sizes.base (s .house) (s .counters .own) key place (stageAt (s .live) place)) s [] _
     (by-test (wroteKey (subAt s place .keys) key)
     (λ t. rw t (kept s _ refl))
     (λ t. rw t (or-refused (writeCodeAt s place key) s [] _ (kept s _ refl))))
@@ -106,7 +106,7 @@ abandon-stays s room tx =
     or-refused (requestCode (siteOk s) room place (isMine s tx)) s [] _
     (or-refused (abandonCode (c .stage) (countsLow (s .channels .sent) (c .mask) (s .counters .own))) s [] _ (kept s _ refl))
 
-install-stays : (s : Site) (room : ℕ) (base : List Value) → Stays s (installOf s room base)
+install-stays : (s : Site) (room : ℕ) (base : List ℕ) → Stays s (installOf s room base)
 unfolding installOf installedAt
 install-stays s room base =
     let place = leastQueued (s .live) sizes.live in

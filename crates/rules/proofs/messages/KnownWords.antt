@@ -67,7 +67,7 @@ pub begin-writes : (s : Site) (d : ℕ) → Writes s [] (beginOf s d)
 unfolding beginOf begun
 begin-writes s d = or-refused (beginCode (siteOk s) (isDesk d) (s .counters) (freePlace (s .live))) s [] _ (nothing s [] _ refl refl)
 
-read-at : (s : Site) (base : List Value) (place key : ℕ) → Writes s [] (readAt s base place key)
+read-at : (s : Site) (base : List ℕ) (place key : ℕ) → Writes s [] (readAt s base place key)
 unfolding readAt readVersion
 read-at s base place key =
     let b = subAt s place in
@@ -76,7 +76,7 @@ read-at s base place key =
     (λ e. rw e (or-refused (readCode (isForgotten (s .counters .installs) (b .snapshot)) (readKey (b .keys) key) (b .keys .read)) s [] _
     (nothing s [] _ refl refl)))
 
-pub read-writes : (s : Site) (base : List Value) (tx key : ℕ) → Writes s [] (readOf s base tx key)
+pub read-writes : (s : Site) (base : List ℕ) (tx key : ℕ) → Writes s [] (readOf s base tx key)
 unfolding readOf
 read-writes s base tx key =
     let place = placeOf (s .live) tx in
@@ -94,7 +94,7 @@ pub write-writes : (s : Site) (tx key : ℕ) (v : Value) → Writes s [] (writeO
 unfolding writeOf
 write-writes s tx key v =
     let place = placeOf (s .live) tx in
-    or-refused (accessCode (siteOk s) sizes.keys (s .house) (s .counters .own) key place (stageAt (s .live) place)) s [] _
+    or-refused (accessCode (siteOk s) sizes.base (s .house) (s .counters .own) key place (stageAt (s .live) place)) s [] _
     (write-at s place key v)
 
 pub enlist-writes : (s : Site) (room tx site : ℕ) → Writes s [] (enlistOf s room tx site)

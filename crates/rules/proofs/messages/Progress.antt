@@ -81,7 +81,7 @@ module _ {house : House} {w : World} {p : Protocol} (r : Refines house w p) (i :
       (refused-goes code site lists (arrival-other _ _ _))
 
 -- What was sent, after a call.
-known-sent : (w : World) (s : ℕ) (e : Effect) (base : List Value) (lent : List ℕ) → All Known (w .sent) → Made Known (e .words)
+known-sent : (w : World) (s : ℕ) (e : Effect) (base : List ℕ) (lent : List ℕ) → All Known (w .sent) → Made Known (e .words)
     → All Known (siteStep w s e base lent .world .sent)
 unfolding siteStep
 known-sent w s e base lent k n = all-append k (made-in n)

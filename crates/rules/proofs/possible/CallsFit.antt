@@ -145,7 +145,7 @@ module _ {s : Site} {lists : List ℕ} (y : Sound s lists) where
           entries = x .entries;
         }
 
-    version-fits : (base : List Value) (k : ℕ) → homeOf o k ≡ own
+    version-fits : (base : List ℕ) (k : ℕ) → homeOf o k ≡ own
         → (readKey (subAt s place .keys) k ≡ false → subAt s place .keys .read < sizes.reads)
         → EffectFits s (readVersion s base place k) lists
     unfolding readVersion
@@ -169,7 +169,7 @@ module _ {s : Site} {lists : List ℕ} (y : Sound s lists) where
         (λ e. rw (wrote-first b k v e) (omega (arith, room e))) in
         changed-fits y place low _ [] (quietly-fits s (listAt lists place) _ (keys-turn (withWrite b k v) more limit))
 
-  pub read-fits : (base : List Value) (t k : ℕ) → EffectFits s (readOf s base t k) lists
+  pub read-fits : (base : List ℕ) (t k : ℕ) → EffectFits s (readOf s base t k) lists
   unfolding readOf readAt
   read-fits base t k =
       let place = placeOf (s .live) t in
@@ -187,7 +187,7 @@ module _ {s : Site} {lists : List ℕ} (y : Sound s lists) where
   unfolding writeOf writeAt writeCodeAt
   write-fits t k v =
       let place = placeOf (s .live) t in
-      unless-fits y (accessCode (siteOk s) sizes.keys o own k place (stageAt (s .live) place)) [] _
+      unless-fits y (accessCode (siteOk s) sizes.base o own k place (stageAt (s .live) place)) [] _
       (λ z.
       let c = access-clear _ _ _ _ _ _ _ z in
       by-test (wroteKey (subAt s place .keys) k)

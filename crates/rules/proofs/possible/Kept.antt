@@ -68,7 +68,7 @@ module _ (s : Site) (no : siteOk s ≡ false) where
       by-code Silent (enlistCode (siteOk s) room (isSite (s .house) a) (placeOf (s .live) t) (isMine s t)) s [] _
       (λ z. absurd (set-not _ (enlist-clear _ _ _ _ _ z .valid) no)) refl
 
-  read-silent : (base : List Value) (t k : ℕ) → Silent (readOf s base t k)
+  read-silent : (base : List ℕ) (t k : ℕ) → Silent (readOf s base t k)
   unfolding readOf
   read-silent base t k =
       let place = placeOf (s .live) t in
@@ -79,7 +79,7 @@ module _ (s : Site) (no : siteOk s ≡ false) where
   unfolding writeOf
   write-silent t k v =
       let place = placeOf (s .live) t in
-      by-code Silent (accessCode (siteOk s) sizes.keys (s .house) (s .counters .own) k place (stageAt (s .live) place)) s [] _
+      by-code Silent (accessCode (siteOk s) sizes.base (s .house) (s .counters .own) k place (stageAt (s .live) place)) s [] _
       (λ z. absurd (set-not _ (access-clear _ _ _ _ _ _ _ z .key .valid) no)) refl
 
   commit-silent : (room : ℕ) (lists : List ℕ) (t : ℕ) → Silent (commitOf s room lists t)
@@ -118,7 +118,7 @@ module _ {house : House} {w : World} {p : Protocol} (r : Refines house w p) (i :
   pub house-is : (s : ℕ) → 1 ≤ s → s ≤ house .sites → w .site s .house ≡ house
   house-is s a b = r .site s a b .house-is
 
-  site-kept : (s : ℕ) (e : Effect) (base : List Value) (lists : List ℕ) → (1 ≤ s → s ≤ house .sites → EffectFits (w .site s) e lists)
+  site-kept : (s : ℕ) (e : Effect) (base : List ℕ) (lists : List ℕ) → (1 ≤ s → s ≤ house .sites → EffectFits (w .site s) e lists)
       → (siteOk (w .site s) ≡ false → e .words ≡ []) → Kept house (siteStep w s e base lists .world)
   unfolding siteStep
   site-kept s e base lists f silent =
@@ -132,7 +132,7 @@ module _ {house : House} {w : World} {p : Protocol} (r : Refines house w p) (i :
       words : Made (Passes house) (e .words)
       words = by-site house s (λ a b. rw (house-is s a b) at (f a b .words)) (λ n. rw (silent (r .outside s n)) none)
 
-  log-kept : (s : ℕ) (e : Effect) (base : List Value) → (1 ≤ s → s ≤ house .sites → handedOk (e .site) (w .lists s) ≡ true)
+  log-kept : (s : ℕ) (e : Effect) (base : List ℕ) → (1 ≤ s → s ≤ house .sites → handedOk (e .site) (w .lists s) ≡ true)
       → Kept house (logStep w s e base .world)
   unfolding logStep
   log-kept s e base f =
@@ -219,7 +219,7 @@ fresh-kept house good =
     record {
       site = λ s a b. rw (
         started house s good a b,
-        fresh-table (startCode (house .sites) (firstsOf house) s sizes.keys sizes.lists) sizes.lists,
+        fresh-table (startCode (house .sites) (firstsOf house) s sizes.base sizes.lists) sizes.lists,
       )
           (fresh-handed house s good a b);
       pass = a-nil;

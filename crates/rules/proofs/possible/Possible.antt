@@ -50,7 +50,7 @@ module _ {house : House} {w : World} {b : List Fact} (x : Stands (More house) ho
   site-house : (s : ℕ) → isSite o s ≡ true → w .site s .house ≡ o
   site-house s t = let c = site-clear o s t in house-is (x .is .refines) (x .standing .invariant) (x .more) s (c .low) (c .high)
 
-  base-long : (s : ℕ) → isSite o s ≡ true → length (w .base s) ≡ sizes.keys
+  base-long : (s : ℕ) → isSite o s ≡ true → length (w .base s) ≡ sizes.base
   base-long s t = let c = site-clear o s t in x .is .refines .site s (c .low) (c .high) .base-size
 
   merger-house : w .merger .house ≡ o

@@ -225,7 +225,7 @@ module _ {s : Site} {lists : List ℕ} (y : Sound s lists) where
     unfolding turnAt
     gone-fits = gone-turn (site-valid y) (turnAt s place) (old-fits y place low held)
 
-    installed-fits : (base : List Value) → handedOk (installedAt s base place .site) lists ≡ true
+    installed-fits : (base : List ℕ) → handedOk (installedAt s base place .site) lists ≡ true
     unfolding installedAt turnAt
     installed-fits base =
         let x = gone-fits in
@@ -238,7 +238,7 @@ module _ {s : Site} {lists : List ℕ} (y : Sound s lists) where
         }))
         (settled-lists y place low gone x lists refl (λ j k m f. old-possible y j k f))
 
-  pub install-call : (room : ℕ) (base : List Value) → handedOk (installOf s room base .site) lists ≡ true
+  pub install-call : (room : ℕ) (base : List ℕ) → handedOk (installOf s room base .site) lists ≡ true
   unfolding installOf
   install-call room base =
       let place = leastQueued (s .live) sizes.live in

@@ -100,13 +100,13 @@ module _ (s : Site) (ok : siteOk s ≡ true) where
       (λ y. accepted-refuses (Only X) _ (enlist-speaks (turnAt s place) a .accepts)))
 
   -- read and write: the key
-  access-why : (room k place st : ℕ) → room ≡ sizes.keys
+  access-why : (room k place st : ℕ) → room ≡ sizes.base
       → Only (isKey k ≡ false) (accessCode (siteOk s) room (s .house) (s .counters .own) k place st)
   unfolding accessCode
   access-why room k place st e q =
-      fails _ (rw (ok, eq-eqb room sizes.keys e) at (caused (accessCauses (siteOk s) room (s .house) (s .counters .own) k place st) q))
+      fails _ (rw (ok, eq-eqb room sizes.base e) at (caused (accessCauses (siteOk s) room (s .house) (s .counters .own) k place st) q))
 
-  pub read-why : (base : List Value) (t k : ℕ) → length base ≡ sizes.keys
+  pub read-why : (base : List ℕ) (t k : ℕ) → length base ≡ sizes.base
       → Refuses (Only (isKey k ≡ false)) (readOf s base t k .answer)
   unfolding readOf readAt readCode readVersion
   read-why base t k size =
@@ -122,7 +122,7 @@ module _ (s : Site) (ok : siteOk s ≡ true) where
       (unless-refuses (Only X) (readCode lost (readKey (b .keys) k) (b .keys .read)) s [] _
       (λ y. other-cause (readCauses lost (readKey (b .keys) k) (b .keys .read)) refl) (λ y. accepted-refuses (Only X) _ refl))))
 
-  pub search-why : (base : List Value) (p : Snapshot) (k : ℕ) → length base ≡ sizes.keys
+  pub search-why : (base : List ℕ) (p : Snapshot) (k : ℕ) → length base ≡ sizes.base
       → Refuses (Only (isKey k ≡ false)) (searchOf s base p k)
   unfolding searchOf keyCode
   search-why base p k size =
@@ -131,7 +131,7 @@ module _ (s : Site) (ok : siteOk s ≡ true) where
       by-test (eqb (codeOf causes) 0)
       (λ h. rw h (accepted-refuses P _ refl))
       (λ h. rw h
-      (refused-refuses P (codeOf causes) (λ e. fails _ (rw (ok, eq-eqb (length base) sizes.keys size) at (caused causes e)))))
+      (refused-refuses P (codeOf causes) (λ e. fails _ (rw (ok, eq-eqb (length base) sizes.base size) at (caused causes e)))))
 
   pub write-why : (t k : ℕ) (v : Value) → Refuses (Only (isKey k ≡ false)) (writeOf s t k v .answer)
   unfolding writeOf writeAt writeCodeAt writeCode written quietly
@@ -141,8 +141,8 @@ module _ (s : Site) (ok : siteOk s ≡ true) where
       let n = s .counters .installs in
       let lost = isForgotten n (b .snapshot) in
       let X = isKey k ≡ false in
-      unless-refuses (Only X) (accessCode (siteOk s) sizes.keys (s .house) (s .counters .own) k place (stageAt (s .live) place)) s [] _
-      (λ z. access-why sizes.keys k place (stageAt (s .live) place) refl)
+      unless-refuses (Only X) (accessCode (siteOk s) sizes.base (s .house) (s .counters .own) k place (stageAt (s .live) place)) s [] _
+      (λ z. access-why sizes.base k place (stageAt (s .live) place) refl)
       (λ z. by-test (wroteKey (b .keys) k)
       (λ e. rw e (accepted-refuses (Only X) _ refl))
       (λ e. rw e
@@ -178,14 +178,14 @@ module _ (s : Site) (ok : siteOk s ≡ true) where
       (λ z. unless-refuses (Only ⊥) (abandonCode (c .stage) low) s [] _ (λ y. other-cause (abandonCauses (c .stage) low) refl)
       (λ y. accepted-refuses (Only ⊥) _ (abort-speaks (turnAt s place) reason.abandoned .accepts)))
 
-  pub install-why : (room : ℕ) (base : List Value) → length base ≡ sizes.keys → Refuses (Only ⊥) (installOf s room base .answer)
+  pub install-why : (room : ℕ) (base : List ℕ) → length base ≡ sizes.base → Refuses (Only ⊥) (installOf s room base .answer)
   unfolding installOf installCode installedAt
   install-why room base size =
       let place = leastQueued (s .live) sizes.live in
       let due = isInstallable (s .live) place in
       let n = s .counters .installs in
       unless-refuses (Only ⊥) (installCode (siteOk s) room (length base) due n) s base _
-      (λ z e. never (rw (ok, eq-eqb (length base) sizes.keys size) at (caused (installCauses (siteOk s) room (length base) due n) e)))
+      (λ z e. never (rw (ok, eq-eqb (length base) sizes.base size) at (caused (installCauses (siteOk s) room (length base) due n) e)))
       (λ z. accepted-refuses (Only ⊥) _ refl)
 
   pub report-why : (room : ℕ) → Refuses (Only ⊥) (reportOf s room .answer)

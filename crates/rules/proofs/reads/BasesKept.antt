@@ -1,6 +1,6 @@
 -- The base values of a site are what its forgotten installs left: an install forgets the oldest of 32 into them, and nothing else changes
 -- them.
-use Prim.Native.Nat.{ℕ, suc, _+_, _≤_, _<_}
+use Prim.Native.Nat.{ℕ, suc, _+_, _*_, _≤_, _<_}
 use mathlib.Core.Path.{_≡_, sym, ap, _∙_}
 use mathlib.Core.List.{List}
 use native.Mathlib.Omega.{arith}
@@ -12,6 +12,7 @@ use Rattle.kinds.specs.declared.House.{House}
 use Rattle.kinds.specs.declared.Entry.{Entry}
 use Rattle.kinds.specs.declared.Site.{Site}
 use Rattle.kinds.specs.State.{Value, fresh, pastEntry, entryAt}
+use Rattle.rules.specs.Value.{baseValue}
 use Rattle.rules.specs.Keys.{wroteKey}
 use Rattle.rules.specs.KeysLaws.{by-order}
 use Rattle.rules.specs.History.{slotOf, remembered, forgotten, forgetInto}
@@ -27,7 +28,7 @@ use Rattle.rules.proofs.reads.MovesTold.{WritesOnce}
 
 abbrev pub BasesAre : House → World → Protocol → Type 0
 BasesAre house w p =
-    (s k : ℕ) → 1 ≤ s → s ≤ house .sites → k < sizes.keys → getD (w .base s) k fresh ≡ leftBelow (at p s) k (forgotten (length (inst p s)))
+    (s k : ℕ) → 1 ≤ s → s ≤ house .sites → k < sizes.keys → baseValue (w .base s) k ≡ leftBelow (at p s) k (forgotten (length (inst p s)))
 
 -- what is forgotten of one install more: nothing while fewer than 32 are remembered, else the oldest
 forgotten-same : (n : ℕ) → n < sizes.history → forgotten (n + 1) ≡ forgotten n
@@ -43,15 +44,15 @@ unfolding forgotten remembered
 forgotten-low n h = (omega arith, omega arith, omega arith)
 
 -- The values after a forgotten entry.
-forgets : (f : ℕ → Entry) (k n : ℕ) (base : List Value) → EachOnce (f n .keys) → k < length base → getD base k fresh ≡ leftBelow f k n
-    → getD (forgetInto base (f n .keys)) k fresh ≡ leftBelow f k (suc n)
+forgets : (f : ℕ → Entry) (k n : ℕ) (base : List ℕ) → EachOnce (f n .keys) → sizes.value * k + sizes.value ≤ length base → baseValue base k ≡ leftBelow f k n
+    → baseValue (forgetInto base (f n .keys)) k ≡ leftBelow f k (suc n)
 forgets f k n base o low b =
     by-test (wroteKey (f n .keys) k)
     (λ e. forget-wrote (f n .keys) k base o low e ∙ sym (left-wrote f k n e))
     (λ e. forget-other (f n .keys) k base e ∙ b ∙ sym (left-other f k n e))
 
-module _ (x : Site) (base : List Value) (es : List Entry) (k : ℕ) (h : HistoryIs (x .history) es) (z : x .counters .installs ≡ length es)
-    (size : length base ≡ sizes.keys) (low : k < sizes.keys) where
+module _ (x : Site) (base : List ℕ) (es : List Entry) (k : ℕ) (h : HistoryIs (x .history) es) (z : x .counters .installs ≡ length es)
+    (size : length base ≡ sizes.base) (low : k < sizes.keys) where
   abbrev entry : ℕ → Entry
   entry i = getD es i pastEntry
 
@@ -62,8 +63,8 @@ module _ (x : Site) (base : List Value) (es : List Entry) (k : ℕ) (h : History
       let o : forgotten (length es) + 0 ≡ forgotten (length es) = omega arith in
       ap (λ (i : ℕ). getD (x .history) i pastEntry) q ∙ h .recalls 0 m ∙ ap entry o
 
-  base-after : ((i : ℕ) → i < length es → EachOnce (entry i .keys)) → getD base k fresh ≡ leftBelow entry k (forgotten (length es))
-      → getD (baseAfter x base) k fresh ≡ leftBelow entry k (forgotten (length es + 1))
+  base-after : ((i : ℕ) → i < length es → EachOnce (entry i .keys)) → baseValue base k ≡ leftBelow entry k (forgotten (length es))
+      → baseValue (baseAfter x base) k ≡ leftBelow entry k (forgotten (length es + 1))
   unfolding baseAfter
   base-after o b =
       by-order (length es) sizes.history
@@ -96,7 +97,7 @@ module _ {house : House} {w x : World} {p q : Protocol} (r : Refines house w p) 
   pub bases-installed : (s : ℕ) → Installs w x s → BasesAre house x q
   bases-installed s i j k l h low = by-same j s here there
     where
-      here : j ≡ s → getD (x .base j) k fresh ≡ leftBelow (at q j) k (forgotten (length (inst q j)))
+      here : j ≡ s → baseValue (x .base j) k ≡ leftBelow (at q j) k (forgotten (length (inst q j)))
       here e =
           let y = r .site j l h in
           let m : length (inst q j) ≡ length (inst p j) + 1 =
@@ -107,7 +108,7 @@ module _ {house : House} {w x : World} {p q : Protocol} (r : Refines house w p) 
           (b j k l h low)
           ∙ left-kept j k (forgotten (length (inst p j) + 1)) (few (length (inst p j)) .1))
 
-      there : (j ≡ s → ⊥) → getD (x .base j) k fresh ≡ leftBelow (at q j) k (forgotten (length (inst q j)))
+      there : (j ≡ s → ⊥) → baseValue (x .base j) k ≡ leftBelow (at q j) k (forgotten (length (inst q j)))
       there f =
           let (d, e) = i .others j f in
           let m : length (inst q j) ≡ length (inst p j) =

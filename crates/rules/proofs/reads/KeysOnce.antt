@@ -1,5 +1,5 @@
 -- Each key stands once among a part's writes, so forgetting the part leaves the value that it wrote.
-use Prim.Native.Nat.{ℕ, zero, suc, _+_, _<_}
+use Prim.Native.Nat.{ℕ, zero, suc, _+_, _*_, _≤_, _<_}
 use mathlib.Core.Path.{_≡_, refl, sym, _∙_}
 use mathlib.Core.Bool.{true, false}
 use mathlib.Core.List.{List}
@@ -11,6 +11,8 @@ use Rattle.laws.specs.Scan.{split-last, foldBelow}
 use Rattle.kinds.specs.Sizes as sizes
 use Rattle.kinds.specs.declared.Keys.{Keys}
 use Rattle.kinds.specs.State.{Value, fresh, noKeys}
+use Rattle.rules.specs.Value.{putValue, baseValue}
+use Rattle.rules.specs.ValueLaws.{put-same, base-other}
 use Rattle.rules.specs.Keys.{keyPlace, wroteKey, wroteValue, readKey, withRead, withWrite}
 use Rattle.rules.specs.KeysLaws.{by-order, among-wrote}
 use Rattle.rules.specs.History.{forgetInto}
@@ -64,33 +66,33 @@ module _ (b : Keys) (k : ℕ) (z : Sized b) (room : b .wrote < sizes.writes) (e 
           (λ y. omega arith))
 
 -- Forgetting the first n writes: a key of none of them keeps its value, and one has the value of the last of them.
-module _ (b : Keys) (k : ℕ) (base : List Value) where
-  abbrev forgets : ℕ → List Value
-  forgets n = foldBelow (λ i l. set l (getD (b .writes) i 0) (getD (b .values) i fresh)) n base
+module _ (b : Keys) (k : ℕ) (base : List ℕ) where
+  abbrev forgets : ℕ → List ℕ
+  forgets n = foldBelow (λ i l. putValue l (sizes.value * getD (b .writes) i 0) (getD (b .values) i fresh)) n base
 
-  keeps : (n : ℕ) → ((i : ℕ) → i < n → getD (b .writes) i 0 ≡ k → ⊥) → getD (forgets n) k fresh ≡ getD base k fresh
+  keeps : (n : ℕ) → ((i : ℕ) → i < n → getD (b .writes) i 0 ≡ k → ⊥) → baseValue (forgets n) k ≡ baseValue base k
   unfolding foldBelow
   keeps zero h = refl
   keeps (suc n) h =
-      getD-set-other (forgets n) (getD (b .writes) n 0) k (getD (b .values) n fresh) fresh (λ q. h n (omega arith) (sym q))
+      base-other (forgets n) (getD (b .writes) n 0) k (getD (b .values) n fresh) (h n (omega arith))
       ∙ keeps n (λ i l. h i (omega arith))
 
-  leaves : (n i : ℕ) → k < length base → i < n → getD (b .writes) i 0 ≡ k → ((j : ℕ) → i < j → j < n → getD (b .writes) j 0 ≡ k → ⊥)
-      → getD (forgets n) k fresh ≡ getD (b .values) i fresh
+  leaves : (n i : ℕ) → sizes.value * k + sizes.value ≤ length base → i < n → getD (b .writes) i 0 ≡ k → ((j : ℕ) → i < j → j < n → getD (b .writes) j 0 ≡ k → ⊥)
+      → baseValue (forgets n) k ≡ getD (b .values) i fresh
   unfolding foldBelow
   leaves zero i low h e last = absurd (omega arith)
   leaves (suc n) i low h e last =
       split-last h
-      (λ (q : i ≡ n). rw (← q, e) (getD-set-same (forgets i) k (getD (b .values) i fresh) fresh (omega (arith, forget-length b i base))))
+      (λ (q : i ≡ n). rw (← q, e) (put-same (forgets i) (sizes.value * k) (getD (b .values) i fresh) (omega (arith, forget-length b i base))))
       (λ (l : i < n).
-      getD-set-other (forgets n) (getD (b .writes) n 0) k (getD (b .values) n fresh) fresh (λ q. last n l (omega arith) (sym q))
+      base-other (forgets n) (getD (b .writes) n 0) k (getD (b .values) n fresh) (last n l (omega arith))
       ∙ leaves n i low l e (λ j x y. last j x (omega arith)))
 
-  pub forget-other : wroteKey b k ≡ false → getD (forgetInto base b) k fresh ≡ getD base k fresh
+  pub forget-other : wroteKey b k ≡ false → baseValue (forgetInto base b) k ≡ baseValue base k
   unfolding forgetInto
   forget-other e = keeps (b .wrote) (λ i h q. set-not _ (among-wrote b k (i, h, q)) e)
 
-  pub forget-wrote : EachOnce b → k < length base → wroteKey b k ≡ true → getD (forgetInto base b) k fresh ≡ wroteValue b k
+  pub forget-wrote : EachOnce b → sizes.value * k + sizes.value ≤ length base → wroteKey b k ≡ true → baseValue (forgetInto base b) k ≡ wroteValue b k
   unfolding forgetInto wroteValue
   forget-wrote o low e =
       let i = keyPlace (b .writes) (b .wrote) k in

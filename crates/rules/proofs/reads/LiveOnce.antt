@@ -123,11 +123,11 @@ module _ {house : House} {w : World} {p : Protocol} (r : Refines house w p) (i :
   pub write-once : (v : Value) (j : ℕ) → 1 ≤ j → j ≤ house .sites → LiveOnce (step w (world.write s t k v) .world .site j .live)
   unfolding step siteStep writeOf writeAt
   write-once v =
-      let code = accessCode (siteOk site) sizes.keys (site .house) (site .counters .own) k spot (stageAt (site .live) spot) in
+      let code = accessCode (siteOk site) sizes.base (site .house) (site .counters .own) k spot (stageAt (site .live) spot) in
       let late = writeCodeAt site spot k in
       upd-cases (λ j x. 1 ≤ j → j ≤ house .sites → LiveOnce (x .live)) (w .site) s (writeOf site t k v .site)
       (by-code Goal code site [] (writeAt site spot k v)
-      (λ e. let a = reaches r s t k sizes.keys e in
+      (λ e. let a = reaches r s t k sizes.base e in
       by-test (wroteKey (subAt site spot .keys) k)
       (λ f. rw f (again v a f))
       (λ f. rw f (by-code Goal late site [] (written site spot k v) (first v a f) (old s))))

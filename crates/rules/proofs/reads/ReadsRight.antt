@@ -1,9 +1,10 @@
 -- Reads, proved: after any lawful list each key of a part stands once among its writes, and each site's base values are what its forgotten
 -- installs left. So a read finds its version in the history, or below it.
-use Prim.Native.Nat.{ℕ, _≤_}
+use Prim.Native.Nat.{ℕ, _*_, _≤_}
 use mathlib.Core.Path.{sym, _∙_}
 use mathlib.Core.Logic.{inl, inr}
-use lib.ListN.{getD-replicate}
+use native.Mathlib.Omega.{arith}
+use Rattle.rules.specs.ValueLaws.{value-zeros}
 use Rattle.kinds.specs.Sizes as sizes
 use Rattle.kinds.specs.declared.House.{House}
 use Rattle.rules.specs.History.{forgotten}
@@ -57,8 +58,8 @@ call-reads few w v u c h i z ss e j m =
 bases-fresh : (house : House) → BasesAre house (freshWorld house) freshProtocol
 unfolding freshWorld freshProtocol forgotten
 bases-fresh house s k l h low =
-    rw (fresh-table (startCode (house .sites) (firstsOf house) s sizes.keys sizes.lists) sizes.keys)
-    (getD-replicate {A = ℕ} sizes.keys k 0 0 low ∙ sym (left-none _ k))
+    rw (fresh-table (startCode (house .sites) (firstsOf house) s sizes.base sizes.lists) sizes.base)
+    (value-zeros sizes.base (sizes.value * k) (omega arith) ∙ sym (left-none _ k))
 
 pub fresh-reads : (house : House) → Reads house (freshWorld house) freshStream
 unfolding freshStream

@@ -26,7 +26,7 @@ use Rattle.rules.specs.Searches.{Exact, ReadRuns, SearchesRight}
 use Rattle.rules.proofs.refine.RefineStep.{by-code}
 use Rattle.rules.proofs.reads.ReadAnswers.{found, not-found}
 
-module _ (history : List Entry) (installs : ℕ) (base : List Value) (p : Snapshot) (k : ℕ) where
+module _ (history : List Entry) (installs : ℕ) (base : List ℕ) (p : Snapshot) (k : ℕ) where
   abbrev visible : ℕ
   visible = within installs p
 

@@ -14,6 +14,7 @@ use Rattle.kinds.specs.Sizes as sizes
 use Rattle.kinds.specs.declared.Entry.{Entry}
 use Rattle.kinds.specs.declared.Snapshot.{Snapshot}
 use Rattle.kinds.specs.State.{Value, fresh, pastEntry}
+use Rattle.rules.specs.Value.{baseValue}
 use Rattle.rules.specs.Keys.{wroteKey, wroteValue}
 use Rattle.rules.specs.KeysLaws.{by-order}
 use Rattle.rules.specs.History.{recall, remembered, forgotten, isForgotten, within, versionOf}
@@ -69,7 +70,7 @@ module _ (f : ℕ → Entry) (k : ℕ) where
       (λ e. rw (left-other f k n e) (since-more a n (leftBelow f k n) e (left-since a n l))))
 
 -- The version that a snapshot sees, where no install after it is forgotten and the base values are what the forgotten ones left.
-module _ (history es : List Entry) (base : List Value) (p : Snapshot) (k : ℕ) (x : HistoryIs history es) where
+module _ (history es : List Entry) (base : List ℕ) (p : Snapshot) (k : ℕ) (x : HistoryIs history es) where
   abbrev entry : ℕ → Entry
   entry i = getD es i pastEntry
 
@@ -89,7 +90,7 @@ module _ (history es : List Entry) (base : List Value) (p : Snapshot) (k : ℕ) 
   unfolding isForgotten within remembered forgotten
   spans l e = let g = ltb-false (p .installs) (size - sizes.history) e in record { inside = omega arith; few = omega arith }
 
-  pub version-left : p .installs ≤ size → isForgotten size p ≡ false → getD base k fresh ≡ leftBelow entry k (forgotten size)
+  pub version-left : p .installs ≤ size → isForgotten size p ≡ false → baseValue base k ≡ leftBelow entry k (forgotten size)
       → versionOf history size base p k ≡ leftBelow entry k (p .installs)
   version-left l e b = go (spans l e) (left-since entry k (forgotten size) (p .installs) (omega (arith, spans l e .inside)))
     where

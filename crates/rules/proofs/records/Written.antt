@@ -43,11 +43,11 @@ record-written r ws = refl
 module _ {house : House} {w : World} {p : Protocol} (r : Refines house w p) (inv : Invariant house p)
     (f : (s : ℕ) → All (RecordOk house) (w .log s)) where
   -- a call that writes nothing, or one record, into the log of s
-  same-log : (s : ℕ) (e : Effect) (base : List Value) → e .words ≡ [] → (j : ℕ) → All (RecordOk house) (logStep w s e base .world .log j)
+  same-log : (s : ℕ) (e : Effect) (base : List ℕ) → e .words ≡ [] → (j : ℕ) → All (RecordOk house) (logStep w s e base .world .log j)
   unfolding logStep
   same-log s e base n = upd-cases (λ j l. All (RecordOk house) l) (w .log) s _ (rw (n, append-nil) (f s)) (λ j k. f j)
 
-  more-log : (s : ℕ) (e : Effect) (base : List Value) (h : RecordHead) (ws : List ℕ) → e .words ≡ recordWords h ws
+  more-log : (s : ℕ) (e : Effect) (base : List ℕ) (h : RecordHead) (ws : List ℕ) → e .words ≡ recordWords h ws
       → RecordOk house (recordWords h ws)
       → (j : ℕ) → All (RecordOk house) (logStep w s e base .world .log j)
   unfolding logStep

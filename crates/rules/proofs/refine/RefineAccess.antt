@@ -257,10 +257,10 @@ module _ {house : House} {w : World} {p : Protocol} (r : Refines house w p) (s t
       → (let x = step w (world.write s t k v) in Follows house p (x .world) (toldBy (world.write s t k v) (x .answer) (x .words)))
   unfolding step siteStep writeOf writeAt
   write-moves v =
-      let code = accessCode (siteOk here) sizes.keys (here .house) (here .counters .own) k spot (stageAt (here .live) spot) in
+      let code = accessCode (siteOk here) sizes.base (here .house) (here .counters .own) k spot (stageAt (here .live) spot) in
       let late = writeCodeAt here spot k in
       by-code (Goal (book.writes t k v)) code here [] (writeAt here spot k v)
-      (λ e. let a = reaches sizes.keys e in
+      (λ e. let a = reaches sizes.base e in
       by-test (wroteKey (subAt here spot .keys) k)
       (λ f. rw f (rewrites v a f))
       (λ f. rw f (by-code (Goal (book.writes t k v)) late here [] (written here spot k v) (first v a f)

@@ -24,13 +24,13 @@ use Rattle.rules.proofs.refine.RefineEmit.{emit-onward}
 use Rattle.rules.proofs.refine.RefineReplay.{replay-onward, stays-onward}
 
 module _ {house : House} {w : World} {v : Stream} (x : StreamIs house w v) (z : Standing house v) where
-  site-call : {fs : List Fact} (s : ℕ) (e : Effect) (base : List Value) (lists : List ℕ)
+  site-call : {fs : List Fact} (s : ℕ) (e : Effect) (base : List ℕ) (lists : List ℕ)
       → Follows house (v .protocol) (siteStep w s e base lists .world) fs
       → Onward house v (siteStep w s e base lists .world) fs
   unfolding siteStep
   site-call s e base lists f = site-onward x f refl refl refl refl refl refl
 
-  log-call : {fs : List Fact} (s : ℕ) (e : Effect) (base : List Value) → Follows house (v .protocol) (logStep w s e base .world) fs
+  log-call : {fs : List Fact} (s : ℕ) (e : Effect) (base : List ℕ) → Follows house (v .protocol) (logStep w s e base .world) fs
       → Onward house v (logStep w s e base .world) fs
   unfolding logStep
   log-call s e base f = site-onward x f refl refl refl refl refl refl

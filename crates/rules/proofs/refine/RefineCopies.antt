@@ -1,5 +1,5 @@
 -- A fresh house is that of the fresh machine; and what a copy answers after any steps: the value that the committed up to its pair leave.
-use Prim.Native.Nat.{ℕ, zero, suc, _+_, _≤_, _<_}
+use Prim.Native.Nat.{ℕ, zero, suc, _+_, _*_, _≤_, _<_}
 use mathlib.Core.Path.{_≡_, refl, sym}
 use mathlib.Core.Logic.{_⊎_, inl, inr}
 use mathlib.Core.List.{List, []}
@@ -9,6 +9,7 @@ use lib.ListN.{length, getD, take, replicate, length-replicate, getD-replicate}
 use lib.Seq.{take-suc}
 use Rattle.laws.specs.Pair.{rank}
 use Rattle.kinds.specs.Sizes as sizes
+use Rattle.rules.specs.ValueLaws.{value-zeros}
 use Rattle.kinds.specs.declared.House.{House}
 use Rattle.kinds.specs.Word as word
 use Rattle.kinds.specs.State.{Value}
@@ -51,7 +52,7 @@ fresh-copy house =
       size = length-replicate {A = ℕ} sizes.copy 0;
       number = zero-at word.lastNumber (omega arith);
       coordinator = zero-at word.lastCoordinator (omega arith);
-      value = λ k h. zero-at (sizes.copyHeader + k) (omega arith);
+      value = λ k h. value-zeros sizes.copy (sizes.copyHeader + sizes.value * k) (omega arith);
     }
 
 fresh-merger : (house : House) → GoodHouse house

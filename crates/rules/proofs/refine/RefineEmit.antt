@@ -266,8 +266,7 @@ module _ {house : House} {w : World} {v : Stream} (x : StreamIs house w v) (z : 
         let o = all-below-at (partWriteOk (g .house) (i + 1) (keyWords (e .keys))) (sortedCount (e .keys)) j a b in
         let n = eqb-true _ _
         (every-at (keyAscends (keyWords (e .keys)) j ∷ eqb (homeOf (g .house) (writeKey (keyWords (e .keys)) j)) (i + 1) ∷ []) 1 o) in
-        let h : 2 * j + 0 ≡ 2 * j = omega arith in
-        let v : writeKey (keyWords (e .keys)) j ≡ sortedKey (e .keys) j = rw h (word-key (e .keys) (sortedCount (e .keys)) j b) in
+        let v = word-key (e .keys) (sortedCount (e .keys)) j b in
         ap (λ (h : House). homeOf h (sortedKey (e .keys) j)) (sym (x .merger .house-is)) ∙ ap (homeOf (g .house)) (sym v) ∙ n))
 
     placed-new : Placed house item

@@ -42,7 +42,7 @@ firsts-good house good =
 
 -- a site of the house starts fresh, and so does the merger,
 pub started : (house : House) (s : ℕ) → GoodHouse house → 1 ≤ s → s ≤ house .sites
-    → startOf (house .sites) (firstsOf house) s sizes.keys sizes.lists .site ≡ freshSite house s
+    → startOf (house .sites) (firstsOf house) s sizes.base sizes.lists .site ≡ freshSite house s
 unfolding startOf startCode isSite
 started house s good l h =
     rw (
@@ -68,13 +68,13 @@ merger-started house good =
 
 -- another is not valid
 not-started : (house : House) (s : ℕ) → ((1 ≤ s) × (s ≤ house .sites) → ⊥)
-    → siteOk (startOf (house .sites) (firstsOf house) s sizes.keys sizes.lists .site) ≡ false
+    → siteOk (startOf (house .sites) (firstsOf house) s sizes.base sizes.lists .site) ≡ false
 unfolding startOf startCode isSite siteOk houseOk countOk freshSite
 not-started house s n =
-    let code = startCode (house .sites) (firstsOf house) s sizes.keys sizes.lists in
+    let code = startCode (house .sites) (firstsOf house) s sizes.base sizes.lists in
     let none : (code ≡ 0) → ⊥ = λ e.
     let l = leb 1 s ∷ leb s (house .sites) ∷ [] in
-    let here = not-false _ (clear-at (startCauses (house .sites) (firstsOf house) s sizes.keys sizes.lists) 2 refl e) in
+    let here = not-false _ (clear-at (startCauses (house .sites) (firstsOf house) s sizes.base sizes.lists) 2 refl e) in
     n (leb-true 1 s (every-at l 0 here), leb-true s (house .sites) (every-at l 1 here)) in
     rw (ne-eqb code 0 none)
 
@@ -83,7 +83,7 @@ unfolding noSub
 free-place i h = rw (getD-replicate sizes.live i noSub pastSub h)
 
 fresh-site : (house : House) (s : ℕ) → GoodHouse house
-    → SiteIs house s (freshSite house s) (replicate sizes.keys 0) (replicate sizes.lists 0) (sliceOf freshProtocol s)
+    → SiteIs house s (freshSite house s) (replicate sizes.base 0) (replicate sizes.lists 0) (sliceOf freshProtocol s)
 unfolding freshSite freshProtocol remembered noSub
 fresh-site house s good =
     let few = good .few in
@@ -111,7 +111,7 @@ fresh-site house s good =
             size = length-replicate {A = ℕ} sizes.lists 0;
             each = λ i h f c. absurd (let z = free-place i h in let y : _≡_ {A = ℕ} 0 2 = sym z ∙ f in omega arith);
           };
-      base-size = length-replicate {A = ℕ} sizes.keys 0;
+      base-size = length-replicate {A = ℕ} sizes.base 0;
     }
 
 -- a start that is handed zeros leaves zeros, refused or not
@@ -126,8 +126,8 @@ refines-fresh house good =
       few = good .few;
       site = λ s l h. rw (
         started house s good l h,
-        fresh-table (startCode (house .sites) (firstsOf house) s sizes.keys sizes.lists) sizes.keys,
-        fresh-table (startCode (house .sites) (firstsOf house) s sizes.keys sizes.lists) sizes.lists,
+        fresh-table (startCode (house .sites) (firstsOf house) s sizes.base sizes.lists) sizes.base,
+        fresh-table (startCode (house .sites) (firstsOf house) s sizes.base sizes.lists) sizes.lists,
       ) (fresh-site house s good);
       outside = not-started house;
       sent = a-nil;

@@ -6,8 +6,8 @@ use mathlib.Core.List.{List, _++_}
 use native.Mathlib.Omega.{arith}
 use borrow.Author.Tests.{eqb-true, eqb-false, ne-eqb}
 use lib.Dec.{eqb}
-use lib.ListN.{length, getD, length-set, length-append, List·getD-append}
-use lib.Seq.{getD-set-same, getD-set-other, getD-append-add}
+use lib.ListN.{length, getD, length-append, List·getD-append}
+use lib.Seq.{getD-append-add}
 use Rattle.laws.specs.Choice.{pick, by-test, set-not, unset}
 use Rattle.laws.specs.Scan.{foldBelow, split-last}
 use Rattle.kinds.specs.Sizes as sizes
@@ -20,6 +20,7 @@ use Rattle.rules.specs.House.{inMask, homeOf}
 use Rattle.rules.specs.HouseLaws.{home-positive}
 use Rattle.rules.specs.Keys.{wroteKey, wroteValue, sortedKey, sortedCount}
 use Rattle.rules.specs.KeysLaws.{by-order, words-length, sorted-low, sorted-wrote, wrote-sorted, word-key, word-value}
+use Rattle.rules.specs.ValueLaws.{put-length, put-same, put-before, put-other, value-left, value-right}
 use Rattle.rules.specs.Record.{writeKey, writeValue}
 use Rattle.rules.specs.Merger.{writesIn}
 use Rattle.rules.specs.Copy.{copyValue, putWrites}
@@ -36,13 +37,14 @@ laid ws k (suc n) v = pick (eqb (writeKey ws n) k) (writeValue ws n) (laid ws k 
 pub length-put : (copy ws : List ℕ) (n : ℕ) → length (putWrites copy ws n) ≡ length copy
 unfolding putWrites foldBelow
 length-put copy ws zero = refl
-length-put copy ws (suc n) = length-set (putWrites copy ws n) (sizes.copyHeader + writeKey ws n) (writeValue ws n) ∙ length-put copy ws n
+length-put copy ws (suc n) =
+    put-length (putWrites copy ws n) (sizes.copyHeader + sizes.value * writeKey ws n) (writeValue ws n) ∙ length-put copy ws n
 
 pub put-header : (copy ws : List ℕ) (n i : ℕ) → i < sizes.copyHeader → getD (putWrites copy ws n) i 0 ≡ getD copy i 0
 unfolding putWrites foldBelow
 put-header copy ws zero i h = refl
 put-header copy ws (suc n) i h =
-    getD-set-other (putWrites copy ws n) (sizes.copyHeader + writeKey ws n) i (writeValue ws n) 0 (λ e. omega arith)
+    put-before (putWrites copy ws n) (sizes.copyHeader + sizes.value * writeKey ws n) (writeValue ws n) i (omega arith)
     ∙ put-header copy ws n i h
 
 pub put-value : (copy ws : List ℕ) (n k : ℕ) → length copy ≡ sizes.copy → k < sizes.keys
@@ -53,10 +55,9 @@ put-value copy ws (suc n) k e h =
     let l = length-put copy ws n in
     by-test (eqb (writeKey ws n) k)
     (λ t. let q = eqb-true (writeKey ws n) k t in
-    rw t (rw q (getD-set-same (putWrites copy ws n) (sizes.copyHeader + k) (writeValue ws n) 0 (omega arith))))
+    rw t (rw q (put-same (putWrites copy ws n) (sizes.copyHeader + sizes.value * k) (writeValue ws n) (omega arith))))
     (λ t. let q = eqb-false (writeKey ws n) k t in
-    rw t (getD-set-other (putWrites copy ws n) (sizes.copyHeader + writeKey ws n) (sizes.copyHeader + k) (writeValue ws n) 0
-    (λ z. q (omega arith)) ∙ put-value copy ws n k e h))
+    rw t (put-other (putWrites copy ws n) sizes.copyHeader (writeKey ws n) k (writeValue ws n) q ∙ put-value copy ws n k e h))
 
 -- Writes behind writes.
 module _ (ws p : List ℕ) (a k : ℕ) (v : Value) (e : length ws ≡ sizes.write * a) where
@@ -66,7 +67,7 @@ module _ (ws p : List ℕ) (a k : ℕ) (v : Value) (e : length ws ≡ sizes.writ
   laid-left (suc n) h =
       rw (
         List·getD-append ws p 0 (sizes.write * n + word.writeKey) (omega arith),
-        List·getD-append ws p 0 (sizes.write * n + word.writeValue) (omega arith),
+        value-left ws p (sizes.write * n + word.writeValue) (omega arith),
         laid-left n (omega arith),
       )
 
@@ -81,14 +82,14 @@ module _ (ws p : List ℕ) (a k : ℕ) (v : Value) (e : length ws ≡ sizes.writ
         x,
         y,
         getD-append-add ws p (sizes.write * b + word.writeKey) 0,
-        getD-append-add ws p (sizes.write * b + word.writeValue) 0,
+        value-right ws p (sizes.write * b + word.writeValue),
         laid-append b,
       ))
 
 -- The writes of one part.
 module _ (b : Keys) (k : ℕ) (v : Value) where
   key-at : (j : ℕ) → j < sortedCount b → writeKey (keyWords b) j ≡ sortedKey b j
-  key-at j h = let z : sizes.write * j + word.writeKey ≡ 2 * j = omega arith in rw z (word-key b (sortedCount b) j h)
+  key-at j h = word-key b (sortedCount b) j h
 
   laid-hit : (n j : ℕ) → n ≤ sortedCount b → j < n → sortedKey b j ≡ k → laid (keyWords b) k n v ≡ wroteValue b k
   unfolding laid

@@ -1,5 +1,5 @@
 -- Report and install, as moves: the calls that write a site's log.
-use Prim.Native.Nat.{ℕ, zero, suc, _+_, _-_, _≤_, _<_}
+use Prim.Native.Nat.{ℕ, zero, suc, _+_, _-_, _*_, _≤_, _<_}
 use mathlib.Core.Path.{_≡_, refl, sym, ap, _∙_}
 use mathlib.Core.Bool.{true}
 use mathlib.Core.Logic.{inl, inr}
@@ -23,6 +23,8 @@ use Rattle.kinds.specs.declared.Answer.the-variants.{Reported}
 use Rattle.kinds.specs.State.{Value, fresh, noSub, pastEntry, subAt, entryAt}
 use Rattle.rules.specs.House.{coordinatorOf}
 use Rattle.rules.specs.Record.{recordWords}
+use Rattle.rules.specs.Value.{putValue}
+use Rattle.rules.specs.ValueLaws.{put-length}
 use Rattle.rules.specs.KeysLaws.{by-order}
 use Rattle.rules.specs.Live.{partAt, isQueued}
 use Rattle.rules.specs.History.{slotOf, remembered, forgotten, forgetInto}
@@ -187,13 +189,13 @@ history-more history es e x =
     }
 
 -- what is forgotten keeps the base values' number
-pub forget-length : (b : Keys) (n : ℕ) (base : List Value)
-    → length (foldBelow (λ i l. set l (getD (b .writes) i 0) (getD (b .values) i fresh)) n base) ≡ length base
+pub forget-length : (b : Keys) (n : ℕ) (base : List ℕ)
+    → length (foldBelow (λ i l. putValue l (sizes.value * getD (b .writes) i 0) (getD (b .values) i fresh)) n base) ≡ length base
 unfolding foldBelow
 forget-length b zero base = refl
-forget-length b (suc n) base = simp length-set (forget-length b n base)
+forget-length b (suc n) base = simp put-length (forget-length b n base)
 
-base-length : (x : Site) (base : List Value) → length (baseAfter x base) ≡ length base
+base-length : (x : Site) (base : List ℕ) → length (baseAfter x base) ≡ length base
 unfolding baseAfter forgetInto
 base-length x base =
     by-test (leb sizes.history (x .counters .installs))

@@ -1,5 +1,5 @@
 -- Replay, as a step: a merged record that a copy takes is the next item, and its writes leave what the item leaves. And value.
-use Prim.Native.Nat.{ℕ, zero, suc, _+_, _≤_, _<_}
+use Prim.Native.Nat.{ℕ, zero, suc, _+_, _*_, _≤_, _<_}
 use mathlib.Core.Path.{_≡_, refl, sym, ap, _∙_}
 use mathlib.Core.Bool.{true, not}
 use mathlib.Core.Logic.{_⊎_, inl, inr, ⊎-elim}
@@ -15,6 +15,7 @@ use Rattle.laws.specs.Choice.{every-at, by-test}
 use Rattle.laws.specs.Cause.{cause, clear-at}
 use Rattle.laws.specs.Pair.{rank, precedes, precedes-rank}
 use Rattle.kinds.specs.Sizes as sizes
+use Rattle.rules.specs.ValueLaws.{set-before}
 use Rattle.kinds.specs.declared.House.{House}
 use Rattle.kinds.specs.Kind as kind
 use Rattle.kinds.specs.Reason as reason
@@ -111,8 +112,8 @@ copy-more {house} {copy} {l} x c i =
           ∙ sym (end-coordinator 0 l x);
       value = λ k h.
           let v : copyValue b k ≡ copyValue copy k =
-          getD-set-other a word.lastCoordinator (sizes.copyHeader + k) (coordinatorOf (x .tx)) 0 (λ z. omega arith)
-          ∙ getD-set-other copy word.lastNumber (sizes.copyHeader + k) (x .number) 0 (λ z. omega arith) in
+          set-before a word.lastCoordinator (coordinatorOf (x .tx)) (sizes.copyHeader + sizes.value * k) (omega arith)
+          ∙ set-before copy word.lastNumber (x .number) (sizes.copyHeader + sizes.value * k) (omega arith) in
           put-value b (itemWrites (house .sites) x) n k e h
           ∙ ap (laid (itemWrites (house .sites) x) k n) (v ∙ i .value k h)
           ∙ laid-item x c k h (leftIn house k fresh l)

@@ -198,7 +198,7 @@ pub record SiteIs (house : House) (own : ℕ) (s : Site) (base words : List ℕ)
   pub live : LiveIs (s .live) (v .live)
   pub history : HistoryIs (s .history) (partsOf (v .log))
   pub lists : ListsAre own (s .live) words (v .gathered)
-  pub base-size : length base ≡ sizes.keys
+  pub base-size : length base ≡ sizes.base
 
 pub count-is : {o h : House} → o ≡ h → o .sites ≡ h .sites
 count-is e = ap (λ (o : House). o .sites) e

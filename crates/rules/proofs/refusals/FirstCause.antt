@@ -111,7 +111,7 @@ pub begin-by : (s : Site) (d : ℕ) → ByFirst (beginOf s d .answer) (beginHas 
 unfolding beginOf beginCode begun beginHas order
 begin-by s d = by-first _ (beginHas s d) refl (only-by (beginHas s d) s [] _ refl)
 
-pub read-by : (s : Site) (base : List Value) (tx k : ℕ) → ByFirst (readOf s base tx k .answer) (readHas s base tx k)
+pub read-by : (s : Site) (base : List ℕ) (tx k : ℕ) → ByFirst (readOf s base tx k .answer) (readHas s base tx k)
 unfolding readOf accessCode readAt readVersion readCode readHas accessHas order
 read-by s base tx k =
     let place = placeOf (s .live) tx in
@@ -132,12 +132,12 @@ write-by s tx k v =
     let more = writeCauses (isForgotten n (b .snapshot)) (keyHeld (s .live) place k) (isNewer (s .history) n (b .snapshot) k)
     (writeLimit (b .desk)) (b .keys .wrote) in
     by-test (wroteKey (b .keys) k)
-    (λ t. rw t (by-first _ (accessHas s sizes.keys tx k ++ []) refl
-    (unless-by (accessHas s sizes.keys tx k) [] s [] _ refl (accepted _ [] refl refl))))
-    (λ t. rw t (by-first _ (accessHas s sizes.keys tx k ++ more) refl
-    (unless-by (accessHas s sizes.keys tx k) more s [] _ refl (only-by more s [] (written s place k v) refl))))
+    (λ t. rw t (by-first _ (accessHas s sizes.base tx k ++ []) refl
+    (unless-by (accessHas s sizes.base tx k) [] s [] _ refl (accepted _ [] refl refl))))
+    (λ t. rw t (by-first _ (accessHas s sizes.base tx k ++ more) refl
+    (unless-by (accessHas s sizes.base tx k) more s [] _ refl (only-by more s [] (written s place k v) refl))))
 
-pub search-by : (s : Site) (base : List Value) (p : Snapshot) (k : ℕ) → ByFirst (searchOf s base p k) (searchHas s base k)
+pub search-by : (s : Site) (base : List ℕ) (p : Snapshot) (k : ℕ) → ByFirst (searchOf s base p k) (searchHas s base k)
 unfolding searchOf keyCode searchHas order
 search-by s base p k =
     let found = searchIn (s .history) (s .counters .installs) base p k in
@@ -181,7 +181,7 @@ abandon-by s room tx =
     (abort-speaks (turnAt s place) reason.abandoned .accepts)))
 
 -- Install and report.
-pub install-by : (s : Site) (room : ℕ) (base : List Value) → ByFirst (installOf s room base .answer) (installHas s room base)
+pub install-by : (s : Site) (room : ℕ) (base : List ℕ) → ByFirst (installOf s room base .answer) (installHas s room base)
 unfolding installOf installCode installedAt installHas order
 install-by s room base = by-first _ (installHas s room base) refl (only-by (installHas s room base) s base _ refl)
 

@@ -101,7 +101,7 @@ module _ (w : World) (s tx key : ℕ) where
       (λ t. by-moment _ (readHas asked (w .base s) tx key) true past (first-cause .call w (world.read s tx key))
       (rw (t, whole, x .is-possible, x .known, here, held)) (rw t refl) (rw t (pick-self past)))
 
-  write-moment : (v : Value) → AtKey asked sizes.keys tx key → ByMoment (step w (world.write s tx key v) .answer) true past
+  write-moment : (v : Value) → AtKey asked sizes.base tx key → ByMoment (step w (world.write s tx key v) .answer) true past
   unfolding writeHas accessHas order
   write-moment v x =
       let here = eq-eqb _ _ (x .here) in

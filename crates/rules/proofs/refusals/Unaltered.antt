@@ -111,7 +111,7 @@ module _ (s : Site) (lists : List ℕ) where
       (λ b. rw (a, b) (other-leaves (h .kind) h)))))
 
 -- Install and report.
-install-leaves : (s : Site) (room : ℕ) (base : List Value) → Leaves s base (installOf s room base)
+install-leaves : (s : Site) (room : ℕ) (base : List ℕ) → Leaves s base (installOf s room base)
 unfolding installOf installedAt
 install-leaves s room base =
     let place = leastQueued (s .live) sizes.live in
@@ -152,7 +152,7 @@ emit-leaves g room queues =
 same-table : {A : Type 0} (f : ℕ → A) (s : ℕ) (a : A) → a ≡ f s → upd f s a ≡ f
 same-table f s a e = rw e (λ i j. upd-self f s j i)
 
-site-same : (w : World) (s : ℕ) (e : Effect) (base : List Value) (lists : List ℕ) → e .words ≡ [] → e .site ≡ w .site s → base ≡ w .base s
+site-same : (w : World) (s : ℕ) (e : Effect) (base : List ℕ) (lists : List ℕ) → e .words ≡ [] → e .site ≡ w .site s → base ≡ w .base s
     → lists ≡ w .lists s
     → siteStep w s e base lists .world ≡ w
 unfolding siteStep messagesIn splitWords
@@ -172,7 +172,7 @@ site-same w s e base lists a b c d =
       replayed = w .replayed;
     }
 
-log-same : (w : World) (s : ℕ) (e : Effect) (base : List Value) → e .words ≡ [] → e .site ≡ w .site s → base ≡ w .base s
+log-same : (w : World) (s : ℕ) (e : Effect) (base : List ℕ) → e .words ≡ [] → e .site ≡ w .site s → base ≡ w .base s
     → logStep w s e base .world ≡ w
 unfolding logStep
 log-same w s e base a b c =

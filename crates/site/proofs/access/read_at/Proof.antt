@@ -59,7 +59,7 @@ kept : (c : tie.After-turn-at) → let s = handed (start (c .before)) in
 kept c = let s = start (c .before) in keys-of (handed s) (s .args .place) _ (s .pre .0 .low) (turned c) (valid s)
 
 -- what the rule does, by the turn's own keys
-found : (s : Site) (base : List Value) (place k : ℕ) (t : Turn) (v : Value) → t ≡ turnAt s place → wroteKey (t .sub .keys) k ≡ true
+found : (s : Site) (base : List ℕ) (place k : ℕ) (t : Turn) (v : Value) → t ≡ turnAt s place → wroteKey (t .sub .keys) k ≡ true
     → v ≡ wroteValue (t .sub .keys) k → readAt s base place k ≡ record { answer = Found v; words = []; site = s; lent = [] }
 unfolding readAt turnAt
 found s base place k t v e w f = let q = rw e at w in let g = rw e at f in rw (q, g)
@@ -68,7 +68,7 @@ found s base place k t v e w f = let q = rw e at w in let g = rw e at f in rw (q
 abbrev versionCode : Site → Turn → ℕ → ℕ
 versionCode s t k = readCode (isForgotten (s .counters .installs) (t .sub .snapshot)) (readKey (t .sub .keys) k) (t .sub .keys .read)
 
-refuses : (s : Site) (base : List Value) (place k : ℕ) (t : Turn) (code : ℕ) → t ≡ turnAt s place → wroteKey (t .sub .keys) k ≡ false
+refuses : (s : Site) (base : List ℕ) (place k : ℕ) (t : Turn) (code : ℕ) → t ≡ turnAt s place → wroteKey (t .sub .keys) k ≡ false
     → code ≡ versionCode s t k → (code ≡ 0 → ⊥) → readAt s base place k ≡ refused code s []
 unfolding readAt turnAt
 refuses s base place k t code e w f n = let q = rw e at w in let g = rw e at f in rw (q, ← g, ne-eqb code 0 n)
@@ -76,7 +76,7 @@ refuses s base place k t code e w f n = let q = rw e at w in let g = rw e at f i
 abbrev stepOf : Turn → Keys → Value → Change
 stepOf t more v = record { answer = Found v; words = []; turn = withSubOf t (withKeys (t .sub) more) }
 
-reads : (s : Site) (base : List Value) (place k : ℕ) (t : Turn) (v : Value) (more : Keys) → t ≡ turnAt s place
+reads : (s : Site) (base : List ℕ) (place k : ℕ) (t : Turn) (v : Value) (more : Keys) → t ≡ turnAt s place
     → wroteKey (t .sub .keys) k ≡ false
     → versionCode s t k ≡ 0 → v ≡ searchIn (s .history) (s .counters .installs) base (t .sub .snapshot) k .value
     → more ≡ withRead (t .sub .keys) k
