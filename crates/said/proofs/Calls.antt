@@ -86,8 +86,8 @@ unfolding saidOf writeOf writeAt written quietly
 write-taken s tx k v =
     let place = placeOf (s .live) tx in
     by-test (wroteKey (subAt s place .keys) k)
-    (λ w. rw w (past (accessNo s sizes.keys tx k) s [] _ _ (record { said = λ r. refl })))
-    (λ w. rw w (past (accessNo s sizes.keys tx k) s [] _ _ (past (writeCodeAt s place k) s [] _ _ (record { said = λ r. refl }))))
+    (λ w. rw w (past (accessNo s sizes.base tx k) s [] _ _ (record { said = λ r. refl })))
+    (λ w. rw w (past (accessNo s sizes.base tx k) s [] _ _ (past (writeCodeAt s place k) s [] _ _ (record { said = λ r. refl }))))
 
 abandon-taken : (s : Site) (room tx : ℕ) → Takes (abandonOf s room tx) (abort reason.abandoned)
 unfolding saidOf abandonOf abortStep sendAll
