@@ -11,7 +11,6 @@ use kinds::sizes::LIVE;
 use kinds::sizes::OUTGOING;
 use kinds::stage::ACTIVE;
 ghost use mathlib.Core.Path.{_≡_};
-ghost use Prim.Native.Nat.{_≤_};
 ghost use lib.ListN.{length};
 ghost use Rattle.laws.specs.Overlay.{overlay};
 ghost use Rattle.rules.specs.Enlist.{enlistCode, joinerCode, enlistAt, enlistOf};
