@@ -9,7 +9,7 @@ use lib.Dec.{eqb}
 use Rattle.laws.specs.Choice.{every}
 use Rattle.laws.specs.Scan.{firstBelow}
 use Rattle.kinds.specs.Sizes as sizes
-use Rattle.kinds.specs.State.{Value}
+use Rattle.kinds.specs.declared.Value.{Value}
 use Rattle.kinds.specs.declared.Answer.{Answer}
 use Rattle.kinds.specs.declared.House.{House}
 use Rattle.rules.specs.House.{houseOf, evenTable, coordinatorOf}

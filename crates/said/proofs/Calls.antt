@@ -8,7 +8,8 @@ use Rattle.laws.specs.Choice.{by-test, set-not}
 use Rattle.kinds.specs.Sizes as sizes
 use Rattle.kinds.specs.Kind as kind
 use Rattle.kinds.specs.Reason as reason
-use Rattle.kinds.specs.State.{Value, subAt}
+use Rattle.kinds.specs.State.{subAt}
+use Rattle.kinds.specs.declared.Value.{Value}
 use Rattle.kinds.specs.declared.Site.{Site}
 use Rattle.kinds.specs.declared.Snapshot.{Snapshot}
 use Rattle.kinds.specs.declared.Merger.{Merger}

@@ -11,7 +11,7 @@ use Rattle.kinds.specs.Sizes as sizes
 use Rattle.kinds.specs.declared.House.{House}
 use Rattle.kinds.specs.declared.Entry.{Entry}
 use Rattle.kinds.specs.declared.Site.{Site}
-use Rattle.kinds.specs.State.{Value, fresh, pastEntry, entryAt}
+use Rattle.kinds.specs.State.{pastEntry, entryAt}
 use Rattle.rules.specs.Value.{baseValue}
 use Rattle.rules.specs.Keys.{wroteKey}
 use Rattle.rules.specs.KeysLaws.{by-order}

@@ -10,7 +10,8 @@ use Rattle.laws.specs.Choice.{by-test, set-not}
 use Rattle.laws.specs.Scan.{split-last, foldBelow}
 use Rattle.kinds.specs.Sizes as sizes
 use Rattle.kinds.specs.declared.Keys.{Keys}
-use Rattle.kinds.specs.State.{Value, fresh, noKeys}
+use Rattle.kinds.specs.State.{fresh, noKeys}
+use Rattle.kinds.specs.declared.Value.{Value}
 use Rattle.rules.specs.Value.{putValue, baseValue}
 use Rattle.rules.specs.ValueLaws.{put-same, base-other}
 use Rattle.rules.specs.Keys.{keyPlace, wroteKey, wroteValue, readKey, withRead, withWrite}
