@@ -1,19 +1,21 @@
 // A copy (G5 and G6) in lent words: its last pair, then the value of each key.
-mod values;
+mod writes;
 
 use kinds::Answer;
 use kinds::reason::BEHIND;
 use kinds::reason::MALFORMED;
 use kinds::sizes::COPY;
+use kinds::sizes::COPY_HEADER;
 use kinds::sizes::KEYS;
 use kinds::sizes::RECORD_HEADER;
+use kinds::sizes::VALUE;
 use kinds::word;
 use numbers::precedes;
 use records::merged_ok;
 use records::read_record;
 use slices::fill_words;
-use values::put_writes;
 use values::value_at;
+use writes::put_writes;
 ghost use mathlib.Core.Path.{_≡_};
 ghost use Rattle.rules.specs.Copy.{copyStartOf, replayCode, replayOf, valueCode, valueOf};
 
@@ -89,8 +91,9 @@ pub fn value(copy: &[u64], key: u64) -> Answer
     if code != 0 {
         return Answer::Refused(code);
     }
+    let at = COPY_HEADER + VALUE * key as usize;
     Answer::Standing {
-        value: value_at(copy, key),
+        value: value_at(copy, at),
         number: copy[word::LAST_NUMBER],
         coordinator: copy[word::LAST_COORDINATOR],
     }

@@ -7,7 +7,10 @@ use kinds::Search;
 use kinds::Snapshot;
 use kinds::sizes::HISTORY;
 use kinds::sizes::SLOT;
+use kinds::sizes::VALUE;
 use kinds::word::SLOT_KEYS;
+use values::put_value;
+use values::value_at;
 ghost use mathlib.Core.Path.{_≡_};
 ghost use Prim.Native.Nat.{ℕ, _+_, _≤_, _<_};
 ghost use lib.ListN.{length, getD};
@@ -72,7 +75,8 @@ pub fn within(installs: u64, p: Snapshot) -> usize
 // The version of `k` that the snapshot sees, and how many entries were looked at: from the newest within the snapshot backwards, to the
 // first that has the key.
 pub fn search(h: &[u64], installs: u64, base: &[u64], p: Snapshot, k: Key) -> Search
-    requires { ⌜ Slots (now h) × (k < length (now base)) ⌝ }
+    requires { ⌜ Slots (now h) ⌝ }
+    requires { ⌜ (length (now base) ≡ sizes.base) × (k < sizes.keys) ⌝ }
     ensures { λ r. ⌜ r ≡ searchIn (historyOf (now (h .entry))) installs (now (base .entry)) p k ⌝ }
 {
     let visible = within(installs, p);
@@ -89,8 +93,8 @@ pub fn search(h: &[u64], installs: u64, base: &[u64], p: Snapshot, k: Key) -> Se
         left -= 1;
         looked += 1;
     }
-    let at = k as usize;
-    let value = base[at];
+    let at = VALUE * k as usize;
+    let value = value_at(base, at);
     Search { value, looked }
 }
 
@@ -113,15 +117,16 @@ pub fn is_newer(h: &[u64], installs: u64, p: Snapshot, k: Key) -> bool
 
 // The writes of a forgotten entry into the base values.
 pub fn forget_into(base: &mut [u64], b: Keys)
-    requires { ⌜ (b .wrote ≤ sizes.writes) × ((i : ℕ) → i < b .wrote → getD (b .writes) i 0 < length (now base)) ⌝ }
+    requires { ⌜ length (now base) ≡ sizes.base ⌝ }
+    requires { ⌜ (b .wrote ≤ sizes.writes) × ((i : ℕ) → i < b .wrote → getD (b .writes) i 0 < sizes.keys) ⌝ }
     ensures { λ _. ⌜ now (base .exit) ≡ forgetInto (now (base .entry)) b ⌝ }
 {
     let n = b.wrote;
     let mut i: usize = 0;
     while i < n {
         let key = b.writes[i];
-        let at = key as usize;
-        base[at] = b.values[i];
+        let value = b.values[i];
+        put_value(base, VALUE * key as usize, value);
         i += 1;
     }
 }

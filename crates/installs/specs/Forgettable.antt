@@ -11,6 +11,6 @@ use Rattle.rules.specs.History.{slotOf}
 abbrev pub oldest : List Entry → ℕ → Keys
 oldest history installs = getD history (slotOf installs) pastEntry .keys
 
-pub record Forgettable (b : Keys) (room : ℕ) : Type 0 where
+pub record Forgettable (b : Keys) : Type 0 where
   pub few : b .wrote ≤ sizes.writes
-  pub low : (i : ℕ) → i < b .wrote → getD (b .writes) i 0 < room
+  pub low : (i : ℕ) → i < b .wrote → getD (b .writes) i 0 < sizes.keys

@@ -12,8 +12,8 @@ use kinds::reason::NOTHING;
 use kinds::reason::SHORT;
 use kinds::reason::SPENT;
 use kinds::sizes;
+use kinds::sizes::BASE;
 use kinds::sizes::HISTORY;
-use kinds::sizes::KEYS;
 use kinds::sizes::LAST;
 use kinds::sizes::LIVE;
 use kinds::sizes::WRITE;
@@ -44,7 +44,7 @@ fn install_code(ok: bool, room: usize, given: usize, due: bool, installs: u64) -
     if room < sizes::PART {
         return SHORT;
     }
-    if given != KEYS {
+    if given != BASE {
         return MALFORMED;
     }
     if !ok {
@@ -79,8 +79,8 @@ fn least_place(ok: bool, seats: [Seat; LIVE], live: &[u64]) -> usize
 
 // The writes of the oldest go into the base values once `HISTORY` are remembered.
 fn forget_oldest(base: &mut [u64], history: &[u64], installs: u64)
-    requires { ⌜ length (now history) ≡ sizesOf.historyWords ⌝ }
-    requires { ⌜ Forgettable (oldest (historyOf (now history)) installs) (length (now base)) ⌝ }
+    requires { ⌜ (length (now history) ≡ sizesOf.historyWords) × (length (now base) ≡ sizesOf.base) ⌝ }
+    requires { ⌜ Forgettable (oldest (historyOf (now history)) installs) ⌝ }
     ensures { λ _. ⌜ now (base .exit)
         ≡ pick (leb sizesOf.history installs) (forgetInto (now (base .entry)) (oldest (historyOf (now (history .entry))) installs))
         (now (base .entry)) ⌝ }
@@ -165,7 +165,7 @@ fn install_at(
     place: usize,
 ) -> Reply
     requires { ⌜ Installable p (now live) (now history) place ⌝ }
-    requires { ⌜ (length (now base) ≡ sizesOf.keys) × (sizesOf.part ≤ length (now out)) ⌝ }
+    requires { ⌜ (length (now base) ≡ sizesOf.base) × (sizesOf.part ≤ length (now out)) ⌝ }
     ensures { λ r. ⌜ Replied p (now (live .entry)) (now (history .entry)) r (now (live .exit)) (now (history .exit))
         (installedAt (siteOf p (now (live .entry)) (now (history .entry))) (now (base .entry)) place) ⌝ }
     ensures { λ _. ⌜ now (base .exit)

@@ -2,9 +2,11 @@
 use kinds::Key;
 use kinds::Value;
 use kinds::sizes::READS;
+use kinds::sizes::VALUE;
 use kinds::sizes::WRITES;
 use kinds::word;
 use std::num::wrapping_sub_u64;
+use values::value_at;
 ghost use mathlib.Core.Path.{_≡_};
 ghost use Prim.Native.Nat.{ℕ, _+_, _≤_};
 ghost use lib.ListN.{length};
@@ -46,7 +48,7 @@ pub fn wrote_value_in(w: &[u64], o: usize, k: Key) -> Value
 {
     let n = w[o + word::KEYS_WROTE] as usize;
     let place = key_place_in(w, o + word::KEYS_WRITES, n, k);
-    w[o + word::KEYS_VALUES + place]
+    value_at(w, o + word::KEYS_VALUES + VALUE * place)
 }
 
 // Whether the first `n` words from word `at` on are among the `count` keys from `first` on, the range of a site (Q3.1). A key below

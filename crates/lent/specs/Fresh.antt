@@ -9,16 +9,18 @@ use Rattle.laws.specs.Choice.{pick}
 use native.Mathlib.Omega.{arith}
 use borrow.Author.Tests.{eqb-true, ne-eqb, not-false}
 use Rattle.kinds.specs.Sizes as sizes
+use Rattle.kinds.specs.Word as word
 use Rattle.kinds.specs.declared.House.{House}
 use Rattle.kinds.specs.declared.Core.{Core}
 use Rattle.kinds.specs.declared.Reply.{Reply}
-use Rattle.kinds.specs.State.{pastSeat, noKeys, noSub, noEntry}
+use Rattle.kinds.specs.State.{fresh, pastSeat, noKeys, noSub, noEntry}
 use Rattle.kinds.specs.declared.Answer.the-variants.{Done, Refused}
+use Rattle.rules.specs.Value.{valueAt}
 use Rattle.rules.specs.House.{countOk, houseOf, noHouse}
 use Rattle.rules.specs.HouseLaws.{count-clear}
 use Rattle.rules.specs.Install.{startCauses, startCode, startOf, startTable, freshSite}
 use Rattle.lent.specs.Rows.{rows, rows-same}
-use Rattle.lent.specs.Layout.{wordsFrom, keysFrom, subFrom, entryFrom, liveOf, historyOf}
+use Rattle.lent.specs.Layout.{wordsFrom, valuesFrom, keysFrom, subFrom, entryFrom, liveOf, historyOf}
 use Rattle.lent.specs.Lent.{lentOk, lentHouse, lentSites, siteOf}
 use Rattle.lent.specs.Laws.{Lengths}
 use Rattle.lent.specs.Read.{count-lengths}
@@ -58,9 +60,20 @@ no-words : (n o m : ℕ) → wordsFrom (zeros n) o m ≡ rows (λ j. 0) m
 unfolding wordsFrom
 no-words n o m = rows-same _ _ m (λ j h. zero-at n (o + j))
 
+no-values : (n o m : ℕ) → valuesFrom (zeros n) o m ≡ rows (λ j. fresh) m
+unfolding valuesFrom valueAt
+no-values n o m = rows-same _ _ m (λ j h. rw (zero-at n (o + sizes.value * j)))
+
 no-keys : (n o : ℕ) → keysFrom (zeros n) o ≡ noKeys
 unfolding keysFrom noKeys rows
-no-keys n o = rw (zero-at n (o + 0), zero-at n (o + 1), no-words n (o + 2) 16, no-words n (o + 18) 16, no-words n (o + 34) 16)
+no-keys n o =
+    rw (
+      zero-at n (o + word.keysRead),
+      zero-at n (o + word.keysWrote),
+      no-words n (o + word.keysReads) sizes.reads,
+      no-words n (o + word.keysWrites) sizes.writes,
+      no-values n (o + word.keysValues) sizes.writes,
+    )
 
 no-part : (n o : ℕ) → subFrom pastSeat (zeros n) o ≡ noSub
 unfolding subFrom noSub

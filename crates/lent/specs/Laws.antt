@@ -22,6 +22,7 @@ use Rattle.rules.specs.Valid.{siteOk}
 use Rattle.lent.specs.Rows.{rows, rows-at, rows-length, rows-same, rows-read, rows-append, flat-rows, flat-set}
 use Rattle.lent.specs.Layout.{wordsFrom, keysFrom, subFrom, entryFrom, liveOf, historyOf, keysWords, placeWords, slotWords}
 use Rattle.lent.specs.Layout.{liveWords, historyWords}
+use Rattle.lent.specs.Values.{values-words}
 use Rattle.lent.specs.Lent.{lentOk, lentHouse, siteOf}
 
 -- the part at a place, the install in a slot
@@ -75,12 +76,15 @@ words-split w o m n =
 pub keys-words : (w : List ℕ) (o : ℕ) → keysWords (keysFrom w o) ≡ wordsFrom w o sizes.keyset
 unfolding keysWords keysFrom wordsFrom rows
 keys-words w o =
-    let e : o + 2 + 16 ≡ o + word.keysWrites = omega arith in
-    let f : o + 18 + 16 ≡ o + word.keysValues = omega arith in
-    let counts = words-split w o 2 48 in
-    let reads = words-split w (o + 2) 16 32 in
-    let writes = words-split w (o + 18) 16 16 in
-    sym (counts ∙ ap (λ t. wordsFrom w o 2 ++ t) (reads ∙ ap (λ t. wordsFrom w (o + 2) 16 ++ t) (rw e (writes ∙ rw f))))
+    let e : o + word.keysReads + sizes.reads ≡ o + word.keysWrites = omega arith in
+    let f : o + word.keysWrites + sizes.writes ≡ o + word.keysValues = omega arith in
+    let words = sizes.value * sizes.writes in
+    let counts = words-split w o word.keysReads (sizes.reads + (sizes.writes + words)) in
+    let reads = words-split w (o + word.keysReads) sizes.reads (sizes.writes + words) in
+    let writes = words-split w (o + word.keysWrites) sizes.writes words in
+    let values = ap (λ t. wordsFrom w (o + word.keysWrites) sizes.writes ++ t) (sym (values-words w (o + word.keysValues) sizes.writes)) in
+    sym (counts ∙ ap (λ t. wordsFrom w o word.keysReads ++ t)
+    (reads ∙ ap (λ t. wordsFrom w (o + word.keysReads) sizes.reads ++ t) (rw e (writes ∙ rw f values))))
 
 pub place-words : (a : Seat) (w : List ℕ) (o : ℕ) → placeWords (subFrom a w o) ≡ wordsFrom w o sizes.place
 unfolding placeWords subFrom wordsFrom rows

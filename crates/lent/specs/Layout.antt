@@ -10,11 +10,17 @@ use Rattle.kinds.specs.declared.Sub.{Sub}
 use Rattle.kinds.specs.declared.Entry.{Entry}
 use Rattle.kinds.specs.declared.Seat.{Seat}
 use Rattle.kinds.specs.State.{pastSeat}
+use Rattle.kinds.specs.declared.Value.{Value}
+use Rattle.rules.specs.Value.{valueWords, valueAt}
 use Rattle.lent.specs.Rows.{rows, flat}
 
 -- n words from word o on
 unfoldable pub wordsFrom : List ℕ → ℕ → ℕ → List ℕ
 wordsFrom w o n = rows (λ j. getD w (o + j) 0) n
+
+-- n values from word o on
+unfoldable pub valuesFrom : List ℕ → ℕ → ℕ → List Value
+valuesFrom w o n = rows (λ i. valueAt w (o + sizes.value * i)) n
 
 -- the keys from word o on
 unfoldable pub keysFrom : List ℕ → ℕ → Keys
@@ -24,7 +30,7 @@ keysFrom w o =
       wrote = getD w (o + word.keysWrote) 0;
       reads = wordsFrom w (o + word.keysReads) sizes.reads;
       writes = wordsFrom w (o + word.keysWrites) sizes.writes;
-      values = wordsFrom w (o + word.keysValues) sizes.writes;
+      values = valuesFrom w (o + word.keysValues) sizes.writes;
     }
 
 -- the part of a seat, with its other words from word o on
@@ -65,7 +71,7 @@ historyOf h = rows (λ i. entryFrom h (sizes.slot * i)) sizes.history
 
 -- The words of keys, a part and an install, and those of the tables.
 unfoldable pub keysWords : Keys → List ℕ
-keysWords b = b .read ∷ b .wrote ∷ (b .reads ++ (b .writes ++ b .values))
+keysWords b = b .read ∷ b .wrote ∷ (b .reads ++ (b .writes ++ flat valueWords (b .values)))
 
 unfoldable pub seatOf : Sub → Seat
 seatOf b = record { tx = b .tx; stage = b .course .stage }

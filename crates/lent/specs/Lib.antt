@@ -1,5 +1,6 @@
 pub mod Rows
 pub mod Layout
+pub mod Values
 pub mod Lent
 pub mod Shape
 pub mod Put

@@ -18,6 +18,7 @@ use Rattle.kinds.specs.declared.Entry.{Entry}
 use Rattle.kinds.specs.State.{pastSeat}
 use Rattle.lent.specs.Rows.{rows, rows-same, rows-set}
 use Rattle.lent.specs.Layout.{wordsFrom, keysFrom, subFrom, entryFrom, liveOf, historyOf, seatOf}
+use Rattle.lent.specs.Values.{values-same}
 
 pub put-left : (a : ℕ) (d v : List ℕ) (j : ℕ) → a ≤ length d → j < a → getD (putAt a d v) j 0 ≡ getD d j 0
 unfolding putAt
@@ -46,13 +47,17 @@ keys-same w v o p =
     rw (
       p word.keysRead (omega arith),
       p word.keysWrote (omega arith),
-      part word.keysReads (omega arith),
-      part word.keysWrites (omega arith),
-      part word.keysValues (omega arith),
+      keys word.keysReads (omega arith),
+      keys word.keysWrites (omega arith),
+      values-same w v (o + word.keysValues) (o + word.keysValues) sizes.writes (λ j l. word-at word.keysValues j (omega arith)),
     )
   where
-    part : (s : ℕ) → s + 16 ≤ sizes.keyset → rows (λ j. getD w (o + s + j) 0) 16 ≡ rows (λ j. getD v (o + s + j) 0) 16
-    part s h = rows-same _ _ 16 (λ j l. let e : o + (s + j) ≡ o + s + j = omega arith in rw (← e) (p (s + j) (omega arith)))
+    word-at : (s j : ℕ) → s + j < sizes.keyset → getD w (o + s + j) 0 ≡ getD v (o + s + j) 0
+    word-at s j l = let e : o + (s + j) ≡ o + s + j = omega arith in rw (← e) (p (s + j) l)
+
+    keys : (s : ℕ) → s + sizes.reads ≤ sizes.keyset
+        → rows (λ j. getD w (o + s + j) 0) sizes.reads ≡ rows (λ j. getD v (o + s + j) 0) sizes.reads
+    keys s h = rows-same _ _ sizes.reads (λ j l. word-at s j (omega arith))
 
 pub sub-same : (a : Seat) (w v : List ℕ) (o : ℕ) → ((j : ℕ) → j < sizes.place → getD w (o + j) 0 ≡ getD v (o + j) 0)
     → subFrom a w o ≡ subFrom a v o

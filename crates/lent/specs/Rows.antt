@@ -1,10 +1,10 @@
 -- Tables by index, and tables of rows laid behind one another in words.
 use Prim.Native.Nat.{ℕ, zero, suc, _+_, _*_, _<_}
 use mathlib.Core.Path.{_≡_, refl, sym, ap, _∙_}
-use mathlib.Core.List.{List, [], _∷_, _++_, append-assoc}
+use mathlib.Core.List.{List, [], _∷_, _++_, append-assoc, append-nil}
 use native.Mathlib.Omega.{arith}
-use lib.ListN.{getD, set, length, take}
-use lib.Seq.{drop-at, take-append-add, drop-append-add}
+use lib.ListN.{getD, set, length, take, length-append, List·getD-append}
+use lib.Seq.{drop-at, take-append-add, drop-append-add, getD-append-add}
 use Rattle.laws.specs.Overlay.{putAt}
 
 -- f 0, f 1 and so on, n of them
@@ -80,6 +80,31 @@ each-set f (x ∷ l) (suc i) b = ap (λ t. f x ∷ t) (each-set f l i b)
 unfoldable pub flat : {A : Type 0} → (A → List ℕ) → List A → List ℕ
 flat f [] = []
 flat f (x ∷ l) = f x ++ flat f l
+
+-- Rows of s words: how many words they are, and word j of row i.
+module _ {A : Type 0} (f : A → List ℕ) (s : ℕ) (p : (x : A) → length (f x) ≡ s) where
+  pub flat-length : (l : List A) → length (flat f l) ≡ s * length l
+  unfolding flat
+  flat-length [] = omega arith
+  flat-length (x ∷ l) = omega (arith, length-append (f x) (flat f l), p x, flat-length l)
+
+  pub flat-at : (l : List A) (i j : ℕ) (d : A) → i < length l → j < s → getD (flat f l) (s * i + j) 0 ≡ getD (f (getD l i d)) j 0
+  unfolding flat
+  flat-at [] i j d h q = absurd (omega arith)
+  flat-at (x ∷ l) zero j d h q =
+      let z : s * 0 + j ≡ j = omega arith in
+      rw z (List·getD-append (f x) (flat f l) 0 j (omega (arith, p x)))
+  flat-at (x ∷ l) (suc i) j d h q =
+      let z : s * suc i + j ≡ length (f x) + (s * i + j) = omega (arith, p x) in
+      rw z (getD-append-add (f x) (flat f l) (s * i + j) 0 ∙ flat-at l i j d (omega arith) q)
+
+-- the words of one element more
+pub flat-more : {A : Type 0} (f : A → List ℕ) (l : List A) (i : ℕ) (d : A) → i < length l
+    → flat f (take (suc i) l) ≡ flat f (take i l) ++ f (getD l i d)
+unfolding flat
+flat-more f [] i d h = absurd (omega arith)
+flat-more f (x ∷ l) zero d h = append-nil (f x)
+flat-more f (x ∷ l) (suc i) d h = ap (λ t. f x ++ t) (flat-more f l i d (omega arith)) ∙ sym (append-assoc (f x) (flat f (take i l)) _)
 
 -- rows of s words, read from words at their places, are these words
 pub flat-rows : {A : Type 0} (f : A → List ℕ) (g : ℕ → A) (w : ℕ → ℕ) (s n : ℕ)

@@ -10,8 +10,10 @@ use Rattle.kinds.specs.Word as word
 use Rattle.kinds.specs.declared.Keys.{Keys}
 use Rattle.kinds.specs.declared.Sub.{Sub}
 use Rattle.kinds.specs.declared.Entry.{Entry}
-use Rattle.lent.specs.Rows.{rows-same, rows-read}
-use Rattle.lent.specs.Layout.{wordsFrom, keysFrom, subFrom, entryFrom, keysWords, seatOf, placeWords, slotWords}
+use Rattle.rules.specs.Value.{valueWords}
+use Rattle.lent.specs.Rows.{rows-same, rows-read, flat}
+use Rattle.lent.specs.Layout.{wordsFrom, valuesFrom, keysFrom, subFrom, entryFrom, keysWords, seatOf, placeWords, slotWords}
+use Rattle.lent.specs.Values.{values-long, values-back}
 
 -- the arrays of keys have their lengths
 pub record Sized (b : Keys) : Type 0 where
@@ -41,7 +43,9 @@ getD-middle a b c k j e h = let q : k + j ≡ length a + j = omega arith in rw q
 
 pub keys-long : (b : Keys) → Sized b → length (keysWords b) ≡ sizes.keyset
 unfolding keysWords
-keys-long b s = omega (arith, length-append (b .reads) (b .writes ++ b .values), length-append (b .writes) (b .values))
+keys-long b s =
+    let values = flat valueWords (b .values) in
+    omega (arith, length-append (b .reads) (b .writes ++ values), length-append (b .writes) values, values-long (b .values))
 
 -- where the words of keys stand, these keys are read
 pub keys-back : (b : Keys) → Sized b → (w : List ℕ) (o : ℕ)
@@ -49,26 +53,30 @@ pub keys-back : (b : Keys) → Sized b → (w : List ℕ) (o : ℕ)
 unfolding keysWords keysFrom
 keys-back b s w o p = rw (p 0 (omega arith), p 1 (omega arith), reads, writes, values)
   where
+    laid : List ℕ
+    laid = flat valueWords (b .values)
+
     reads : wordsFrom w (o + word.keysReads) sizes.reads ≡ b .reads
     reads =
         words-back w (b .reads) o word.keysReads sizes.reads (s .reads)
         (λ j h. p (word.keysReads + j) (omega arith)
-        ∙ getD-middle (b .read ∷ b .wrote ∷ []) (b .reads) (b .writes ++ b .values) word.keysReads j (omega arith) (omega arith))
+        ∙ getD-middle (b .read ∷ b .wrote ∷ []) (b .reads) (b .writes ++ laid) word.keysReads j (omega arith) (omega arith))
 
     writes : wordsFrom w (o + word.keysWrites) sizes.writes ≡ b .writes
     writes =
         words-back w (b .writes) o word.keysWrites sizes.writes (s .writes)
         (λ j h. p (word.keysWrites + j) (omega arith)
-        ∙ getD-middle (b .read ∷ b .wrote ∷ b .reads) (b .writes) (b .values) word.keysWrites j (omega arith) (omega arith))
+        ∙ getD-middle (b .read ∷ b .wrote ∷ b .reads) (b .writes) laid word.keysWrites j (omega arith) (omega arith))
 
-    values : wordsFrom w (o + word.keysValues) sizes.writes ≡ b .values
+    values : valuesFrom w (o + word.keysValues) sizes.writes ≡ b .values
     values =
-        words-back w (b .values) o word.keysValues sizes.writes (s .values)
+        values-back w (b .values) (o + word.keysValues) sizes.writes (s .values)
         (λ j h. let e = length-append (b .reads) (b .writes) in
         let before = b .read ∷ b .wrote ∷ (b .reads ++ b .writes) in
         let q : word.keysValues + j ≡ length before + j = omega arith in
-        p (word.keysValues + j) (omega arith)
-        ∙ rw (q, ← append-assoc (b .reads) (b .writes) (b .values)) (getD-append-add before (b .values) j 0))
+        let r : o + word.keysValues + j ≡ o + (word.keysValues + j) = omega arith in
+        rw r (p (word.keysValues + j) (omega arith)
+        ∙ rw (q, ← append-assoc (b .reads) (b .writes) laid) (getD-append-add before laid j 0)))
 
 -- keys that stand behind the first k words
 behind-back : (b : Keys) (a : List ℕ) (k : ℕ) → Sized b → length a ≡ k → (w : List ℕ) (o : ℕ)

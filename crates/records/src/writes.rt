@@ -18,7 +18,7 @@ ghost use Rattle.rules.specs.ValidLaws.{ValidHouse};
 
 // Whether the write's key is above that of the one before.
 fn key_ascends(ws: &[u64], i: usize) -> bool
-    requires { ⌜ (i < sizes.mergedWrites) × (sizes.write * i + 1 < length (now ws)) ⌝ }
+    requires { ⌜ (i < sizes.mergedWrites) × (sizes.write * i + sizes.write ≤ length (now ws)) ⌝ }
     ensures { λ r. ⌜ r ≡ keyAscends (now (ws .entry)) i ⌝ }
 {
     if i == 0 {
@@ -29,7 +29,7 @@ fn key_ascends(ws: &[u64], i: usize) -> bool
 
 // Whether it is, and the key is from `first` on and below `end`.
 fn part_write_ok(first: u64, end: u64, ws: &[u64], i: usize) -> bool
-    requires { ⌜ (i < sizes.mergedWrites) × (sizes.write * i + 1 < length (now ws)) ⌝ }
+    requires { ⌜ (i < sizes.mergedWrites) × (sizes.write * i + sizes.write ≤ length (now ws)) ⌝ }
     ensures { λ r. ⌜ r ≡ every (keyAscends (now (ws .entry)) i ∷ within first end (writeKey (now (ws .entry)) i) ∷ []) ⌝ }
 {
     if !key_ascends(ws, i) {
@@ -43,7 +43,7 @@ fn part_write_ok(first: u64, end: u64, ws: &[u64], i: usize) -> bool
 }
 
 fn merged_write_ok(ws: &[u64], i: usize) -> bool
-    requires { ⌜ (i < sizes.mergedWrites) × (sizes.write * i + 1 < length (now ws)) ⌝ }
+    requires { ⌜ (i < sizes.mergedWrites) × (sizes.write * i + sizes.write ≤ length (now ws)) ⌝ }
     ensures { λ r. ⌜ r ≡ mergedWriteOk (now (ws .entry)) i ⌝ }
 {
     if !key_ascends(ws, i) {

@@ -17,7 +17,7 @@ use kinds::reason::NEWER;
 use kinds::reason::STAGE;
 use kinds::reason::TOO_MANY;
 use kinds::reason::UNKNOWN;
-use kinds::sizes::KEYS;
+use kinds::sizes::BASE;
 use kinds::sizes::LIVE;
 use kinds::sizes::READS;
 use kinds::stage::ACTIVE;
@@ -43,7 +43,7 @@ fn key_code(ok: bool, room: usize, o: House, own: u64, key: u64) -> u64
 {
     let known = numbers::is_key(key);
     let site = numbers::home_of(o, key);
-    if room != KEYS {
+    if room != BASE {
         return MALFORMED;
     }
     if !ok {
@@ -140,7 +140,8 @@ fn read_at(
     place: usize,
     key: u64,
 ) -> Reply
-    requires { ⌜ Accessed p (now live) (now history) place × (key < length (now base)) ⌝ }
+    requires { ⌜ Accessed p (now live) (now history) place ⌝ }
+    requires { ⌜ (length (now base) ≡ sizes.base) × (key < sizes.keys) ⌝ }
     ensures { λ r. ⌜ Replied p (now (live .entry)) (now (history .entry)) r (now (live .exit)) (now (history .exit))
         (readAt (siteOf p (now (live .entry)) (now (history .entry))) (now (base .entry)) place key) ⌝ }
 {
@@ -271,7 +272,7 @@ pub fn write(p: Core, live: &mut [u64], history: &[u64], tx: u64, key: u64, valu
     let seats = p.seats;
     let place = live::place_of(seats, tx);
     let stage = stage_at(seats, place);
-    let code = access_code(ok, KEYS, house, p.counters.own, key, place, stage);
+    let code = access_code(ok, BASE, house, p.counters.own, key, place, stage);
     if code != 0 {
         return shell::refused(p, code);
     }

@@ -8,7 +8,7 @@ use kinds::Reply;
 use kinds::Seat;
 use kinds::reason::BAD_TABLE;
 use kinds::reason::MALFORMED;
-use kinds::sizes::KEYS;
+use kinds::sizes::BASE;
 use kinds::sizes::LISTS;
 use kinds::sizes::LIVE;
 use kinds::sizes::SITES;
@@ -32,7 +32,7 @@ fn start_code(sites: u64, firsts: &[u64], own: u64, base: usize, lists: usize) -
     if !numbers::is_site(house, own) {
         return MALFORMED;
     }
-    if base != KEYS {
+    if base != BASE {
         return MALFORMED;
     }
     if lists != LISTS {

@@ -1,13 +1,19 @@
 -- Words laid behind one another are one laying of them all.
-use Prim.Native.Nat.{ℕ, suc, _+_, _≤_, _<_}
-use mathlib.Core.Path.{_≡_, refl, ap, _∙_}
+use Prim.Native.Nat.{ℕ, suc, _+_, _*_, _≤_, _<_}
+use mathlib.Core.Path.{_≡_, refl, sym, ap, _∙_}
 use mathlib.Core.List.{List, [], _∷_, _++_, append-assoc, append-nil}
 use native.Mathlib.Numerals.{add-one}
 use native.Mathlib.Omega.{arith}
-use lib.ListN.{set, length, take, drop, length-append, take-append-drop}
+use lib.ListN.{getD, set, length, take, drop, length-append, take-append-drop}
 use lib.Seq.{append-snoc, set-split, length-take-le, take-at, drop-append-add, drop-drop}
-use Rattle.laws.specs.Overlay.{putAt}
+use Rattle.laws.specs.Overlay.{overlay, putAt}
+use Rattle.kinds.specs.Sizes as sizes
+use Rattle.kinds.specs.State.{fresh}
+use Rattle.kinds.specs.declared.Value.{Value}
+use Rattle.rules.specs.Value.{valueWords, putValue}
+use Rattle.rules.specs.ValueLaws.{words-size, overlay-value}
 use Rattle.rules.specs.MergerWords.{length-put}
+use Rattle.lent.specs.Rows.{flat, flat-more}
 
 put-then : (d u v : List ℕ) (a b : ℕ) → a + length u ≡ b → b ≤ length d → putAt b (putAt a d u) v ≡ putAt a d (u ++ v)
 unfolding putAt
@@ -28,7 +34,7 @@ pub record Laid (d : List ℕ) (o n : ℕ) (u e : List ℕ) : Type 0 where
   pub long : length u ≡ n
   pub whole : e ≡ putAt o d u
 
-laid-none : (d : List ℕ) (o : ℕ) → Laid d o 0 [] d
+pub laid-none : (d : List ℕ) (o : ℕ) → Laid d o 0 [] d
 unfolding putAt
 laid-none d o =
     let z : o + 0 ≡ o = omega arith in
@@ -52,6 +58,32 @@ laid-word : (d : List ℕ) (o n x : ℕ) (u e : List ℕ) → o + (n + 1) ≤ le
 laid-word d o n x u e h l =
     laid-more d o n 1 u (x ∷ []) e (set e (o + n) x) (omega arith) l refl
     (put-word e (o + n) x (omega (arith, laid-length d o n u e (omega arith) l)))
+
+-- one value more
+put-as-words : (d : List ℕ) (a : ℕ) (v : Value) → a + sizes.value ≤ length d → putValue d a v ≡ putAt a d (valueWords v)
+unfolding putAt overlay
+put-as-words d a v h =
+    let front = take a d in
+    let long : length front ≡ a = length-take-le a d (omega arith) in
+    let same : overlay d front ≡ d = rw long (take-append-drop a d) in
+    let both : length (front ++ valueWords v) ≡ a + length (valueWords v) = omega (arith, length-append front (valueWords v)) in
+    rw same at (overlay-value d front a v long h) ∙ rw (both, append-assoc)
+
+laid-value : (d : List ℕ) (o n : ℕ) (v : Value) (u e : List ℕ) → o + (n + sizes.value) ≤ length d → Laid d o n u e
+    → Laid d o (n + sizes.value) (u ++ valueWords v) (putValue e (o + n) v)
+laid-value d o n v u e h l =
+    laid-more d o n sizes.value u (valueWords v) e (putValue e (o + n) v) (omega arith) l (words-size v)
+    (put-as-words e (o + n) v (omega (arith, laid-length d o n u e (omega arith) l)))
+
+-- one more of a list of values
+pub laid-values : (d : List ℕ) (o i : ℕ) (vs : List Value) (e : List ℕ) → o + sizes.value * (i + 1) ≤ length d → i < length vs
+    → Laid d o (sizes.value * i) (flat valueWords (take i vs)) e
+    → Laid d o (sizes.value * (i + 1)) (flat valueWords (take (i + 1) vs)) (putValue e (o + sizes.value * i) (getD vs i fresh))
+laid-values d o i vs e h q l =
+    let more = laid-value d o (sizes.value * i) (getD vs i fresh) (flat valueWords (take i vs)) e (omega arith) l in
+    let same : flat valueWords (take (i + 1) vs) ≡ flat valueWords (take i vs) ++ valueWords (getD vs i fresh) =
+    rw add-one (flat-more valueWords vs i fresh q) in
+    record { long = omega (arith, more .long, ap length same); whole = more .whole ∙ ap (λ (u : List ℕ). putAt o d u) (sym same) }
 
 -- words stored one by one: on a list that is written out this computes to the stores
 abbrev pub stores : List ℕ → ℕ → ℕ → List ℕ → List ℕ

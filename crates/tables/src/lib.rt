@@ -1,11 +1,13 @@
 // A site's tables in lent words: parts and remembered installs read and written (S7 to S9).
 use kinds::Course;
 use kinds::Entry;
+use kinds::FRESH;
 use kinds::House;
 use kinds::Keys;
 use kinds::Seat;
 use kinds::Snapshot;
 use kinds::Sub;
+use kinds::Value;
 use kinds::sizes::HISTORY_WORDS;
 use kinds::sizes::LIVE;
 use kinds::sizes::LIVE_WORDS;
@@ -13,6 +15,8 @@ use kinds::sizes::PLACE;
 use kinds::sizes::READS;
 use kinds::sizes::SITES;
 use kinds::sizes::SLOT;
+use kinds::sizes::VALUE;
+use kinds::sizes::WRITES;
 use kinds::word::KEYS_READ;
 use kinds::word::KEYS_READS;
 use kinds::word::KEYS_VALUES;
@@ -31,19 +35,23 @@ use kinds::word::SLOT_MASK;
 use kinds::word::SLOT_NUMBER;
 use kinds::word::SLOT_TX;
 use slices::copy_words;
+use values::put_value;
+use values::value_at;
 ghost use mathlib.Core.Path.{_≡_};
 ghost use Prim.Native.Nat.{_+_, _*_, _≤_, _<_};
 ghost use lib.ListN.{length, getD};
 ghost use Rattle.laws.specs.Overlay.{putAt};
 ghost use Rattle.kinds.specs.Sizes as sizes;
 ghost use Rattle.kinds.specs.State.{pastEntry};
+ghost use Rattle.rules.specs.Value.{valueWords};
 ghost use Rattle.rules.specs.House.{noHouse};
 ghost use Rattle.rules.specs.Live.{partAt};
-ghost use Rattle.lent.specs.Layout.{wordsFrom, keysFrom, liveOf, historyOf, seatOf, keysWords, placeWords, slotWords};
+ghost use Rattle.lent.specs.Rows.{flat};
+ghost use Rattle.lent.specs.Layout.{wordsFrom, valuesFrom, keysFrom, liveOf, historyOf, seatOf, keysWords, placeWords, slotWords};
 ghost use Rattle.lent.specs.Lent.{lentOk, lentHouse, lentSites};
 ghost use Rattle.lent.specs.Shape.{Sized, Shaped, ShapedEntry};
 
-// The words of one list of keys or values: a part reads as many keys as it writes at most.
+// The words of one list of keys: a part reads as many keys as it writes at most.
 fn sixteen(w: &[u64], at: usize) -> [u64; READS]
     requires { ⌜ at + sizes.reads ≤ length (now w) ⌝ }
     ensures { λ r. ⌜ r ≡ wordsFrom (now (w .entry)) at sizes.reads ⌝ }
@@ -57,7 +65,22 @@ fn sixteen(w: &[u64], at: usize) -> [u64; READS]
     r
 }
 
-// The keys from word o on.
+// The values of the keys written.
+fn sixteen_values(w: &[u64], at: usize) -> [Value; WRITES]
+    requires { ⌜ at + sizes.value * sizes.writes ≤ length (now w) ⌝ }
+    ensures { λ r. ⌜ r ≡ valuesFrom (now (w .entry)) at sizes.writes ⌝ }
+{
+    let mut r = [FRESH; WRITES];
+    let mut i: usize = 0;
+    while i < WRITES {
+        let v = value_at(w, at + VALUE * i);
+        r[i] = v;
+        i += 1;
+    }
+    r
+}
+
+// A part's keys from word o on.
 pub fn keys_at(w: &[u64], o: usize) -> Keys
     requires { ⌜ o + sizes.keyset ≤ length (now w) ⌝ }
     ensures { λ r. ⌜ r ≡ keysFrom (now (w .entry)) o ⌝ }
@@ -66,7 +89,7 @@ pub fn keys_at(w: &[u64], o: usize) -> Keys
     let wrote = w[o + KEYS_WROTE] as usize;
     let reads = sixteen(w, o + KEYS_READS);
     let writes = sixteen(w, o + KEYS_WRITES);
-    let values = sixteen(w, o + KEYS_VALUES);
+    let values = sixteen_values(w, o + KEYS_VALUES);
     Keys {
         read,
         wrote,
@@ -120,7 +143,7 @@ pub fn entry_at(h: &[u64], slot: usize) -> Entry
     }
 }
 
-// Lays a list of keys or values from word `at` on.
+// Lays a list of keys from word `at` on,
 fn lay(out: &mut [u64], at: usize, a: [u64; READS])
     requires { ⌜ at + sizes.reads ≤ length (now out) ⌝ }
     ensures { λ _. ⌜ (length a ≡ sizes.reads) × (now (out .exit) ≡ putAt at (now (out .entry)) a) ⌝ }
@@ -128,7 +151,20 @@ fn lay(out: &mut [u64], at: usize, a: [u64; READS])
     copy_words(&mut out[at..], &a);
 }
 
-// Lays keys from word o on.
+// and the values of the keys written.
+fn lay_values(out: &mut [u64], at: usize, a: [Value; WRITES])
+    requires { ⌜ at + sizes.value * sizes.writes ≤ length (now out) ⌝ }
+    ensures { λ _. ⌜ (length a ≡ sizes.writes) × (now (out .exit) ≡ putAt at (now (out .entry)) (flat valueWords a)) ⌝ }
+{
+    let mut i: usize = 0;
+    while i < WRITES {
+        let v = a[i];
+        put_value(out, at + VALUE * i, v);
+        i += 1;
+    }
+}
+
+// Lays a part's keys from word o on.
 fn lay_keys(out: &mut [u64], o: usize, b: Keys)
     requires { ⌜ o + sizes.keyset ≤ length (now out) ⌝ }
     ensures { λ _. ⌜ Sized b × (now (out .exit) ≡ putAt o (now (out .entry)) (keysWords b)) ⌝ }
@@ -140,7 +176,7 @@ fn lay_keys(out: &mut [u64], o: usize, b: Keys)
     out[o + KEYS_WROTE] = b.wrote as u64;
     lay(out, o + KEYS_READS, reads);
     lay(out, o + KEYS_WRITES, writes);
-    lay(out, o + KEYS_VALUES, values);
+    lay_values(out, o + KEYS_VALUES, values);
 }
 
 // Writes a part, but for its seat, to its place.

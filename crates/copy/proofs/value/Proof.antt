@@ -22,14 +22,20 @@ returns : tie.Need-returns
 unfolding valueOf
 returns c = rw (← c .before .value-code .ensures, ne-eqb _ 0 (c .if1 .taken)) refl
 
+mul-at : tie.Need-mul-at
+mul-at c = let r = ready c in omega arith
+
+add-at : tie.Need-add-at
+add-at c = let r = ready c in omega arith
+
 value-at-requires : tie.Need-value-at-requires
-value-at-requires c κs = (ready c .size, ready c .low)
+value-at-requires c κs = let r = ready c in omega arith
 
-shared-slice-read-t7 : tie.Need-shared-slice-read-t7
-shared-slice-read-t7 c = omega (arith, ready (c .before .before) .size)
+shared-slice-read-t10 : tie.Need-shared-slice-read-t10
+shared-slice-read-t10 c = omega (arith, ready (c .before .before) .size)
 
-shared-slice-read-t9 : tie.Need-shared-slice-read-t9
-shared-slice-read-t9 c = omega (arith, ready (c .before .before .before) .size)
+shared-slice-read-t12 : tie.Need-shared-slice-read-t12
+shared-slice-read-t12 c = omega (arith, ready (c .before .before .before) .size)
 
 returns-2 : tie.Need-returns-2
 unfolding valueOf
@@ -45,7 +51,9 @@ value-spec =
     (tie.spec
     value-code-requires
     returns
+    mul-at
+    add-at
     value-at-requires
-    shared-slice-read-t7
-    shared-slice-read-t9
+    shared-slice-read-t10
+    shared-slice-read-t12
     returns-2)

@@ -4,11 +4,10 @@ use mathlib.Core.Path.{_≡_, refl, sym, _∙_}
 use mathlib.Core.List.{List}
 use native.Mathlib.Omega.{arith}
 use borrow.Author.Needs.{needs}
-use lib.ListN.{getD}
 use Rattle.kinds.specs.Sizes as sizes
 use Rattle.kinds.specs.Word as word
-use Rattle.kinds.specs.State.{fresh}
 use Rattle.kinds.specs.declared.Search.{Search}
+use Rattle.rules.specs.Value.{baseValue}
 use Rattle.rules.specs.History.{recall, walk, searchIn}
 use Rattle.rules.specs.HistoryLaws.{within-few}
 use Rattle.rules.specs.SearchLaws.{walk-end, walk-hit, walk-on}
@@ -19,7 +18,7 @@ use Rattle.history.proofs.search.Tie as tie
 
 -- what the walk answers where so many are left
 abbrev rest : List ℕ → ℕ → List ℕ → ℕ → ℕ → ℕ → Search
-rest h installs base k = walk (recall (historyOf h) installs) k (getD base k fresh)
+rest h installs base k = walk (recall (historyOf h) installs) k (baseValue base k)
 
 abbrev Inv-loop : tie.InvT-loop
 Inv-loop h installs base k visible left₀ looked₀ left looked =
@@ -108,7 +107,7 @@ returns c =
     let a = start (entered (slot .before)) .args in
     let wrote = rw (seen slot) at (sym (found .wrote-key-in .ensures) ∙ c .before .if1 .taken) in
     let entry = recall (historyOf (a .h .now)) (a .installs) in
-    let hit = walk-hit entry (a .k) (getD (a .base .now) (a .k) fresh) (l .left - 1) (l .looked) wrote in
+    let hit = walk-hit entry (a .k) (baseValue (a .base .now) (a .k)) (l .left - 1) (l .looked) wrote in
     rw (rw (seen slot) at (c .wrote-value-in .ensures)) (sym (here (slot .before) ∙ hit))
 
 sub-left : tie.Need-sub-left Inv-loop μ-loop
@@ -130,14 +129,14 @@ loop-again c =
     let q : l .left ≡ suc (l .left - 1) = omega (arith, slot .before .loop-test .taken) in
     let lacks = rw (seen slot) at (sym (c .before .wrote-key-in .ensures) ∙ c .if1 .left) in
     let entry = recall (historyOf (a .h .now)) (a .installs) in
-    let on = walk-on entry (a .k) (getD (a .base .now) (a .k) fresh) (l .left - 1) (l .looked) lacks in
+    let on = walk-on entry (a .k) (baseValue (a .base .now) (a .k)) (l .left - 1) (l .looked) lacks in
     (omega (arith, l .inv .0), rw q at (l .inv .1) ∙ on)
 
-mul-value : tie.Need-mul-value Inv-loop μ-loop
-mul-value c = search needs
+mul-at-2 : tie.Need-mul-at-2 Inv-loop μ-loop
+mul-at-2 c = search needs
 
-shared-slice-read-value : tie.Need-shared-slice-read-value Inv-loop μ-loop
-shared-slice-read-value c = search needs
+value-at-requires : tie.Need-value-at-requires Inv-loop μ-loop
+value-at-requires c κs = search needs
 
 returns-2 : tie.Need-returns-2 Inv-loop μ-loop
 unfolding searchIn
@@ -147,8 +146,8 @@ returns-2 c =
     let a = start begun .args in
     let q : l .left ≡ 0 = omega (arith, c .before .loop-test .left) in
     let entry = recall (historyOf (a .h .now)) (a .installs) in
-    let end = walk-end entry (a .k) (getD (a .base .now) (a .k) fresh) (l .looked) in
-    rw (← begun .within .ensures) (sym (rw q at (l .inv .1) ∙ end))
+    let end = walk-end entry (a .k) (baseValue (a .base .now) (a .k)) (l .looked) in
+    rw (← begun .within .ensures, c .value-at .ensures) (sym (rw q at (l .inv .1) ∙ end))
 
 pub search-spec : {M : Type 1} → statement M
 search-spec =
@@ -170,6 +169,6 @@ search-spec =
     add-looked
     loop-less
     loop-again
-    mul-value
-    shared-slice-read-value
+    mul-at-2
+    value-at-requires
     returns-2)

@@ -34,15 +34,15 @@ add-sixteen-2 c = search needs
 sixteen-requires-2 : tie.Need-sixteen-requires-2
 sixteen-requires-2 c κs = search needs
 
-add-sixteen-3 : tie.Need-add-sixteen-3
-add-sixteen-3 c = search needs
+add-sixteen-values : tie.Need-add-sixteen-values
+add-sixteen-values c = search needs
 
-sixteen-requires-3 : tie.Need-sixteen-requires-3
-sixteen-requires-3 c κs = search needs
+sixteen-values-requires : tie.Need-sixteen-values-requires
+sixteen-values-requires c κs = search needs
 
 returns : tie.Need-returns
 unfolding keysFrom
-returns c = rw (c .before .before .sixteen .ensures, c .before .sixteen2 .ensures, c .sixteen3 .ensures)
+returns c = rw (c .before .before .sixteen .ensures, c .before .sixteen2 .ensures, c .sixteen-values .ensures)
 
 pub keys-at-spec : {M : Type 1} → statement M
 keys-at-spec =
@@ -58,6 +58,6 @@ keys-at-spec =
     sixteen-requires
     add-sixteen-2
     sixteen-requires-2
-    add-sixteen-3
-    sixteen-requires-3
+    add-sixteen-values
+    sixteen-values-requires
     returns)

@@ -1,5 +1,5 @@
 -- The counts and the three lists are laid behind one another, which is one laying of the keys' words.
-use Prim.Native.Nat.{ℕ, _+_, _≤_}
+use Prim.Native.Nat.{ℕ, _+_, _*_, _≤_}
 use mathlib.Core.Path.{_≡_}
 use mathlib.Core.List.{List, [], _∷_, _++_, append-assoc}
 use native.Mathlib.Omega.{arith}
@@ -7,7 +7,10 @@ use borrow.Author.Needs.{needs}
 use lib.ListN.{length, length-set}
 use Rattle.kinds.specs.Sizes as sizes
 use Rattle.kinds.specs.Word as word
+use Rattle.rules.specs.Value.{valueWords}
+use Rattle.lent.specs.Rows.{flat}
 use Rattle.lent.specs.Layout.{keysWords}
+use Rattle.lent.specs.Values.{values-long}
 use Rattle.lent.specs.Shape.{Sized}
 use Rattle.tables.proofs.Laid.{Laid, laid-length, laid-more, stores, laid-words}
 use Rattle.tables.proofs.lay_keys.Statement.{statement}
@@ -20,10 +23,10 @@ begun c = let read = c .before .before in read .before .before
 abbrev first : tie.After-lay-arg2 → tie.After-lay
 first c = c .before .before .before
 
-abbrev second : tie.After-lay-arg3 → tie.After-lay2
+abbrev second : tie.After-lay-values-arg → tie.After-lay2
 second c = c .before .before .before
 
-abbrev third : tie.After-slice-known4 → tie.After-lay3
+abbrev third : tie.After-slice-known4 → tie.After-lay-values
 third c = c .before .before
 
 abbrev start : tie.After-lay → tie.Start
@@ -32,7 +35,7 @@ start c = begun (c .before .before)
 abbrev start2 : tie.After-lay2 → tie.Start
 start2 c = start (first (c .before))
 
-abbrev start3 : tie.After-lay3 → tie.Start
+abbrev start3 : tie.After-lay-values → tie.Start
 start3 c = start2 (second (c .before))
 
 -- the slice with the first n words of the keys laid
@@ -74,17 +77,20 @@ two c =
     (c .lay2 .ensures .0)
     (c .lay2 .ensures .1)
 
-three : (c : tie.After-lay3) → Has (start3 c) sizes.keyset (two-lists (start3 c) ++ start3 c .args .b .values) (c .lay3 .last .0)
+abbrev values : tie.Start → List ℕ
+values s = flat valueWords (s .args .b .values)
+
+three : (c : tie.After-lay-values) → Has (start3 c) sizes.keyset (two-lists (start3 c) ++ values (start3 c)) (c .lay-values .last .0)
 three c =
     let s = start3 c in
     let l = second (c .before) in
     let room = s .pre in
-    laid-more (s .args .out .now) (s .args .o) word.keysValues sizes.reads (two-lists s) (s .args .b .values)
-    (l .lay2 .last .0) (c .lay3 .last .0)
+    laid-more (s .args .out .now) (s .args .o) word.keysValues (sizes.value * sizes.writes) (two-lists s) (values s)
+    (l .lay2 .last .0) (c .lay-values .last .0)
     (omega arith)
     (two l)
-    (c .lay3 .ensures .0)
-    (c .lay3 .ensures .1)
+    (omega (arith, values-long (s .args .b .values), c .lay-values .ensures .0))
+    (c .lay-values .ensures .1)
 
 -- and is as long as before
 size : (s : tie.Start) (n : ℕ) (u e : List ℕ) → n ≤ sizes.keyset → Has s n u e → length e ≡ length (s .args .out .now)
@@ -123,11 +129,11 @@ lay-requires-2 c κs =
     let room = start l .pre in
     omega (arith, size (start l) word.keysWrites _ (l .lay .last .0) (omega arith) (one l))
 
-add-lay-3 : tie.Need-add-lay-3
-add-lay-3 c = search needs
+add-lay-values : tie.Need-add-lay-values
+add-lay-values c = search needs
 
-lay-requires-3 : tie.Need-lay-requires-3
-lay-requires-3 c κs =
+lay-values-requires : tie.Need-lay-values-requires
+lay-values-requires c κs =
     let l = second c in
     let room = start2 l .pre in
     omega (arith, size (start2 l) word.keysValues _ (l .lay2 .last .0) (omega arith) (two l))
@@ -135,7 +141,7 @@ lay-requires-3 c κs =
 same-length : tie.Need-same-length
 same-length c =
     let l = third c in
-    size (start3 l) sizes.keyset _ (l .lay3 .last .0) (omega arith) (three l)
+    size (start3 l) sizes.keyset _ (l .lay-values .last .0) (omega arith) (three l)
 
 returns : tie.Need-returns
 unfolding keysWords
@@ -144,7 +150,7 @@ returns c =
     let writes = second (values .before) in
     let reads = first (writes .before) in
     let sized : Sized (start3 values .args .b) =
-    record { reads = reads .lay .ensures .0; writes = writes .lay2 .ensures .0; values = values .lay3 .ensures .0 } in
+    record { reads = reads .lay .ensures .0; writes = writes .lay2 .ensures .0; values = values .lay-values .ensures .0 } in
     (sized, simp append-assoc at (three values .whole))
 
 pub lay-keys-spec : {M : Type 1} → statement M
@@ -161,7 +167,7 @@ lay-keys-spec =
     lay-requires
     add-lay-2
     lay-requires-2
-    add-lay-3
-    lay-requires-3
+    add-lay-values
+    lay-values-requires
     same-length
     returns)

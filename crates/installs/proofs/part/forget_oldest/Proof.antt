@@ -31,8 +31,8 @@ entry-at-requires c κs = search needs
 
 forget-into-requires : tie.Need-forget-into-requires
 forget-into-requires c κs =
-    let f = begins (c .before .before) .pre .1 in
-    rw (read (c .before)) (f .few, f .low)
+    let pre = begins (c .before .before) .pre in
+    (pre .0 .1, rw (read (c .before)) (pre .1 .few, pre .1 .low))
 
 same-length : tie.Need-same-length
 same-length c = search needs

@@ -25,10 +25,10 @@ use Rattle.installs.proofs.part.install_at.Statement.{statement}
 use Rattle.installs.proofs.part.install_at.Tie as tie
 
 -- of a possible site: the entry in the way can be forgotten, and a part wrote no more keys than there is room for
-forgettable : (s : Site) (room : ℕ) → siteOk s ≡ true → room ≡ sizes.keys → Forgettable (oldest (s .history) (s .counters .installs)) room
-forgettable s room v e =
+forgettable : (s : Site) → siteOk s ≡ true → Forgettable (oldest (s .history) (s .counters .installs))
+forgettable s v =
     let k = valid-site s v .entry (slotOf (s .counters .installs)) (slot-low (s .counters .installs)) .keys in
-    record { few = k .few-wrote; low = λ i l. omega (arith, k .wrote-low i l, e) }
+    record { few = k .few-wrote; low = k .wrote-low }
 
 few : (s : Site) (place : ℕ) (b : Sub) → siteOk s ≡ true → place < sizes.live → b ≡ subAt s place → b .keys .wrote ≤ sizes.writes
 few s place b v l e = rw e (valid-site s v .part place l .keys .few-wrote)
@@ -73,7 +73,7 @@ part-at-requires c κs = let s = start c in (long s .live, s .pre .0 .low)
 forget-oldest-requires : tie.Need-forget-oldest-requires
 forget-oldest-requires c κs =
     let s = start (taken c .before) in
-    (long s .history, forgettable (handed s) (length (s .args .base .now)) (s .pre .0 .possible) (s .pre .1 .0))
+    ((long s .history, s .pre .1 .0), forgettable (handed s) (s .pre .0 .possible))
 
 write-part-requires : tie.Need-write-part-requires
 write-part-requires c κs =

@@ -15,8 +15,8 @@ start c = c .before .before
 long : (c : tie.Else1) → ltb (c .before .args .room) sizes.part ≡ false
 long c = le-ltb (c .before .args .room) sizes.part (c .if1 .left)
 
-whole : (c : tie.Else2) → eqb (start c .args .given) sizes.keys ≡ true
-whole c = eq-eqb (start c .args .given) sizes.keys (c .if2 .left)
+whole : (c : tie.Else2) → eqb (start c .args .given) sizes.base ≡ true
+whole c = eq-eqb (start c .args .given) sizes.base (c .if2 .left)
 
 valid : (c : tie.Else3) → start (c .before) .args .ok ≡ true
 valid c = not-false (start (c .before) .args .ok) (c .if3 .left)
@@ -30,7 +30,7 @@ returns c = simp (lt-ltb (c .before .args .room) sizes.part (c .if1 .taken))
 
 returns-2 : tie.Need-returns-2
 unfolding installCode
-returns-2 c = let e = c .before in simp (long e, ne-eqb (e .before .args .given) sizes.keys (c .if2 .taken))
+returns-2 c = let e = c .before in simp (long e, ne-eqb (e .before .args .given) sizes.base (c .if2 .taken))
 
 returns-3 : tie.Need-returns-3
 unfolding installCode

@@ -10,7 +10,7 @@ use Rattle.kinds.specs.Word as word
 use Rattle.kinds.specs.declared.Keys.{Keys}
 use Rattle.rules.specs.Keys.{keyPlace, wroteKey, wroteValue}
 use Rattle.lent.specs.Layout.{keysFrom}
-use Rattle.lent.specs.Read.{words-at}
+use Rattle.lent.specs.Values.{values-at}
 use Rattle.keys.proofs.words.wrote_value_in.Statement.{statement}
 use Rattle.keys.proofs.words.wrote_value_in.Tie as tie
 
@@ -44,24 +44,25 @@ key-place-in-requires : tie.Need-key-place-in-requires
 unfolding keysFrom
 key-place-in-requires c κs = (c .before .before .pre .few, search needs)
 
-add-result : tie.Need-add-result
-add-result c = search needs
+add-value-at : tie.Need-add-value-at
+add-value-at c = search needs
 
-add-result-2 : tie.Need-add-result-2
-add-result-2 c = let h = low c in omega arith
+mul-value-at : tie.Need-mul-value-at
+mul-value-at c = let h = low c in omega arith
 
-mul-result : tie.Need-mul-result
-mul-result c = let h = low c in omega arith
+add-value-at-2 : tie.Need-add-value-at-2
+add-value-at-2 c = let h = low c in omega arith
 
-shared-slice-read-result : tie.Need-shared-slice-read-result
-shared-slice-read-result c = let h = low (c .before) in omega arith
+value-at-requires : tie.Need-value-at-requires
+value-at-requires c κs = let h = low c in omega arith
 
 returns : tie.Need-returns
 unfolding wroteValue keysFrom
 returns c =
     let found = c .before in
     let a = start (found .before) .args in
-    sym (words-at (a .w .now) (a .o + word.keysValues) sizes.writes _ (low found)) ∙ rw (found .key-place-in .ensures)
+    let value = values-at (a .w .now) (a .o + word.keysValues) sizes.writes _ (low found) in
+    c .value-at .ensures ∙ sym value ∙ rw (found .key-place-in .ensures)
 
 pub wrote-value-in-spec : {M : Type 1} → statement M
 wrote-value-in-spec =
@@ -72,8 +73,8 @@ wrote-value-in-spec =
     shared-slice-read-n
     add-key-place-in
     key-place-in-requires
-    add-result
-    add-result-2
-    mul-result
-    shared-slice-read-result
+    add-value-at
+    mul-value-at
+    add-value-at-2
+    value-at-requires
     returns)

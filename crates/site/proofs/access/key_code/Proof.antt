@@ -19,8 +19,8 @@ abbrev after-home-of : tie.Else3 → tie.After-home-of
 after-home-of c = c .before .before .before
 
 -- what each passed test tells
-passed-1 : (c : tie.Else1) → eqb (c .before .before .before .args .room) sizes.keys ≡ true
-passed-1 c = eq-eqb (c .before .before .before .args .room) sizes.keys (c .if1 .left)
+passed-1 : (c : tie.Else1) → eqb (c .before .before .before .args .room) sizes.base ≡ true
+passed-1 c = eq-eqb (c .before .before .before .args .room) sizes.base (c .if1 .left)
 
 passed-2 : (c : tie.Else2) → start (c .before) .args .ok ≡ true
 passed-2 c = not-false (start (c .before) .args .ok) (c .if2 .left)
@@ -39,7 +39,7 @@ home-of-requires c κs = search needs
 
 returns : tie.Need-returns
 unfolding keyCode
-returns c = simp (← c .before .home-of .ensures, ne-eqb (c .before .before .before .args .room) sizes.keys (c .if1 .taken))
+returns c = simp (← c .before .home-of .ensures, ne-eqb (c .before .before .before .args .room) sizes.base (c .if1 .taken))
 
 returns-2 : tie.Need-returns-2
 unfolding keyCode

@@ -93,7 +93,7 @@ read-at-requires c κs =
     let k = h .key in
     let v = valid-site (handed s) (k .valid) .house in
     let low = key-low (handed s .house) (handed s .counters .own) (s .args .key) (omega (arith, v .own-high, v .few-sites)) (k .here) in
-    (record { possible = k .valid; low = h .held }, omega (arith, k .whole, low))
+    (record { possible = k .valid; low = h .held }, (k .whole, low))
 
 same-length-2 : tie.Need-same-length-2
 same-length-2 c = search needs

@@ -61,7 +61,7 @@ search-requires c κs =
     let house = valid .house in
     let low = key-low (handed s .house) (handed s .counters .own) (a .key) (omega (arith, house .own-high, house .few-sites)) (h .here) in
     let long = lent-lengths (a .p) (a .live .now) (a .history .now) (h .valid) in
-    (record { long = long .history; few = λ i l. valid .entry i l .keys .few-wrote }, omega (arith, h .whole, low))
+    (record { long = long .history; few = λ i l. valid .entry i l .keys .few-wrote }, (h .whole, low))
 
 returns-2 : tie.Need-returns-2
 unfolding searchOf

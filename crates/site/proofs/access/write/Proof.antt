@@ -35,7 +35,7 @@ at c = placed c .place-of .ensures (begins c .args .live .now)
 
 abbrev codeAt : tie.Start → ℕ → ℕ
 codeAt s place =
-    accessCode (siteOk (handed s)) (sizes.keys) (handed s .house) (handed s .counters .own) (s .args .key) place
+    accessCode (siteOk (handed s)) sizes.base (handed s .house) (handed s .counters .own) (s .args .key) place
     (stageAt (handed s .live) place)
 
 first : (c : tie.After-access-code) → c .access-code .result ≡ codeAt (begins c) (placed c .place-of .result)
@@ -48,7 +48,7 @@ first c =
     (c .access-code .ensures)
 
 clear : (c : tie.Else1) → let s = begins (c .before) in let place = placed (c .before) .place-of .result in
-    AccessClear (siteOk (handed s)) (sizes.keys) (handed s .house) (handed s .counters .own) (s .args .key) place
+    AccessClear (siteOk (handed s)) sizes.base (handed s .house) (handed s .counters .own) (s .args .key) place
     (stageAt (handed s .live) place)
 clear c = access-clear _ _ _ _ _ _ _ (sym (first (c .before)) ∙ c .if1 .left)
 

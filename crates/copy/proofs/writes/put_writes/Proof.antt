@@ -1,7 +1,7 @@
 -- After i writes the copy is the fold over them.
-use Prim.Native.Nat.{_+_, _-_, _≤_, ℕ}
+use Prim.Native.Nat.{_+_, _*_, _-_, _≤_, ℕ}
 use borrow.Author.Needs.{needs}
-use lib.ListN.{length, set}
+use lib.ListN.{length}
 use mathlib.Core.List.{List}
 use mathlib.Core.Path.{_∙_, _≡_, ap, refl, sym}
 use native.Mathlib.Omega.{arith}
@@ -9,9 +9,10 @@ use Rattle.laws.specs.Scan.{foldBelow}
 use Rattle.rules.specs.Copy.{putWrites}
 use Rattle.rules.specs.CopyLaws.{put-more}
 use Rattle.rules.specs.Record.{writeKey, writeValue}
+use Rattle.rules.specs.Value.{putValue}
 use Rattle.kinds.specs.Sizes as sizes
-use Rattle.copy.proofs.values.put_writes.Statement.{statement}
-use Rattle.copy.proofs.values.put_writes.Tie as tie
+use Rattle.copy.proofs.writes.put_writes.Statement.{statement}
+use Rattle.copy.proofs.writes.put_writes.Tie as tie
 
 abbrev Inv-loop : tie.InvT-loop
 Inv-loop copy₀ ws n i₀ copy i = (i ≤ n) × ((length copy ≡ length copy₀) × (copy ≡ putWrites copy₀ ws i))
@@ -47,8 +48,8 @@ loop-again c =
     let put-write = c .before .before .put-write in
     let args = start (at-loop (c .before .before)) .args in
     let l = at-loop (c .before .before) .loop in
-    let s = ap (λ (x : List ℕ). set x (sizes.copyHeader + writeKey (args .ws .now) (l .i)) (writeValue (args .ws .now) (l .i)))
-    (l .inv .1 .1) in
+    let key = writeKey (args .ws .now) (l .i) in
+    let s = ap (λ (x : List ℕ). putValue x (sizes.copyHeader + sizes.value * key) (writeValue (args .ws .now) (l .i))) (l .inv .1 .1) in
     (search needs, (search needs, put-write .ensures ∙ s ∙ sym (put-more (args .copy .now) (args .ws .now) (l .i))))
 
 same-length : tie.Need-same-length Inv-loop μ-loop
