@@ -55,9 +55,9 @@ unfolding scan.firstBelow scan.allBelow scan.anyBelow scan.foldBelow pair.preced
     course.abortStep course.withDecision course.commitStep course.decideStep course.withQueueMark course.castStep course.withRequest
     course.prepareStep course.voteDecides course.voteStep course.withStage course.preparedStep course.certifiedStep send.isRecipient
     send.headTo send.wordsTo send.messagesTo send.stepRecipients send.countsLow begin.nextTx begin.beginCode begin.begun begin.beginOf
-    access.keyCode access.accessCode access.readCode access.readVersion access.readAt access.readOf access.longCode access.writeCode access.writeCodeAt
-    access.lateCode access.written access.writeAt access.writeOf access.searchOf enlist.enlistCode enlist.joinerCode enlist.enlistAt enlist.enlistOf
-    commit.requestCode commit.commitCode
+    access.keyCode access.accessCode access.readCode access.readVersion access.readAt access.readOf access.longCode access.writeCode
+    access.writeCodeAt access.lateCode access.written access.writeAt access.writeOf access.searchOf enlist.enlistCode enlist.joinerCode
+    enlist.enlistAt enlist.enlistOf commit.requestCode commit.commitCode
     commit.requestChange commit.isFull commit.commitChange commit.commitLists commit.commitOf commit.abandonCode commit.abandonOf
     certify.preparedWords certify.installedWords certify.preparedList certify.installedList certify.candidates certify.concurrent
     certify.conflictsAt certify.conflictsWith certify.isRecorded certify.uncertainOf certify.voteOf join.lesserAbove join.leastAbove

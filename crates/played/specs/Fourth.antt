@@ -6,7 +6,8 @@ use Rattle.kinds.specs.declared.Answer.the-variants.{Refused, Done, Begun, Foun
 use Rattle.kinds.specs.declared.House.{House}
 use Rattle.rules.specs.House.{houseOf}
 use Rattle.rules.specs.World.{Call}
-use Rattle.played.specs.Script.{Told, _⟶_, highlight, begin, enlist, read, write, commit, take, install, merge, emit, replay, value, callsOf}
+use Rattle.played.specs.Script.{Told, _⟶_, highlight, begin, enlist, read, write, commit, take, install, merge, emit, replay}
+use Rattle.played.specs.Script.{value, callsOf}
 
 abbrev pub uneven : House
 uneven = houseOf 3 (0 ∷ 700 ∷ 701 ∷ [])

@@ -9,8 +9,8 @@ use Rattle.rules.specs.Message.{messageWords, entryCount}
 use Rattle.rules.specs.Course.{headOf}
 use Rattle.rules.specs.World.{Call}
 use Rattle.rules.specs.Book.{Fact, began, used, wrote, committed, installed, replayed}
-use Rattle.played.specs.Script.{Told, _⟶_, highlight, begin, enlist, read, write, search, commit, commitAt, abandon, take, install, report}
-use Rattle.played.specs.Script.{merge, emit, replay, value, even, callsOf}
+use Rattle.played.specs.Script.{Told, _⟶_, highlight, begin, enlist, read, write, search, commit, commitAt, abandon, take, install}
+use Rattle.played.specs.Script.{report, merge, emit, replay, value, even, callsOf}
 
 -- the first, second and third of site 1, the first and second of site 2
 abbrev pub spanning : ℕ

@@ -91,7 +91,9 @@ versions =
             keys = noKeys;
           });
       history =
-          set (set (set (set (replicate sizes.history noEntry) 0 (installed 1 noKeys)) 1 (installed 2 (wrote 5 (value 70 0)))) 2 (installed 3 noKeys))
+          set
+          (set (set (set (replicate sizes.history noEntry) 0 (installed 1 noKeys)) 1 (installed 2 (wrote 5 (value 70 0)))) 2
+          (installed 3 noKeys))
           3 (installed 4 (wrote 5 (value 80 0)));
     }
 

@@ -97,7 +97,8 @@ part-good s i t h x m =
       size = words-length (b .keys) n;
       head = rw (here, x, p .course .mask-house, m, le-leb n sizes.writes few, eq-eqb (coordinatorOf (b .tx)) (coordinatorOf (b .tx)) refl);
       writes = sym
-          (all-below (partWriteOk o own (sortedWords (b .keys) n)) n (λ j l. part-write o own (b .keys) (p .keys .wrote-here) (p .keys .values-fit) n j refl l));
+          (all-below (partWriteOk o own (sortedWords (b .keys) n)) n
+          (λ j l. part-write o own (b .keys) (p .keys .wrote-here) (p .keys .values-fit) n j refl l));
     })
 
 -- The state record passes its check.

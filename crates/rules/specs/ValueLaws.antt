@@ -101,7 +101,8 @@ module _ (ws p : List ℕ) (at : ℕ) where
   pub value-left : at + sizes.value ≤ length ws → valueAt (ws ++ p) at ≡ valueAt ws at
   unfolding valueAt
   value-left h =
-      same-words (List·getD-append ws p 0 (at + word.valueStart) (omega arith)) (List·getD-append ws p 0 (at + word.valueLength) (omega arith))
+      same-words (List·getD-append ws p 0 (at + word.valueStart) (omega arith))
+      (List·getD-append ws p 0 (at + word.valueLength) (omega arith))
 
   pub value-right : valueAt (ws ++ p) (length ws + at) ≡ valueAt p at
   unfolding valueAt

@@ -57,8 +57,9 @@ unfolding firstBelow allBelow anyBelow foldBelow precedes onesBelow overlay putA
     siteOk valids.slotOk takenOf turnAt settle saidOf newSub raise headOf channelSpent sendTo sendAll quietly withParticipant enlistStep
     isOutstanding withReply abortStep withDecision commitStep decideStep withQueueMark castStep withRequest prepareStep voteDecides
     voteStep withStage preparedStep certifiedStep nextTx beginCode begun beginOf keyCode accessCode readCode readVersion readAt readOf
-    longCode writeCode writeCodeAt lateCode written writeAt writeOf searchOf installCode entryOf partHead partWords baseAfter installedAt installOf
-    reportCode stateWords reportOf freshSite startCode startOf startTable mergerOutOf placeWords queuedPart queuedOk sourceOk mergerOk
+    longCode writeCode writeCodeAt lateCode written writeAt writeOf searchOf installCode entryOf partHead partWords baseAfter
+    installedAt installOf reportCode stateWords reportOf freshSite startCode startOf startTable mergerOutOf placeWords queuedPart
+    queuedOk sourceOk mergerOk
     mergePartCode mergePart mergeStateCode mergeState mergeCode mergeOf headAt headsOf hasHead betterHead leastHead isDueAt hasPart
     isWholeAt isWhole dueCode partWrites joinedWrites mergedWords siteWords popQueue popQueueAt popQueues popMergerAt popMerger emitDue
     emitCode emitOf freshMerger mergerStartCode mergerStartOf mergers.isDue HeadFits HeadsFit isRecipient headTo wordsTo messagesTo

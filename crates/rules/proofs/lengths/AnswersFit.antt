@@ -34,7 +34,8 @@ use Rattle.rules.proofs.reads.SnapshotsStay.{searched, not-searched}
 use Rattle.rules.proofs.lengths.TablesFit.{BaseFits, CopyFits, fresh-fits, run-fits}
 
 -- The search ends at a version that fits, or at the base value.
-walk-fits : (entry : ℕ → Entry) (k : ℕ) (v : Value) → Fits v → ((i : ℕ) → wroteKey (entry i .keys) k ≡ true → Fits (wroteValue (entry i .keys) k))
+walk-fits : (entry : ℕ → Entry) (k : ℕ) (v : Value) → Fits v
+    → ((i : ℕ) → wroteKey (entry i .keys) k ≡ true → Fits (wroteValue (entry i .keys) k))
     → (left looked : ℕ) → Fits (walk entry k v left looked .value)
 unfolding walk
 walk-fits entry k v base each zero looked = base
@@ -84,7 +85,8 @@ read-answers s base tx k old v =
     (λ z. absurd (not-found _ v z)))))
     (λ z. absurd (not-found _ v z))
 
-search-answers : (s : Site) (base : List ℕ) (p : Snapshot) (k n : ℕ) → BaseFits base → (v : Value) → searchOf s base p k ≡ Searched v n → Fits v
+search-answers : (s : Site) (base : List ℕ) (p : Snapshot) (k n : ℕ) → BaseFits base → (v : Value)
+    → searchOf s base p k ≡ Searched v n → Fits v
 unfolding searchOf
 search-answers s base p k n old v =
     let code = keyCode (siteOk s) (length base) (s .house) (s .counters .own) k in

@@ -105,8 +105,9 @@ unfolding installOf installedAt
 install-fits s room base old =
     let place = leastQueued (s .live) sizes.live in
     let due = isInstallable (s .live) place in
-    by-code (λ e. BaseFits (e .lent)) (installCode (siteOk s) room (length base) due (s .counters .installs)) s base (installedAt s base place)
-    (λ e. let c = install-clear (siteOk s) room (length base) due (s .counters .installs) e in
+    let n = s .counters .installs in
+    by-code (λ e. BaseFits (e .lent)) (installCode (siteOk s) room (length base) due n) s base (installedAt s base place)
+    (λ e. let c = install-clear (siteOk s) room (length base) due n e in
     after-fits s base (c .valid) (c .whole) old)
     old
 
@@ -174,7 +175,9 @@ module _ (w : World) (f : TablesFit w) where
   step-fits (world.replay c m) =
       record {
         bases = f .bases;
-        copies = upd-cases (λ j x. CopyFits x) (w .copy) c (replayOf (w .copy c) m .copy) (replay-fits (w .copy c) m (f .copies c)) (λ j e. f .copies j);
+        copies =
+            upd-cases (λ j x. CopyFits x) (w .copy) c (replayOf (w .copy c) m .copy) (replay-fits (w .copy c) m (f .copies c))
+            (λ j e. f .copies j);
       }
   step-fits (world.value c key) = f
 

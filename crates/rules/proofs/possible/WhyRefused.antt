@@ -33,7 +33,8 @@ use Rattle.rules.specs.Effect.{Effect, turnAt, unless}
 use Rattle.rules.specs.Course.{quietly, channelSpent}
 use Rattle.rules.specs.Begin.{beginCauses, beginCode, begun, beginOf}
 use Rattle.rules.specs.Access.{keyCauses, keyCode, accessCauses, accessCode, readCauses, readCode, readVersion, readAt, readOf}
-use Rattle.rules.specs.Access.{longCauses, longCode, writeCauses, writeCode, writeCodeAt, lateCode, written, writeAt, writeOf, searchOf}
+use Rattle.rules.specs.Access.{longCauses, longCode, writeCauses, writeCode, writeCodeAt, lateCode}
+use Rattle.rules.specs.Access.{written, writeAt, writeOf, searchOf}
 use Rattle.rules.specs.Enlist.{isMine, enlistCauses, enlistCode, joinerCauses, joinerCode, enlistAt, enlistOf}
 use Rattle.rules.specs.Commit.{requestCauses, requestCode, commitCauses, commitCode, abandonCauses, abandonCode, commitOf, abandonOf}
 use Rattle.rules.specs.Install.{installCauses, installCode, installedAt, installOf, reportCauses, reportCode, reportOf}

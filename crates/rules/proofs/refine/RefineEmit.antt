@@ -22,7 +22,8 @@ use Rattle.rules.specs.House.{inMask, homeOf}
 use Rattle.rules.specs.Keys.{sortedKey, sortedCount}
 use Rattle.rules.specs.Value.{fits}
 use Rattle.rules.specs.KeysLaws.{word-key}
-use Rattle.rules.specs.Record.{recordWords, recordHead, recordWrites, writeKey, writeValue, keyAscends, partWriteOk, mergedTests, mergedOk}
+use Rattle.rules.specs.Record.{recordWords, recordHead, recordWrites, writeKey, writeValue, keyAscends, partWriteOk}
+use Rattle.rules.specs.Record.{mergedTests, mergedOk}
 use Rattle.rules.specs.RecordLaws.{writes-back, part-passed-good, merged-clear, merged-passed-good, merged-passed-words}
 use Rattle.rules.specs.Merger.{Merging, refusedMerger, sourceAt, popSource, queuedPart, headsOf, hasPart, dueHead, leastSite, dueCode}
 use Rattle.rules.specs.Merger.{partWrites, joinedWrites, writesIn, mergedHead, popMerger, popQueues, emitDue, emitCode, emitOf}

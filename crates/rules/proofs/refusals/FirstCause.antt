@@ -34,8 +34,8 @@ use Rattle.rules.specs.CertifyLaws.{concurrent-whole}
 use Rattle.rules.specs.Effect.{Effect, Change, turnAt, changed, unless}
 use Rattle.rules.specs.Course.{withReply, sendTo, quietly, raise, channelSpent, enlistStep, abortStep}
 use Rattle.rules.specs.Begin.{beginCode, beginOf, begun}
-use Rattle.rules.specs.Access.{readCauses, longCauses, writeCauses, keyCode, accessCode, readCode, longCode, writeCode, writeCodeAt, lateCode}
-use Rattle.rules.specs.Access.{readAt, readVersion, readOf, writeAt, written, writeOf, searchOf}
+use Rattle.rules.specs.Access.{readCauses, longCauses, writeCauses, keyCode, accessCode, readCode, longCode, writeCode, writeCodeAt}
+use Rattle.rules.specs.Access.{lateCode, readAt, readVersion, readOf, writeAt, written, writeOf, searchOf}
 use Rattle.rules.specs.Enlist.{isMine, enlistCauses, joinerCauses, enlistCode, joinerCode, enlistAt, enlistOf}
 use Rattle.rules.specs.Commit.{requestCauses, commitCauses, abandonCauses, commitChange, requestCode, commitCode, abandonCode}
 use Rattle.rules.specs.Commit.{commitLists, commitOf, abandonOf}
