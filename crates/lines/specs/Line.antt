@@ -127,7 +127,7 @@ commandOf s =
     (pick (eqb (s .ended) 2) (twoOf (getD (s .words) 0 0) (getD (s .words) 1 0) (s .word))
     (pick (eqb (s .ended) 3) (threeOf (getD (s .words) 0 0) (getD (s .words) 1 0) (getD (s .words) 2 0) (s .word))
     (pick (eqb (s .ended) 5)
-      (fiveOf (getD (s .words) 0 0) (getD (s .words) 1 0) (getD (s .words) 2 0) (getD (s .words) 3 0) (getD (s .words) 4 0) (s .word))
+    (fiveOf (getD (s .words) 0 0) (getD (s .words) 1 0) (getD (s .words) 2 0) (getD (s .words) 3 0) (getD (s .words) 4 0) (s .word))
     (pick (ltb 9 (s .ended)) command.Bad
     (manyOf (getD (s .words) 0 0) (getD (s .words) 1 0) (s .ended - 1))))))))
 
