@@ -109,9 +109,9 @@ fn put_keys(w: &mut [u64], first: u64)
     put(w, word::KEYS_WROTE, WRITES as u64);
     let mut i: usize = 0;
     while i < WRITES {
+        let value = word::KEYS_VALUES + VALUE * i;
         put(w, word::KEYS_READS + i, first + i as u64);
         put(w, word::KEYS_WRITES + i, first + 16 + i as u64);
-        let value = word::KEYS_VALUES + VALUE * i;
         put(w, value + word::VALUE_START, first + i as u64);
         put(w, value + word::VALUE_LENGTH, 1 + i as u64);
         i += 1;
