@@ -5,8 +5,8 @@
 mod claimed;
 mod hand;
 pub(crate) mod handed;
-pub mod line;
 mod lent;
+pub mod line;
 mod listed;
 mod queued;
 pub mod random;
@@ -84,7 +84,9 @@ impl Probe {
             }
             "table" => self.table.set(line.numbers[0], line.numbers[1]),
             "tables" => self.table.length = Some(line.numbers[0]),
-            "room" | "places" | "slots" | "base" | "lists" | "queues" | "copies" => self.lent.set(line),
+            "room" | "places" | "slots" | "base" | "lists" | "queues" | "copies" => {
+                self.lent.set(line)
+            }
             "site" | "live" | "past" | "list" | "merger" | "source" | "queued" | "copied" => {
                 let answer = self.poke(line)?;
                 tell(output, event, &answer.map(|()| Answer::Done));

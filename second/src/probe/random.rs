@@ -11,8 +11,8 @@ mod values;
 
 use std::fmt::Write;
 
-use super::line::parse;
 use super::lent::{BASE, LISTS, PLACES, SLOTS};
+use super::line::parse;
 use super::{sums, Probe};
 use crate::random::Random;
 use crate::sizes::*;
