@@ -88,7 +88,10 @@ impl Generator {
         self.read_some(site, transaction, 50);
         self.lone_saves(site);
         self.read_some(site, transaction, 80);
-        self.write_some(site, transaction, 80);
+        if self.random.chance(80) {
+            let key = self.key_of(site);
+            self.write_any(site, transaction, key);
+        }
         self.tell("commit", &[transaction]);
         self.take_all();
         self.install_all();
