@@ -1,6 +1,7 @@
 //! Where a random call goes: mostly somewhere possible, now and then not.
 
 mod tables;
+mod values;
 
 use std::ops::Range;
 

@@ -1,4 +1,4 @@
-//! Refusals, reasons of abort and decisions (N1 to N5, Q7.1 to Q7.8, Q3.4).
+//! Refusals, reasons of abort and decisions (N1 to N5, Q7.1 to Q7.8, Q3.4, Q12.5).
 
 /// In the order of the causes: where several apply, the first of this list is
 /// returned. The numbers do not ascend along it, and 6 is retired.
@@ -21,6 +21,8 @@ pub enum Refusal {
     KeyHeld = 9,
     NewerVersion = 10,
     TooManyKeys = 11,
+    /// Start plus length of a value to write is above 2^64 − 1.
+    DoesNotFit = 29,
     LiveFull = 12,
     CountSpent = 13,
     NotAbove = 14,

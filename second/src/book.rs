@@ -4,6 +4,7 @@
 
 mod homes;
 mod limits;
+mod values;
 
 use std::collections::{BTreeMap, HashMap, HashSet};
 
@@ -11,9 +12,11 @@ use crate::answer::{Decision, Pair, Refusal};
 use crate::copy::Copy;
 use crate::desk::Desk;
 use crate::house::messages;
+use crate::record::Write;
 use crate::site::Found;
 use crate::sizes::*;
 use crate::table;
+use crate::value::{Value, FRESH};
 use crate::world::{Answer, Call, World};
 use homes::Homes;
 
@@ -28,7 +31,10 @@ struct Chapter {
     /// Moments at which its part began, and was installed, at each site.
     begun: [Option<u64>; SITES],
     installed: [Option<u64>; SITES],
-    writes: BTreeMap<u64, u64>,
+    /// Whether its part, at each site, takes no more reads and writes; was aborted.
+    closed: [bool; SITES],
+    aborted: [bool; SITES],
+    writes: BTreeMap<u64, Value>,
     /// Keys that entered the set of keys read, and all keys used.
     reads: HashSet<u64>,
     used: HashSet<u64>,
@@ -59,11 +65,11 @@ impl Chapter {
 #[derive(Clone, Debug)]
 struct Shelf {
     last: Option<Pair>,
-    expected: Vec<u64>,
+    expected: Vec<Value>,
 }
 
 /// Installs of one site, oldest first, with the writes there.
-type Installs = Vec<(u64, Vec<(u64, u64)>)>;
+type Installs = Vec<(u64, Vec<Write>)>;
 
 #[derive(Clone, Debug)]
 pub struct Book {
@@ -80,7 +86,7 @@ pub struct Book {
 impl Default for Book {
     /// The book of a house of eight with the table 0, 256 and so on.
     fn default() -> Self {
-        let shelf = Shelf { last: None, expected: vec![0; KEYS as usize] };
+        let shelf = Shelf { last: None, expected: vec![FRESH; KEYS as usize] };
         Book {
             moment: 0,
             chapters: HashMap::new(),
@@ -120,7 +126,7 @@ impl Book {
     }
 
     /// Enters an accepted call; refused ones leave the book, which is asked whether
-    /// an 11, and what is said of a key, was due. An `Err` names the claim that broke.
+    /// an 11, a 29, and what is said of a key, was due. An `Err` names the claim that broke.
     pub fn enter(
         &mut self,
         call: &Call,
@@ -129,12 +135,14 @@ impl Book {
         copies: &[Copy],
     ) -> Checked {
         self.homes.check(call, answer, written)?;
+        self.check_values(call, answer)?;
         let answer = match answer {
             Ok(answer) => answer,
             Err(Refusal::TooManyKeys) => return self.too_many_keys(call),
             Err(_) => return Ok(()),
         };
         self.moment += 1;
+        self.follow(call, answer);
         match (*call, *answer) {
             (Call::Begin { site, desk }, Answer::Begun(transaction)) => {
                 self.begin_for(desk, transaction)?;
@@ -207,7 +215,7 @@ impl Book {
         self.recheck(transaction)
     }
 
-    fn write(&mut self, site: u64, transaction: u64, key: u64, value: u64) -> Checked {
+    fn write(&mut self, site: u64, transaction: u64, key: u64, value: Value) -> Checked {
         let chapter = self.chapters.entry(transaction).or_default();
         chapter.used.insert(key);
         chapter.writes.insert(key, value);
@@ -217,7 +225,7 @@ impl Book {
 
     /// Beyond demand 3: a read gives the own write, else what the installs
     /// before its part began left. Only the latter enters the set of keys read (C10).
-    fn read(&mut self, site: u64, transaction: u64, key: u64, value: u64) -> Checked {
+    fn read(&mut self, site: u64, transaction: u64, key: u64, value: Value) -> Checked {
         let chapter = self.chapters.entry(transaction).or_default();
         chapter.used.insert(key);
         if !chapter.writes.contains_key(&key) {
@@ -229,7 +237,7 @@ impl Book {
             let seen = self.installs[site as usize - 1].iter().rev();
             seen.skip_while(|(moment, _)| *moment > began)
                 .find_map(|(_, writes)| writes.iter().find(|write| write.0 == key))
-                .map_or(0, |write| write.1)
+                .map_or(FRESH, |write| write.1)
         };
         let due = chapter.writes.get(&key).copied().unwrap_or_else(left);
         claim(due == value, || format!("{transaction} read {value} at {key}, {due} is due"))?;
@@ -248,7 +256,7 @@ impl Book {
         let forgotten = installs.len().saturating_sub(HISTORY);
         let version = |place: usize| installs[place].1.iter().find(|write| write.0 == key);
         let hit = (0..within).rev().find(|&place| version(place).is_some());
-        let left = hit.and_then(version).map_or(0, |write| write.1);
+        let left = hit.and_then(version).map_or(FRESH, |write| write.1);
         let oldest = hit.map_or(forgotten, |place| place.max(forgotten));
         let looked_at = within.saturating_sub(oldest) as u64;
         let right = found.looked_at == looked_at && (within < forgotten || found.value == left);
@@ -274,16 +282,16 @@ impl Book {
         Ok(())
     }
 
-    fn value(&self, copy: u64, key: u64, answer: (u64, Pair)) -> Checked {
+    fn value(&self, copy: u64, key: u64, answer: (Value, Pair)) -> Checked {
         let shelf = &self.shelves[copy as usize - 1];
         let due = (shelf.expected[key as usize], shelf.last.unwrap_or_default());
         claim(due == answer, || format!("value {key} of copy {copy}: {due:?} due"))
     }
 
-    /// The writes of the committed up to a copy's last pair, over zeros.
+    /// The writes of the committed up to a copy's last pair, over fresh values.
     fn reshelve(&mut self, copy: usize) {
         let shelf = &mut self.shelves[copy];
-        shelf.expected.fill(0);
+        shelf.expected.fill(FRESH);
         let Some(last) = shelf.last else { return };
         for transaction in self.committed.range(..=last).map(|(_, transaction)| transaction) {
             for (&key, &value) in &self.chapters[transaction].writes {

@@ -1,20 +1,21 @@
-//! A copy: replays the stream (G5 and G6).
+//! A copy: replays the stream (G5 and G6, Q12.1, Q12.2).
 
 use crate::answer::{require, Pair, Refusal};
 use crate::record;
 use crate::sizes::*;
+use crate::value::{Value, FRESH};
 
 #[derive(Clone, PartialEq, Eq, Debug)]
 pub struct Copy {
     /// Pair of the last replay; (0, 0) before the first.
     pub last: Pair,
-    /// By key.
-    pub values: Vec<u64>,
+    /// By key; any words may stand for a value.
+    pub values: Vec<Value>,
 }
 
 impl Copy {
     pub fn start() -> Self {
-        Copy { last: Pair::default(), values: vec![0; KEYS as usize] }
+        Copy { last: Pair::default(), values: vec![FRESH; KEYS as usize] }
     }
 
     pub fn replay(&mut self, words: &[u64]) -> Result<Pair, Refusal> {
@@ -28,7 +29,7 @@ impl Copy {
     }
 
     /// A key's value and the pair that it belongs to.
-    pub fn value(&self, key: u64) -> Result<(u64, Pair), Refusal> {
+    pub fn value(&self, key: u64) -> Result<(Value, Pair), Refusal> {
         require(key < KEYS, Refusal::Impossible)?;
         Ok((self.values[key as usize], self.last))
     }

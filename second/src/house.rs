@@ -1,5 +1,5 @@
 //! The program `house`: obeys script lines, carries messages and records between
-//! sites, merger and copies, and words the outcome (H1 to H20, Q3.7).
+//! sites, merger and copies, and words the outcome (H1 to H20, Q3.7, Q12.8).
 
 use std::collections::VecDeque;
 use std::fmt::Write;
@@ -201,9 +201,8 @@ fn print(event: u64, answer: &Result<Answer, Refusal>, output: &mut String) {
         Err(refusal) => writeln!(output, "{event} refused {}", refusal.number()),
         Ok(answer) => match *answer {
             Answer::Done => writeln!(output, "{event} ok"),
-            Answer::Begun(number) | Answer::Value(number) => {
-                writeln!(output, "{event} ok {number}")
-            }
+            Answer::Begun(number) => writeln!(output, "{event} ok {number}"),
+            Answer::Value(value) => writeln!(output, "{event} ok {value}"),
             Answer::Sent(sent) => match sent.decision {
                 None => writeln!(output, "{event} ok"),
                 Some(Decision::Commit(number)) => writeln!(output, "{event} ok {number}"),

@@ -21,4 +21,5 @@ pub mod sizes;
 pub mod table;
 pub mod tally;
 pub mod trace;
+pub mod value;
 pub mod world;

@@ -1,9 +1,10 @@
 //! Records as words: parts and states of a log, merged records of the stream
-//! (R1 to R6, Q3.6).
+//! (R1 to R6, Q3.6, Q12.3, Q12.6).
 
 use crate::answer::{Pair, Refusal};
 use crate::sizes::*;
 use crate::table::Table;
+use crate::value::Value;
 
 mod at {
     pub const LENGTH: usize = 0;
@@ -22,7 +23,7 @@ pub const STATE: u64 = 2;
 pub const MERGED: u64 = 3;
 
 /// A key and the value written to it.
-pub type Write = (u64, u64);
+pub type Write = (u64, Value);
 
 /// What a part and a merged record carry.
 #[derive(Clone, PartialEq, Eq, Debug)]
@@ -92,7 +93,7 @@ fn merged_record(words: &[u64]) -> Option<Save> {
     save(words, SITES as u64, MERGED_WRITES)
 }
 
-/// The words that a part and a merged record share.
+/// The words that a part and a merged record share. Q12.6: each value fits.
 fn save(words: &[u64], sites: u64, most_writes: usize) -> Option<Save> {
     let (header, write_words) = words.split_at_checked(RECORD_HEADER)?;
     let (coordinator, transaction) = (header[at::COORDINATOR], header[at::TRANSACTION]);
@@ -107,11 +108,12 @@ fn save(words: &[u64], sites: u64, most_writes: usize) -> Option<Save> {
     if !fits {
         return None;
     }
-    let writes: Vec<Write> =
-        write_words.chunks_exact(WRITE_WORDS).map(|write| (write[0], write[1])).collect();
+    let write = |words: &[u64]| (words[0], Value::new(words[1], words[2]));
+    let writes: Vec<Write> = write_words.chunks_exact(WRITE_WORDS).map(write).collect();
     let ascending = writes.windows(2).all(|two| two[0].0 < two[1].0);
     let known = writes.last().is_none_or(|&(key, _)| key < KEYS);
-    (ascending && known).then_some(Save {
+    let fitting = writes.iter().all(|&(_, value)| value.fits());
+    (ascending && known && fitting).then_some(Save {
         pair: Pair::new(header[at::NUMBER], coordinator),
         transaction,
         participants,
@@ -141,8 +143,7 @@ pub fn write_save(out: &mut [u64], kind: u64, site: u64, save: &Save) -> usize {
     header[at::COUNT] = save.writes.len() as u64;
     header[at::OFFSET] = writes_offset(save.writes.len());
     for (words, &(key, value)) in write_words.chunks_exact_mut(WRITE_WORDS).zip(&save.writes) {
-        words[0] = key;
-        words[1] = value;
+        words.copy_from_slice(&[key, value.start, value.length]);
     }
     length
 }

@@ -1,8 +1,9 @@
-//! Lines of a `house` script (H1 to H20, Q3.7, Q10.7).
+//! Lines of a `house` script (H1 to H20, Q3.7, Q10.7, Q12.8).
 
 use crate::desk::Desk;
 use crate::sizes::SITES;
 use crate::table;
+use crate::value::Value;
 
 /// The most numbers of a line: a count of sites and their first keys.
 const NUMBERS: usize = 1 + SITES;
@@ -33,7 +34,7 @@ pub enum Command {
     Begin { site: u64, desk: u64 },
     Enlist { transaction: u64, target: u64 },
     Read { site: u64, transaction: u64, key: u64 },
-    Write { site: u64, transaction: u64, key: u64, value: u64 },
+    Write { site: u64, transaction: u64, key: u64, value: Value },
     Commit(u64),
     Abandon(u64),
     Take { from: u64, to: u64 },
@@ -71,8 +72,8 @@ impl Command {
             (b"begin", &[site, desk]) => Command::Begin { site, desk },
             (b"enlist", &[transaction, target]) => Command::Enlist { transaction, target },
             (b"read", &[site, transaction, key]) => Command::Read { site, transaction, key },
-            (b"write", &[site, transaction, key, value]) => {
-                Command::Write { site, transaction, key, value }
+            (b"write", &[site, transaction, key, start, length]) => {
+                Command::Write { site, transaction, key, value: Value::new(start, length) }
             }
             (b"commit", &[transaction]) => Command::Commit(transaction),
             (b"abandon", &[transaction]) => Command::Abandon(transaction),

@@ -1,4 +1,4 @@
-//! Sizes of a house (S1 to S18), each a named limit.
+//! Sizes of a house (S1 to S18, Q12.3, Q12.4), each a named limit.
 
 pub const SITES: usize = 8;
 pub const KEYS: u64 = 2_048;
@@ -21,7 +21,10 @@ pub const JOINED_ENTRIES: usize = SITES * LIST_ENTRIES;
 pub const MESSAGE_HEADER: usize = 10;
 pub const ENTRY_WORDS: usize = 3;
 pub const RECORD_HEADER: usize = 9;
-pub const WRITE_WORDS: usize = 2;
+/// A value's start and length (Q12.1).
+pub const VALUE_WORDS: usize = 2;
+/// A write in a record: the key, then the value (Q12.3).
+pub const WRITE_WORDS: usize = 1 + VALUE_WORDS;
 
 /// The longest CERT, to every other site.
 pub const SEND_BUFFER: usize = (SITES - 1) * (MESSAGE_HEADER + ENTRY_WORDS * JOINED_ENTRIES);

@@ -6,6 +6,7 @@ use std::fmt;
 use crate::answer::{Decision, Refusal};
 use crate::desk::Desk;
 use crate::house::messages;
+use crate::site::Part;
 use crate::sizes::*;
 use crate::table::{even, Table};
 use crate::world::{Answer, Call, World};
@@ -83,6 +84,24 @@ impl Tally {
                 self.count(limit, at.to_string());
             }
             _ => {}
+        }
+    }
+
+    /// Counts writes by their length, and apart those of own keys that do not fit.
+    pub fn values(&mut self, call: &Call, answer: &Result<Answer, Refusal>, world: &World) {
+        let Call::Write { site, transaction, key, value } = *call else { return };
+        let length = match value.length {
+            _ if !value.fits() => "too long",
+            0 => "length 0",
+            length if value.start == u64::MAX - length => "to the end",
+            _ => "some length",
+        };
+        self.count(length, outcome(answer));
+        let state = world.sites.get(site.wrapping_sub(1) as usize);
+        let held = state.and_then(|state| Some(&state.live[state.find(transaction)?]));
+        let wrote = |part: &Part| part.footprint.values.iter().any(|write| write.0 == key);
+        if !value.fits() && held.is_some_and(wrote) {
+            self.count("own too long", outcome(answer));
         }
     }
 

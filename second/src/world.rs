@@ -5,13 +5,14 @@ use crate::copy::Copy;
 use crate::merger::{Emitted, Merger};
 use crate::site::{Found, InstallDone, Report, Site};
 use crate::sizes::*;
+use crate::value::Value;
 
 #[derive(Clone, Copy, PartialEq, Eq, Debug)]
 pub enum Call<'a> {
     Begin { site: u64, desk: u64 },
     Enlist { site: u64, transaction: u64, target: u64 },
     Read { site: u64, transaction: u64, key: u64 },
-    Write { site: u64, transaction: u64, key: u64, value: u64 },
+    Write { site: u64, transaction: u64, key: u64, value: Value },
     Search { site: u64, snapshot: u64, key: u64 },
     Commit { site: u64, transaction: u64 },
     Abandon { site: u64, transaction: u64 },
@@ -28,13 +29,13 @@ pub enum Call<'a> {
 pub enum Answer {
     Done,
     Begun(u64),
-    Value(u64),
+    Value(Value),
     Sent(Sent),
     Installed(InstallDone),
     Reported(Report),
     Emitted(Emitted),
     Replayed(Pair),
-    CopyValue(u64, Pair),
+    CopyValue(Value, Pair),
     Found(Found),
 }
 

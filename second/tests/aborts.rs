@@ -36,7 +36,7 @@ fn a_full_site_aborts_12_at_the_commit_request() {
     }
     script += &format!(
         "begin 2 => refused 12\nbegin 1 => ok {T}\nenlist {T} 2\ntake 1 2\ncommit {T} => refused 7\n\
-         take 2 1\nwrite 2 {T} 256 1 => refused 5\nwrite 1 {T} 1 1\nenlist {T} 2 => refused 27\n\
+         take 2 1\nwrite 2 {T} 256 1 0 => refused 5\nwrite 1 {T} 1 1 0\nenlist {T} 2 => refused 27\n\
          commit {T} => ok abort 12\ncommit {T} => refused 5\ntake 1 2\ntake 1 2 => refused 17\n"
     );
     play(&script);
@@ -74,8 +74,8 @@ const SPLIT: &str = "sites 2
     enlist 4294967297 2
     take 1 2
     take 2 1
-    write 1 4294967297 5 50
-    write 2 4294967297 261 60
+    write 1 4294967297 5 50 0
+    write 2 4294967297 261 60 0
     commit 4294967297
     take 1 2
     take 2 1
@@ -92,14 +92,15 @@ const SPLIT: &str = "sites 2
 fn seen_and_missed_where_they_touch_is_18() {
     // Dependent at the seeing site, not marked.
     let seen =
-        "read 1 4294967298 5 => ok 50\ncommit 4294967298\ntake 1 2\ntake 2 1 => ok abort 18\n";
+        "read 1 4294967298 5 => ok 50 0\ncommit 4294967298\ntake 1 2\ntake 2 1 => ok abort 18\n";
     play(&format!("{SPLIT}{seen}take 1 2\nreport 1 => ok 1\n"));
     // Marked at the missing site, not dependent at the seeing one.
     let marked =
-        "read 2 4294967298 261 => ok 0\ncommit 4294967298\ntake 1 2\ntake 2 1 => ok abort 18\n";
+        "read 2 4294967298 261 => ok 0 0\ncommit 4294967298\ntake 1 2\ntake 2 1 => ok abort 18\n";
     play(&format!("{SPLIT}{marked}"));
     // Neither: it commits.
-    let apart = "read 2 4294967298 262 => ok 0\ncommit 4294967298\ntake 1 2\ntake 2 1\ntake 1 2\n";
+    let apart =
+        "read 2 4294967298 262 => ok 0 0\ncommit 4294967298\ntake 1 2\ntake 2 1\ntake 1 2\n";
     play(&format!("{SPLIT}{apart}take 2 1 => ok 2\n"));
 }
 

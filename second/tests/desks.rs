@@ -38,7 +38,7 @@ fn parts(desk: Desk) -> [(Site, u64); 2] {
 /// Writes so many keys, from the last to the first.
 fn write_keys(site: &mut Site, first: u64, count: usize) {
     for key in (first..first + count as u64).rev() {
-        assert_eq!(site.write(T, key, 1), Ok(()), "{key}");
+        assert_eq!(site.write(T, key, bare(1)), Ok(()), "{key}");
     }
 }
 
@@ -48,7 +48,7 @@ fn no_fifth_key_is_written_for_the_proofing_desk_and_no_seventeenth_for_the_hous
         for (mut site, first) in parts(desk) {
             write_keys(&mut site, first, limit);
             for key in first + limit as u64..first + 256 {
-                refused(&site, 0, 11, |site, _| site.write(T, key, 2));
+                refused(&site, 0, 11, |site, _| site.write(T, key, bare(2)));
             }
         }
     }
@@ -60,9 +60,9 @@ fn rewriting_the_four_makes_no_room_for_a_fifth() {
         write_keys(&mut site, first, 4);
         for round in 0..5 {
             for key in first..first + 4 {
-                assert_eq!(site.write(T, key, round), Ok(()));
-                assert_eq!(site.read(T, key), Ok(round));
-                refused(&site, 0, 11, |site, _| site.write(T, first + 4 + round, 2));
+                assert_eq!(site.write(T, key, bare(round)), Ok(()));
+                assert_eq!(site.read(T, key), Ok(bare(round)));
+                refused(&site, 0, 11, |site, _| site.write(T, first + 4 + round, bare(2)));
             }
         }
         assert!(site.live[0].footprint.reads.is_empty(), "an own write read enters no set");
@@ -74,9 +74,9 @@ fn each_site_counts_its_own_four() {
     let (mut one, mut two) = (begun(Desk::Proofing), joined(Desk::Proofing));
     write_keys(&mut one, 0, 4);
     write_keys(&mut two, 256, 4);
-    refused(&one, 0, 11, |site, _| site.write(T, 4, 2));
-    refused(&two, 0, 11, |site, _| site.write(T, 260, 2));
-    refused(&two, 0, 3, |site, _| site.write(T, 3, 2));
+    refused(&one, 0, 11, |site, _| site.write(T, 4, bare(2)));
+    refused(&two, 0, 11, |site, _| site.write(T, 260, bare(2)));
+    refused(&two, 0, 3, |site, _| site.write(T, 3, bare(2)));
 }
 
 #[test]
@@ -84,7 +84,7 @@ fn no_desk_limits_reads_below_sixteen() {
     for (mut site, first) in DESKS.into_iter().flat_map(parts) {
         write_keys(&mut site, first, 4);
         for key in first + 4..first + 20 {
-            assert_eq!(site.read(T, key), Ok(0), "{key}");
+            assert_eq!(site.read(T, key), Ok(bare(0)), "{key}");
         }
         refused(&site, 0, 11, |site, _| site.read(T, first + 20));
         for key in first..first + 20 {
@@ -102,8 +102,8 @@ fn four_keys_are_written_whatever_was_read() {
             site.read(T, key).unwrap();
         }
         write_keys(&mut site, first + 6, 4);
-        refused(&site, 0, 11, |site, _| site.write(T, first, 1));
-        refused(&site, 0, 11, |site, _| site.write(T, first + 16, 1));
+        refused(&site, 0, 11, |site, _| site.write(T, first, bare(1)));
+        refused(&site, 0, 11, |site, _| site.write(T, first + 16, bare(1)));
     }
 }
 
@@ -112,22 +112,22 @@ fn other_causes_go_before_the_fifth_key() {
     let mut one = begun(Desk::Proofing);
     write_keys(&mut one, 0, 4);
     let other = one.begin(HOUSE).unwrap();
-    one.write(other, 4, 1).unwrap();
-    refused(&one, 0, 9, |site, _| site.write(T, 4, 2));
+    one.write(other, 4, bare(1)).unwrap();
+    refused(&one, 0, 9, |site, _| site.write(T, 4, bare(2)));
     one.commit(other, &mut buffer()).unwrap();
     one.install(&mut buffer()).unwrap();
-    refused(&one, 0, 10, |site, _| site.write(T, 4, 2));
+    refused(&one, 0, 10, |site, _| site.write(T, 4, bare(2)));
     for _ in 0..HISTORY {
         let other = one.begin(PROOFING).unwrap();
         one.commit(other, &mut buffer()).unwrap();
         one.install(&mut buffer()).unwrap();
     }
-    refused(&one, 0, 8, |site, _| site.write(T, 9, 2));
-    assert_eq!(one.write(T, 3, 9), Ok(()), "a known key meets none of 8 to 11");
+    refused(&one, 0, 8, |site, _| site.write(T, 9, bare(2)));
+    assert_eq!(one.write(T, 3, bare(9)), Ok(()), "a known key meets none of 8 to 11");
     one.live[0].snapshot = one.installs;
-    refused(&one, 0, 11, |site, _| site.write(T, 9, 2));
+    refused(&one, 0, 11, |site, _| site.write(T, 9, bare(2)));
     one.commit(T, &mut buffer()).unwrap();
-    refused(&one, 0, 27, |site, _| site.write(T, 9, 2));
+    refused(&one, 0, 27, |site, _| site.write(T, 9, bare(2)));
 }
 
 #[test]
@@ -136,17 +136,17 @@ fn no_part_takes_the_desk_of_another() {
     let house = one.begin(HOUSE).unwrap();
     write_keys(&mut one, 0, 4);
     for key in 100..116 {
-        one.write(house, key, 1).unwrap();
+        one.write(house, key, bare(1)).unwrap();
     }
-    refused(&one, 0, 11, |site, _| site.write(T, 4, 1));
-    refused(&one, 0, 11, |site, _| site.write(house, 116, 1));
+    refused(&one, 0, 11, |site, _| site.write(T, 4, bare(1)));
+    refused(&one, 0, 11, |site, _| site.write(house, 116, bare(1)));
     // The place of the first is free again, for the other desk.
     one.abandon(T, &mut buffer()).unwrap();
     let next = one.begin(HOUSE).unwrap();
     for key in 0..16 {
-        one.write(next, key, 1).unwrap();
+        one.write(next, key, bare(1)).unwrap();
     }
-    refused(&one, 0, 11, |site, _| site.write(next, 16, 1));
+    refused(&one, 0, 11, |site, _| site.write(next, 16, bare(1)));
 }
 
 #[test]
@@ -228,7 +228,7 @@ fn neither_history_nor_record_tells_the_desk() {
         write_keys(&mut one, 0, 4);
         one.read(T, 9).unwrap();
         one.commit(T, &mut buffer()).unwrap();
-        let mut record = vec![7; 41];
+        let mut record = vec![7; 57];
         one.install(&mut record).unwrap();
         (one, record)
     });
@@ -241,7 +241,7 @@ fn at_site_1(house: &mut House) -> Vec<String> {
     house.say(&format!("word 5 {}", (2u64 << 32) + 9));
     let lines = [
         format!("read 1 {T} 0"),
-        format!("write 1 {T} 0 9"),
+        format!("write 1 {T} 0 9 0"),
         format!("enlist 1 {T} 1"),
         "search 1 0 0".to_string(),
         "message 1".to_string(),
@@ -266,7 +266,7 @@ fn is_stopped(house: &mut House) -> bool {
 fn written(desk: Desk, count: u64) -> House {
     let mut house = House::after(2, &[&format!("begin 1 {}", desk.number())]);
     for key in 0..count {
-        assert_eq!(house.say(&format!("write 1 {T} {key} 1")), "ok");
+        assert_eq!(house.say(&format!("write 1 {T} {key} 1 0")), "ok");
     }
     house
 }
@@ -311,9 +311,9 @@ fn a_part_that_wrote_five_keys_is_not_one_for_proofing() {
     // A part that became one for proofing has its limit, and the other way round.
     let mut house = written(Desk::House, 4);
     house.say(&format!("live 1 {T} 10 1"));
-    assert_eq!(house.say(&format!("write 1 {T} 9 1")), "refused 11");
+    assert_eq!(house.say(&format!("write 1 {T} 9 1 0")), "refused 11");
     house.say(&format!("live 1 {T} 10 0"));
-    assert_eq!(house.say(&format!("write 1 {T} 9 1")), "ok");
+    assert_eq!(house.say(&format!("write 1 {T} 9 1 0")), "ok");
 }
 
 #[test]
@@ -343,8 +343,8 @@ fn the_checksum_of_a_site_tells_the_desks_of_its_parts_apart() {
 #[test]
 fn a_line_without_a_desk_begins_for_the_house() {
     let writes = |transaction: u64, count: u64| -> String {
-        let lines = (0..count).map(|key| format!("write 1 {transaction} {key} 1\n"));
-        lines.chain([format!("write 1 {transaction} {count} 1 => refused 11\n")]).collect()
+        let lines = (0..count).map(|key| format!("write 1 {transaction} {key} 1 0\n"));
+        lines.chain([format!("write 1 {transaction} {count} 1 0 => refused 11\n")]).collect()
     };
     for (line, count) in [("begin 1", 16), ("begin 1 0", 16), ("begin 1 1", 4), ("begin 1 01", 4)] {
         play(&format!("sites 1\n{line} => ok {T}\n{}", writes(T, count)));

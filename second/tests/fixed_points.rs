@@ -50,7 +50,7 @@ fn the_queue_installs_its_least_if_decided() {
     open.clock = 4;
     open.live.push(queued(T, Stage::Open { mark: 4 }));
     open.live.push(queued(other, Stage::Decided { number: 4 }));
-    refused(&open, 41, 17, |site, out| site.install(out));
+    refused(&open, 57, 17, |site, out| site.install(out));
 }
 
 #[test]
@@ -77,8 +77,8 @@ fn a_snapshot_reads_its_version_and_may_not_overwrite_a_newer_one() {
     let late = one.begin(HOUSE).unwrap();
     one.installs = 4;
     one.history.push_back(installed(4, T + 4, &[(5, 80)]));
-    assert_eq!(one.read(late, 5), Ok(70));
-    refused(&one, 0, 10, |site, _| site.write(late, 5, 1));
+    assert_eq!(one.read(late, 5), Ok(bare(70)));
+    refused(&one, 0, 10, |site, _| site.write(late, 5, bare(1)));
 }
 
 #[test]
@@ -88,7 +88,7 @@ fn a_state_at_the_heads_number_makes_it_due() {
     merger.merge(&[9, 2, 2, 4, 0, 0, 0, 0, 0]).unwrap();
     assert_eq!(merger.emit(&mut buffer()).unwrap_err().number(), 17);
     merger.merge(&[9, 2, 2, 5, 0, 0, 0, 0, 0]).unwrap();
-    let mut out = vec![8; 265];
+    let mut out = vec![8; 393];
     let emitted = merger.emit(&mut out).unwrap();
     assert_eq!((emitted.pair, emitted.transaction, emitted.words), (Pair::new(5, 1), T, 9));
     assert_eq!(out[..10], [9, 3, 0, 5, 1, T, 1, 0, 0, 8]);
@@ -110,9 +110,9 @@ fn a_buffer_of_7966_passes_and_one_of_7965_does_not() {
     one.begin(HOUSE).unwrap();
     refused(&one, 7_965, 1, |site, out| site.commit(T, out));
     assert!(one.commit(T, &mut vec![0; 7_966]).is_ok());
-    refused(&one, 40, 1, |site, out| site.install(out));
-    assert!(one.install(&mut vec![0; 41]).is_ok());
-    assert_eq!((SEND_BUFFER, PART_BUFFER, MERGED_BUFFER), (7_966, 41, 265));
+    refused(&one, 56, 1, |site, out| site.install(out));
+    assert!(one.install(&mut vec![0; 57]).is_ok());
+    assert_eq!((SEND_BUFFER, PART_BUFFER, MERGED_BUFFER), (7_966, 57, 393));
 }
 
 #[test]
@@ -121,14 +121,14 @@ fn sixteen_keys_pass() {
     one.begin(HOUSE).unwrap();
     for key in (0..16).rev() {
         one.read(T, key).unwrap();
-        one.write(T, key, key + 100).unwrap();
+        one.write(T, key, bare(key + 100)).unwrap();
     }
     refused(&one, 0, 11, |site, _| site.read(T, 16));
-    refused(&one, 0, 11, |site, _| site.write(T, 16, 1));
-    assert_eq!(one.read(T, 15), Ok(115));
+    refused(&one, 0, 11, |site, _| site.write(T, 16, bare(1)));
+    assert_eq!(one.read(T, 15), Ok(bare(115)));
     one.commit(T, &mut buffer()).unwrap();
-    let mut out = vec![0; 41];
-    assert_eq!(one.install(&mut out).unwrap().words, 41);
-    let keys: Vec<u64> = out[9..].iter().step_by(2).copied().collect();
+    let mut out = vec![0; 57];
+    assert_eq!(one.install(&mut out).unwrap().words, 57);
+    let keys: Vec<u64> = out[9..].iter().step_by(3).copied().collect();
     assert_eq!(keys, (0..16).collect::<Vec<_>>());
 }

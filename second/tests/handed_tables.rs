@@ -17,7 +17,7 @@ fn calls() -> [String; 10] {
         format!("enlist 1 {T} 2"),
         format!("read 1 {T} 3"),
         "search 1 0 3".to_string(),
-        format!("write 1 {T} 3 7"),
+        format!("write 1 {T} 3 7 0"),
         format!("commit 1 {T}"),
         format!("abandon 1 {T}"),
         "message 1".to_string(),
@@ -55,7 +55,7 @@ fn no_site_with_a_bad_table_is_called() {
         }
         assert_eq!(house.say("report 2"), "ok 0", "another site has its own table");
         house.say(&format!("site 1 {field} {before}"));
-        assert_eq!(house.say(&format!("read 1 {T} 255")), "ok 0", "{field} {before}");
+        assert_eq!(house.say(&format!("read 1 {T} 255")), "ok 0 0", "{field} {before}");
         assert_eq!(house.say(&format!("read 1 {T} 256")), "refused 3");
     }
 }
@@ -80,8 +80,8 @@ fn no_merger_with_a_bad_table_is_called() {
 #[test]
 fn another_good_table_is_followed() {
     let mut house = House::after(3, &["begin 1", "site 1 32 300"]);
-    assert_eq!(house.say(&format!("write 1 {T} 299 7")), "ok");
-    assert_eq!(house.say(&format!("write 1 {T} 300 7")), "refused 3");
+    assert_eq!(house.say(&format!("write 1 {T} 299 7 0")), "ok");
+    assert_eq!(house.say(&format!("write 1 {T} 300 7 0")), "refused 3");
     house.say("site 1 32 256");
     assert_eq!(house.say("report 1"), "refused 2", "the part has a key of another site");
     house.say("site 1 32 300");
@@ -97,14 +97,14 @@ fn another_count_goes_with_another_table() {
     house.say("site 1 34 0");
     assert_eq!(house.say("report 1"), "refused 2", "the mask has site 4");
     let mut fewer = House::after(3, &["begin 2", "site 2 0 2", "site 2 33 0"]);
-    assert_eq!(fewer.say("read 2 8589934593 2047"), "ok 0");
+    assert_eq!(fewer.say("read 2 8589934593 2047"), "ok 0 0");
     assert_eq!(fewer.say("enlist 2 8589934593 3"), "refused 2");
 }
 
 #[test]
 fn a_queued_part_follows_the_mergers_table() {
     let form = format!("form 1 2 5 {T}");
-    let mut house = House::after(3, &[&form, "word 6 3", "writes 1 300 7", "merge"]);
+    let mut house = House::after(3, &[&form, "word 6 3", "writes 1 300 7 0", "merge"]);
     assert_eq!(house.outcome, "ok");
     for (first, due) in [(301, "refused 2"), (300, "refused 17"), (1, "refused 17")] {
         house.say(&format!("merger 32 {first}"));
@@ -126,12 +126,12 @@ fn a_start_is_lent_the_table() {
         ("tables 3", "refused 2", "refused 2"),
         ("tables 0", "refused 2", "refused 2"),
         ("tables 2", "refused 22", "refused 22"),
-        ("base 2047", "refused 2", "refused 22"),
-        ("base 2048", "refused 22", "refused 22"),
+        ("base 4095", "refused 2", "refused 22"),
+        ("base 4096", "refused 22", "refused 22"),
         ("lists 0", "refused 2", "refused 22"),
         ("lists 18048", "refused 22", "refused 22"),
-        ("queues 5249", "refused 22", "refused 2"),
-        ("queues 5248", "refused 22", "refused 22"),
+        ("queues 7297", "refused 22", "refused 2"),
+        ("queues 7296", "refused 22", "refused 22"),
         ("table 1 9", "refused 22", "refused 22"),
         ("table 1 0", "refused 22", "refused 22"),
         ("table 0 5", "refused 22", "refused 22"),
@@ -143,7 +143,7 @@ fn a_start_is_lent_the_table() {
         assert_eq!(house.say("open 2"), open, "{line}");
         assert_eq!(house.say("start 1 2 3"), "refused 2", "{line}");
     }
-    assert_eq!(house.say("search 1 0 2046"), "ok 0 0");
+    assert_eq!(house.say("search 1 0 2046"), "ok 0 0 0");
     assert_eq!(house.say("search 1 0 2047"), "refused 3");
 }
 
@@ -156,10 +156,10 @@ fn a_house_that_cannot_start_is_a_remark() {
     assert_eq!(house.say("begin 1"), format!("ok {}", T + 1), "the house before still stands");
     house.say("house 1");
     assert_eq!(house.say("begin 1"), format!("ok {T}"));
-    assert_eq!(house.say("read 1 4294967297 2047"), "ok 0");
+    assert_eq!(house.say("read 1 4294967297 2047"), "ok 0 0");
     house.say("table 2 7");
     house.say("house 2");
-    assert_eq!(house.say("search 2 0 7"), "ok 0 0", "the words stay as set");
+    assert_eq!(house.say("search 2 0 7"), "ok 0 0 0", "the words stay as set");
 }
 
 /// After each `house` the table is again as long as the start's number of sites.
@@ -181,11 +181,11 @@ fn a_length_of_the_table_ends_with_its_house() {
 fn a_checksum_begins_with_the_table() {
     let mut house = House::after(3, &["table 2 5", "table 3 9", "house 3", "report 2"]);
     let mut words = vec![0, 5, 9, 0, 0, 0, 0, 0, 2];
-    words.resize(words.len() + 3 + 16 + 2 + 2_048, 0);
+    words.resize(words.len() + 3 + 16 + 2 + 4_096, 0);
     assert!(house.left.ends_with(&format!(" 1 {}", sums::words(3, &words))));
     house.say("open 3");
     let mut words = vec![0, 5, 9, 0, 0, 0, 0, 0];
-    words.resize(words.len() + 32 + 5_248 + 1, 0);
+    words.resize(words.len() + 32 + 7_296 + 1, 0);
     assert!(house.left.ends_with(&format!(" 1 {}", sums::words(3, &words))));
 }
 

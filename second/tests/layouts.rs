@@ -91,10 +91,11 @@ fn entries() {
 
 #[test]
 fn part_records() {
-    let part = [13, 1, 2, 5, 1, T, 3, 2, 9, 256, 1, 300, 2];
+    let part = [15, 1, 2, 5, 1, T, 3, 2, 9, 256, 1, 7, 300, 2, 0];
     assert_eq!(merger(2).merge(&part), Ok(()));
     let part_words = [
-        (0, 12),
+        (0, 14),
+        (0, 13),
         (1, 0),
         (1, 3),
         (1, 4),
@@ -115,8 +116,8 @@ fn part_records() {
         (9, 300),
         (9, 301),
         (9, 255),
-        (11, 256),
-        (11, 2_048),
+        (12, 256),
+        (12, 2_048),
     ];
     for (place, word) in part_words {
         let mut bad = part;
@@ -141,10 +142,11 @@ fn state_records() {
 
 #[test]
 fn merged_records() {
-    let merged = [13, 3, 0, 5, 1, T, 3, 2, 9, 255, 1, 2_047, 2];
+    let merged = [15, 3, 0, 5, 1, T, 3, 2, 9, 255, 1, 7, 2_047, 2, 0];
     assert!(Copy::start().replay(&merged).is_ok());
     let words = [
-        (0, 14),
+        (0, 16),
+        (0, 13),
         (1, 1),
         (1, 2),
         (2, 1),
@@ -157,8 +159,8 @@ fn merged_records() {
         (7, 129),
         (8, 0),
         (9, 2_047),
-        (11, 2_048),
-        (11, 255),
+        (12, 2_048),
+        (12, 255),
     ];
     for (place, word) in words {
         let mut bad = merged;
@@ -166,8 +168,8 @@ fn merged_records() {
         assert_eq!(Copy::start().replay(&bad), Err(Refusal::Impossible), "word {place} = {word}");
     }
     let writes = |count: u64| {
-        let mut words = vec![9 + 2 * count, 3, 0, 5, 1, T, 3, count, 9];
-        (0..count).for_each(|key| words.extend([key, 1]));
+        let mut words = vec![9 + 3 * count, 3, 0, 5, 1, T, 3, count, 9];
+        (0..count).for_each(|key| words.extend([key, 1, 5]));
         words
     };
     assert!(Copy::start().replay(&writes(128)).is_ok());

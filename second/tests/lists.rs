@@ -17,6 +17,7 @@ use second::scripts::generate;
 use second::sizes::*;
 use second::table::{even, Table};
 use second::tally::Tally;
+use second::value::{Value, FRESH};
 use second::world::{Answer, Call};
 
 #[test]
@@ -39,7 +40,7 @@ fn scripts_reach_all_that_they_can() {
     for seed in 1..=150 {
         tally.add(&generate(seed, None).tally);
     }
-    for number in [2, 22, 3, 5, 27, 7, 8, 9, 10, 11, 12, 15, 17] {
+    for number in [2, 22, 3, 5, 27, 7, 8, 9, 10, 11, 29, 12, 15, 17] {
         assert!(tally.get("any line", &format!("refused {number:2}")) > 0, "refusal {number}");
     }
     for number in [1, 4, 6, 26, 13, 14, 16] {
@@ -181,10 +182,11 @@ enum End {
 }
 
 /// Value and count of a search that is answered.
-fn found(house: &mut Probed, [site, snapshot, key]: [u64; 3]) -> Option<[u64; 2]> {
+fn found(house: &mut Probed, [site, snapshot, key]: [u64; 3]) -> Option<(Value, u64)> {
     let outcome = house.say(&format!("search {site} {snapshot} {key}")).strip_prefix("ok ")?;
-    let (value, count) = outcome.split_once(' ')?;
-    Some([value.parse().ok()?, count.parse().ok()?])
+    let words: Vec<u64> = outcome.split(' ').map(|word| word.parse().unwrap()).collect();
+    let &[start, length, count] = words.as_slice() else { return None };
+    Some((Value::new(start, length), count))
 }
 
 /// The last key of each site, as the lines before the last `house` say.
@@ -202,12 +204,12 @@ fn lasts_of(probe: &str) -> Vec<u64> {
 
 /// A version that equals the base value is taken for no hit.
 fn end_of(house: &mut Probed, lasts: &[u64], [site, snapshot, key]: [u64; 3]) -> Option<End> {
-    let [value, count] = found(house, [site, snapshot, key])?;
-    let [base, _] = found(house, [site, 0, key])?;
+    let (value, count) = found(house, [site, snapshot, key])?;
+    let (base, _) = found(house, [site, 0, key])?;
     // Hardly ever do entries have each of the site's last keys.
     let last = lasts[site as usize - 1];
     let visible = (last.saturating_sub(3)..=last)
-        .filter_map(|key| Some(found(house, [site, snapshot, key])?[1]));
+        .filter_map(|key| Some(found(house, [site, snapshot, key])?.1));
     let visible = visible.max()?;
     Some(match count {
         0 => End::NothingVisible,
@@ -246,10 +248,10 @@ fn the_book_finds_a_wrong_copy() {
     let mut copies = vec![Copy::start(); COPIES];
     let mut book = Book::default();
     let begun = Call::Begin { site: 1, desk: HOUSE };
-    let written = Call::Write { site: 1, transaction, key: 5, value: 6 };
+    let written = Call::Write { site: 1, transaction, key: 5, value: bare(6) };
     assert!(book.enter(&begun, &Ok(Answer::Begun(transaction)), &[], &copies).is_ok());
     assert!(book.enter(&written, &Ok(Answer::Done), &[], &copies).is_ok());
-    copies[2].values[5] = 6;
+    copies[2].values[5] = bare(6);
     assert!(book.enter(&Call::Emit, &Ok(Answer::Done), &[], &copies).is_err());
 }
 
@@ -286,7 +288,7 @@ fn the_book_finds_a_key_too_many_and_an_11_too_early() {
     let copies = vec![Copy::start(); COPIES];
     for (desk, limit) in [(PROOFING, 4), (HOUSE, 16)] {
         let mut book = with_part(desk, &to_two(1, 1, 0, desk)).unwrap();
-        let write = |key: u64| Call::Write { site: 1, transaction: T, key, value: 6 };
+        let write = |key: u64| Call::Write { site: 1, transaction: T, key, value: bare(6) };
         for key in 0..limit {
             let early = book.enter(&write(key), &Err(Refusal::TooManyKeys), &[], &copies);
             assert!(early.is_err(), "{key}");
@@ -305,8 +307,8 @@ fn the_book_finds_a_seventeenth_key_read_for_either_desk() {
     for desk in [HOUSE, PROOFING] {
         let mut book = with_part(desk, &to_two(1, 1, 0, desk)).unwrap();
         let read = |key: u64| Call::Read { site: 1, transaction: T, key };
-        let value = Ok(Answer::Value(0));
-        let own = Call::Write { site: 1, transaction: T, key: 99, value: 0 };
+        let value = Ok(Answer::Value(FRESH));
+        let own = Call::Write { site: 1, transaction: T, key: 99, value: FRESH };
         assert!(book.enter(&own, &Ok(Answer::Done), &[], &copies).is_ok());
         assert!(book.enter(&read(99), &value, &[], &copies).is_ok(), "enters no set");
         for key in 0..16 {

@@ -6,7 +6,7 @@ use second::house::House;
 use second::picture::{draw, MOST_EVENTS};
 use second::scripts::generate;
 
-const FIRST: &str = "sites 1\nbegin 1\nwrite 1 4294967297 5 700\ncommit 4294967297\nmerge 1\n\
+const FIRST: &str = "sites 1\nbegin 1\nwrite 1 4294967297 5 700 0\ncommit 4294967297\nmerge 1\n\
                      install 1\nmerge 1\nemit\nreplay 1\nvalue 1 5\n";
 
 /// Site 2 joins; the ABORT that tells it of the end is never taken.
@@ -87,6 +87,19 @@ fn the_head_says_why_a_late_call_is_refused() {
     assert_well_formed(&picture);
     assert_eq!(titles(&picture, "refused"), ["abandon 4294967297"]);
     assert!(picture.contains("refused 27, nothing changes: the stage does not allow the call"));
+}
+
+#[test]
+fn no_value_is_drawn_without_its_length() {
+    let marked = FIRST.replace("5 700 0", "5 700 12");
+    let written = "write 1 4294967297 5 700 18446744073709551615\nread 1 4294967297 5\ncommit";
+    let marked = marked.replacen("commit", written, 1);
+    let picture = draw("marked.house", marked.as_bytes(), false);
+    assert_well_formed(&picture);
+    for text in ["writes key 5: 700 12<", "reads key 5: 700 12<", "key 5: 700 12 at (1, 1)<"] {
+        assert!(picture.contains(text), "{text}");
+    }
+    assert!(picture.contains("refused 29, nothing changes: start plus length"));
 }
 
 #[test]

@@ -55,11 +55,11 @@ fn a_short_buffer_goes_before_everything() {
     refused(&one, 0, 1, |site, out| site.commit(0, out));
     refused(&one, FULL - 1, 1, |site, out| site.abandon(T, out));
     refused(&one, FULL - 1, 1, |site, out| site.message(&[], out));
-    refused(&one, 40, 1, |site, out| site.install(out));
-    refused(&one, 40, 1, |site, out| site.report(out));
+    refused(&one, 56, 1, |site, out| site.install(out));
+    refused(&one, 56, 1, |site, out| site.report(out));
     let mut merger = merger(1);
-    assert_eq!(merger.emit(&mut [0; 264]).unwrap_err().number(), 1);
-    assert_eq!(merger.emit(&mut [0; 265]).unwrap_err().number(), 17);
+    assert_eq!(merger.emit(&mut [0; 392]).unwrap_err().number(), 1);
+    assert_eq!(merger.emit(&mut [0; 393]).unwrap_err().number(), 17);
 }
 
 #[test]
@@ -69,7 +69,7 @@ fn impossible_sites_and_keys() {
     refused(&one, FULL, 2, |site, out| site.enlist(T, 0, out));
     for key in [2_048, u64::MAX] {
         refused(&one, 0, 2, |site, _| site.read(0, key));
-        refused(&one, 0, 2, |site, _| site.write(0, key, 1));
+        refused(&one, 0, 2, |site, _| site.write(0, key, bare(1)));
     }
     for (sites, own) in [(0, 1), (9, 1), (3, 0), (3, 4)] {
         assert_eq!(Site::start(sites, &even(sites), own).unwrap_err().number(), 2);
@@ -84,7 +84,7 @@ fn a_key_or_message_for_another_site() {
     let one = begun();
     for key in [256, 511, 512, 2_047] {
         refused(&one, 0, 3, |site, _| site.read(0, key));
-        refused(&one, 0, 3, |site, _| site.write(0, key, 1));
+        refused(&one, 0, 3, |site, _| site.write(0, key, bare(1)));
     }
     let mut far = message(1, 1, 2, T);
     far[4] = 99;
@@ -110,7 +110,7 @@ fn a_transaction_that_is_not_held() {
     for number in [0, T + 1, u64::MAX, (2 << 32) + 1] {
         refused(&one, FULL, 5, |site, out| site.enlist(number, 1, out));
         refused(&one, 0, 5, |site, _| site.read(number, 1));
-        refused(&one, 0, 5, |site, _| site.write(number, 1, 1));
+        refused(&one, 0, 5, |site, _| site.write(number, 1, bare(1)));
         refused(&one, FULL, 5, |site, out| site.commit(number, out));
         refused(&one, FULL, 5, |site, out| site.abandon(number, out));
     }
@@ -182,14 +182,14 @@ fn a_read_or_write_after_prepare_or_the_commit_request() {
     for (mut site, key) in parts.chain(coordinators().into_iter().zip([0; 7])) {
         // Another one holds the key: 9 would apply as well.
         let other = site.begin(HOUSE).unwrap();
-        site.write(other, key, 1).unwrap();
+        site.write(other, key, bare(1)).unwrap();
         if site.live[0].is_active() {
-            assert_eq!(site.read(T, key), Ok(0));
-            refused(&site, 0, 9, |site, _| site.write(T, key, 2));
+            assert_eq!(site.read(T, key), Ok(bare(0)));
+            refused(&site, 0, 9, |site, _| site.write(T, key, bare(2)));
             continue;
         }
         refused(&site, 0, 27, |site, _| site.read(T, key));
-        refused(&site, 0, 27, |site, _| site.write(T, key, 2));
+        refused(&site, 0, 27, |site, _| site.write(T, key, bare(2)));
     }
 }
 
@@ -235,31 +235,31 @@ fn a_commit_request_with_a_joined_outstanding() {
 fn a_read_or_write_past_a_forgotten_install() {
     let mut one = site(1, 1);
     one.begin(HOUSE).unwrap();
-    one.write(T, 3, 30).unwrap();
+    one.write(T, 3, bare(30)).unwrap();
     one.read(T, 4).unwrap();
     for install in 0..33 {
-        assert_eq!(one.read(T, 4), Ok(0), "after {install} installs");
+        assert_eq!(one.read(T, 4), Ok(bare(0)), "after {install} installs");
         let other = one.begin(HOUSE).unwrap();
         one.commit(other, &mut buffer()).unwrap();
         one.install(&mut buffer()).unwrap();
     }
     refused(&one, 0, 8, |site, _| site.read(T, 4));
-    refused(&one, 0, 8, |site, _| site.write(T, 4, 1));
-    assert_eq!(one.read(T, 3), Ok(30));
-    assert_eq!(one.write(T, 3, 31), Ok(()));
+    refused(&one, 0, 8, |site, _| site.write(T, 4, bare(1)));
+    assert_eq!(one.read(T, 3), Ok(bare(30)));
+    assert_eq!(one.write(T, 3, bare(31)), Ok(()));
 }
 
 #[test]
 fn a_write_to_a_key_held_by_another() {
     let mut one = begun();
     let other = one.begin(HOUSE).unwrap();
-    one.write(T, 7, 70).unwrap();
-    refused(&one, 0, 9, |site, _| site.write(other, 7, 1));
+    one.write(T, 7, bare(70)).unwrap();
+    refused(&one, 0, 9, |site, _| site.write(other, 7, bare(1)));
     one.commit(T, &mut buffer()).unwrap();
-    refused(&one, 0, 9, |site, _| site.write(other, 7, 1));
+    refused(&one, 0, 9, |site, _| site.write(other, 7, bare(1)));
     one.install(&mut buffer()).unwrap();
-    refused(&one, 0, 10, |site, _| site.write(other, 7, 1));
-    assert_eq!(one.read(other, 7), Ok(0));
+    refused(&one, 0, 10, |site, _| site.write(other, 7, bare(1)));
+    assert_eq!(one.read(other, 7), Ok(bare(0)));
 }
 
 #[test]
@@ -292,9 +292,9 @@ fn a_count_that_would_pass_its_end() {
     assert!(two.message(&message(8, 1, 2, T), &mut buffer()).is_ok());
     let mut three = site(1, 1);
     three.installs = u64::MAX;
-    refused(&three, 41, 17, |site, out| site.install(out));
+    refused(&three, 57, 17, |site, out| site.install(out));
     three.live.push(queued(T, Stage::Decided { number: 1 }));
-    refused(&three, 41, 13, |site, out| site.install(out));
+    refused(&three, 57, 13, |site, out| site.install(out));
 }
 
 #[test]
@@ -311,7 +311,7 @@ fn records_that_do_not_ascend() {
     assert_eq!(merger.merge(&[9, 2, 1, 4, 0, 0, 0, 0, 0]), Ok(()));
     assert_eq!(merger, before);
     let mut copy = Copy::start();
-    let merged = [11, 3, 0, 5, 1, T, 1, 1, 9, 6, 66];
+    let merged = [12, 3, 0, 5, 1, T, 1, 1, 9, 6, 66, 7];
     copy.replay(&merged).unwrap();
     let before = copy.clone();
     assert_eq!(copy.replay(&merged).unwrap_err().number(), 14);
@@ -350,6 +350,6 @@ fn a_due_record_whose_parts_lack_or_disagree() {
 
 #[test]
 fn nothing_to_install_or_emit() {
-    refused(&begun(), 41, 17, |site, out| site.install(out));
+    refused(&begun(), 57, 17, |site, out| site.install(out));
     assert_eq!(merger(3).emit(&mut buffer()).unwrap_err().number(), 17);
 }

@@ -9,6 +9,7 @@ use common::*;
 use second::random::Random;
 use second::site::{Found, Site};
 use second::sizes::*;
+use second::value::{Value, FRESH};
 
 const LENGTHS: [u64; 6] = [0, 1, 31, 32, 33, 70];
 const SEEDS: u64 = 6;
@@ -17,7 +18,7 @@ const WRITTEN: std::ops::Range<u64> = 256..268;
 const NEVER: [u64; 3] = [268, 300, 511];
 
 /// What each install of a site wrote, the first install first.
-type Log = Vec<Vec<(u64, u64)>>;
+type Log = Vec<Vec<(u64, Value)>>;
 
 /// Site 2 of three after so many lone saves, and what they wrote.
 fn grown(seed: u64, installs: u64) -> (Site, Log) {
@@ -36,9 +37,9 @@ fn save(site: &mut Site, log: &mut Log, random: &mut Random) {
     let mut writes = Vec::new();
     for _ in 0..random.below(4) {
         let key = random.between(WRITTEN.start, WRITTEN.end - 1);
-        let value = random.word();
+        let value = Value::new(random.word() / 2, random.word() / 2);
         site.write(transaction, key, value).unwrap();
-        writes.retain(|write: &(u64, u64)| write.0 != key);
+        writes.retain(|write: &(u64, Value)| write.0 != key);
         writes.push((key, value));
     }
     site.commit(transaction, &mut buffer()).unwrap();
@@ -60,7 +61,7 @@ fn due(log: &Log, snapshot: u64, key: u64) -> Found {
         Some(hit) => newest - hit + 1,
         None => newest.saturating_sub(forgotten),
     };
-    Found { value: hit.or(left).and_then(wrote).unwrap_or(0), looked_at }
+    Found { value: hit.or(left).and_then(wrote).unwrap_or(FRESH), looked_at }
 }
 
 /// Each snapshot up to two beyond the installs, and some far beyond.
@@ -107,13 +108,14 @@ fn planted(installs: u64, entries: &[&[(u64, u64)]]) -> Site {
 
 fn answer(site: &Site, snapshot: u64, key: u64) -> (u64, u64) {
     let found = site.search(snapshot, key).unwrap();
-    (found.value, found.looked_at)
+    assert_eq!(found.value.length, 0);
+    (found.value.start, found.looked_at)
 }
 
 #[test]
 fn an_entry_that_lacks_the_key_counts_and_so_does_the_hit() {
     let mut one = planted(4, &[&[(6, 60)], &[(5, 70)], &[], &[(5, 80)]]);
-    one.base[7] = 7;
+    one.base[7] = bare(7);
     let answers = |key: u64| [0, 1, 2, 3, 4, 5].map(|snapshot| answer(&one, snapshot, key));
     assert_eq!(answers(5), [(0, 0), (0, 1), (70, 1), (70, 2), (80, 1), (80, 1)]);
     assert_eq!(answers(6), [(0, 0), (60, 1), (60, 2), (60, 3), (60, 4), (60, 4)]);
@@ -123,7 +125,7 @@ fn an_entry_that_lacks_the_key_counts_and_so_does_the_hit() {
 #[test]
 fn a_version_of_0_is_not_passed_over() {
     let mut one = planted(3, &[&[(5, 50)], &[(5, 0)], &[]]);
-    one.base[5] = 9;
+    one.base[5] = bare(9);
     assert_eq!([1, 2, 3].map(|snapshot| answer(&one, snapshot, 5)), [(50, 1), (0, 1), (0, 2)]);
 }
 
@@ -175,10 +177,10 @@ fn no_search_is_refused_for_a_snapshot_a_part_or_a_stage() {
     assert_eq!(two.search(33, 260), Ok(due(&log, 33, 260)));
     for site in participants() {
         let looked_at = site.installs.min(HISTORY as u64);
-        assert_eq!(site.search(u64::MAX, 256), Ok(Found { value: 0, looked_at }));
+        assert_eq!(site.search(u64::MAX, 256), Ok(Found { value: FRESH, looked_at }));
     }
     for site in coordinators() {
-        assert_eq!(site.search(7, 0), Ok(Found { value: 0, looked_at: 0 }));
+        assert_eq!(site.search(7, 0), Ok(Found { value: FRESH, looked_at: 0 }));
     }
 }
 
@@ -208,8 +210,8 @@ fn a_read_finds_what_the_search_of_its_snapshot_finds() {
 fn an_own_write_is_read_and_not_searched() {
     let mut one = planted(2, &[&[(5, 50)], &[(6, 60)]]);
     let writer = one.begin(HOUSE).unwrap();
-    one.write(writer, 5, 51).unwrap();
-    assert_eq!(one.read(writer, 5), Ok(51));
+    one.write(writer, 5, bare(51)).unwrap();
+    assert_eq!(one.read(writer, 5), Ok(bare(51)));
     assert_eq!(answer(&one, 2, 5), (50, 2));
     one.commit(writer, &mut buffer()).unwrap();
     assert_eq!(answer(&one, 3, 5), (50, 2), "decided, not installed");
@@ -217,9 +219,9 @@ fn an_own_write_is_read_and_not_searched() {
     assert_eq!((answer(&one, 3, 5), answer(&one, 2, 5)), ((51, 1), (50, 2)));
 }
 
-/// Lines of a house of two: one save at site 1, which writes 30 at key 3.
+/// Lines of a house of two: one save at site 1, which writes 30 and 12 at key 3.
 fn one_save() -> House {
-    let (write, commit) = (format!("write 1 {T} 3 30"), format!("commit 1 {T}"));
+    let (write, commit) = (format!("write 1 {T} 3 30 12"), format!("commit 1 {T}"));
     House::after(2, &["begin 1", &write, &commit, "install 1"])
 }
 
@@ -229,7 +231,7 @@ fn says<const N: usize>(house: &mut House, lines: [&str; N]) -> [String; N] {
 
 /// A hit, no hit, a key of another site, a key above 2,047.
 const SEARCHES: [&str; 4] = ["search 1 1 3", "search 1 1 4", "search 1 1 300", "search 1 1 2048"];
-const ANSWERS: [&str; 4] = ["ok 30 1", "ok 0 1", "refused 3", "refused 2"];
+const ANSWERS: [&str; 4] = ["ok 30 12 1", "ok 0 0 1", "refused 3", "refused 2"];
 
 #[test]
 fn a_search_alters_no_state_and_writes_no_word() {
@@ -250,7 +252,7 @@ fn a_search_alters_no_state_and_writes_no_word() {
 #[test]
 fn no_table_of_another_length_is_searched() {
     let mut house = one_save();
-    for (verb, length) in [("places", 912), ("slots", 1_696), ("base", 2_048)] {
+    for (verb, length) in [("places", 1_168), ("slots", 2_208), ("base", 4_096)] {
         for lent in [0, length - 1, length + 1, length - 16] {
             house.say(&format!("{verb} {lent}"));
             assert_eq!(says(&mut house, SEARCHES), ["refused 2"; 4], "{verb} {lent}");

@@ -11,6 +11,7 @@ use second::merger::Merger;
 use second::site::Site;
 use second::sizes::*;
 use second::table::{even, is_good, Table};
+use second::value::Value;
 use second::world::{Answer, Call, World};
 
 const T: u64 = (1 << 32) + 1;
@@ -101,10 +102,10 @@ fn the_last_site_of_a_smaller_house_lacks_no_key() {
         let transaction = last.begin(HOUSE).unwrap();
         let first = (sites - 1) * 256;
         for key in [first, first + 255, first + 256, 1_792, 2_046, 2_047] {
-            assert_eq!(last.write(transaction, key, key + 1), Ok(()), "{key} of {sites}");
-            assert_eq!(last.read(transaction, key), Ok(key + 1));
+            assert_eq!(last.write(transaction, key, bare(key + 1)), Ok(()), "{key} of {sites}");
+            assert_eq!(last.read(transaction, key), Ok(bare(key + 1)));
         }
-        refused(&last, 0, 2, |site, _| site.write(transaction, 2_048, 1));
+        refused(&last, 0, 2, |site, _| site.write(transaction, 2_048, bare(1)));
         for own in 1..sites {
             let one = site(sites, own);
             refused(&one, 0, 3, |site, _| site.read(T, 2_047));
@@ -150,23 +151,24 @@ fn a_site_of_one_key_takes_no_other() {
     let mut two = Site::start(3, &firsts, 2).unwrap();
     let transaction = two.begin(HOUSE).unwrap();
     for (key, due) in [(99, 3), (101, 3), (0, 3), (2_047, 3), (2_048, 2)] {
-        refused(&two, 0, due, |site, _| site.write(transaction, key, 1));
+        refused(&two, 0, due, |site, _| site.write(transaction, key, bare(1)));
         refused(&two, 0, due, |site, _| site.read(transaction, key));
         refused(&two, 0, due, |site, _| site.search(0, key));
     }
     for round in 0..40 {
         let transaction = two.begin(PROOFING).unwrap();
-        assert_eq!(two.read(transaction, 100), Ok(round));
-        two.write(transaction, 100, round + 1).unwrap();
+        assert_eq!(two.read(transaction, 100), Ok(bare(round)));
+        two.write(transaction, 100, bare(round + 1)).unwrap();
         two.commit(transaction, &mut buffer()).unwrap();
         two.install(&mut buffer()).unwrap();
     }
-    assert_eq!((two.base[100], two.base.iter().sum::<u64>()), (8, 8), "forgotten into its key");
+    let sum: u64 = two.base.iter().map(|value| value.start + value.length).sum();
+    assert_eq!((two.base[100], sum), (bare(8), 8), "forgotten into its key");
 }
 
 #[test]
 fn a_part_with_a_key_of_another_range_gives_2() {
-    let part = |site: u64, key: u64| [11, 1, site, 5, 1, T, 7, 1, 9, key, 8];
+    let part = |site: u64, key: u64| [12, 1, site, 5, 1, T, 7, 1, 9, key, 8, 2];
     let cases = [
         (1, [0, 99], [100, 101, 2_047, 2_048]),
         (2, [100, 100], [99, 101, 0, u64::MAX]),
@@ -188,10 +190,10 @@ fn a_part_with_a_key_of_another_range_gives_2() {
 
 #[test]
 fn a_copy_places_no_key() {
-    let merged = [15, 3, 0, 5, 1, T, 7, 3, 9, 0, 1, 100, 2, 2_047, 3];
+    let merged = [18, 3, 0, 5, 1, T, 7, 3, 9, 0, 1, 0, 100, 2, 8, 2_047, 3, 0];
     let mut copy = Copy::start();
     assert_eq!(copy.replay(&merged), Ok(Pair::new(5, 1)));
-    assert_eq!(copy.value(100), Ok((2, Pair::new(5, 1))));
+    assert_eq!(copy.value(100), Ok((Value::new(2, 8), Pair::new(5, 1))));
 }
 
 /// A save over three sites with ranges of 100 keys, one key and the rest.
@@ -206,18 +208,18 @@ fn an_uneven_house_from_begin_to_value() {
          take 2 3
          take 1 2
          take 3 2
-         write 1 8589934593 0 10
-         write 1 8589934593 99 11
-         write 1 8589934593 100 12 => refused 3
-         write 2 8589934593 99 12 => refused 3
-         write 2 8589934593 100 12
-         write 2 8589934593 101 12 => refused 3
-         write 3 8589934593 100 13 => refused 3
-         write 3 8589934593 101 13
-         write 3 8589934593 2047 14
-         write 3 8589934593 2048 14 => refused 2
-         read 3 8589934593 2047 => ok 14
-         read 3 8589934593 256 => ok 0
+         write 1 8589934593 0 10 0
+         write 1 8589934593 99 11 0
+         write 1 8589934593 100 12 0 => refused 3
+         write 2 8589934593 99 12 0 => refused 3
+         write 2 8589934593 100 12 0
+         write 2 8589934593 101 12 0 => refused 3
+         write 3 8589934593 100 13 0 => refused 3
+         write 3 8589934593 101 13 0
+         write 3 8589934593 2047 14 0
+         write 3 8589934593 2048 14 0 => refused 2
+         read 3 8589934593 2047 => ok 14 0
+         read 3 8589934593 256 => ok 0 0
          read 1 8589934593 256 => refused 3
          commit 8589934593
          take 2 1
@@ -238,13 +240,13 @@ fn an_uneven_house_from_begin_to_value() {
          merge 3
          emit => ok 1 2 8589934593
          replay 1 => ok 1 2
-         value 1 0 => ok 10 1 2
-         value 1 99 => ok 11 1 2
-         value 1 100 => ok 12 1 2
-         value 1 101 => ok 13 1 2
-         value 1 2047 => ok 14 1 2
+         value 1 0 => ok 10 0 1 2
+         value 1 99 => ok 11 0 1 2
+         value 1 100 => ok 12 0 1 2
+         value 1 101 => ok 13 0 1 2
+         value 1 2047 => ok 14 0 1 2
          value 1 2048 => refused 2
-         value 1 256 => ok 0 1 2",
+         value 1 256 => ok 0 0 1 2",
     );
 }
 
@@ -274,8 +276,8 @@ fn a_sites_line_gives_first_keys_or_none() {
         "sites 2 0 0 => refused 2",
         "sites 2 => refused 2",
         "begin 8 => ok 34359738369",
-        "write 8 34359738369 7 1 => ok",
-        "write 8 34359738369 6 1 => refused 3",
+        "write 8 34359738369 7 1 0 => ok",
+        "write 8 34359738369 6 1 0 => refused 3",
     ];
     play(&lines.join("\n"));
 }
@@ -300,7 +302,7 @@ fn the_book_finds_a_key_at_another_site() {
         let mut book = Book::of(&world);
         let (begin, begun) = (Call::Begin { site, desk: HOUSE }, Ok(Answer::Begun(T)));
         book.enter(&begin, &begun, &[], &copies).unwrap();
-        let write = Call::Write { site, transaction: T, key, value: 1 };
+        let write = Call::Write { site, transaction: T, key, value: bare(1) };
         book.enter(&write, &answer, &[], &copies).is_ok()
     };
     for (site, key) in [(1, 99), (2, 100), (3, 101), (3, 2_047)] {

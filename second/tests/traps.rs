@@ -4,6 +4,7 @@ mod common;
 
 use common::*;
 use second::answer::Decision;
+use second::value::Value;
 
 const T: u64 = (1 << 32) + 1;
 
@@ -51,7 +52,7 @@ fn commit_does_not_install_past_the_queues_head() {
          take 2 1
          take 1 2
          take 2 1
-         write 2 4294967297 256 7
+         write 2 4294967297 256 7 0
          commit 4294967297
          commit 8589934593
          take 1 2
@@ -97,11 +98,11 @@ fn two_readers_may_see_two_independent_saves_in_opposite_orders() {
          begin 1 => ok {first}
          begin 2 => ok {second}
          begin 1 => ok {one}
-         write 1 {one} 5 50
+         write 1 {one} 5 50 0
          commit {one} => ok 1
          install 1 => ok 1 1
          begin 2 => ok {two}
-         write 2 {two} 261 60
+         write 2 {two} 261 60 0
          commit {two} => ok 1
          install 2 => ok 1 2
          enlist {first} 2
@@ -110,10 +111,10 @@ fn two_readers_may_see_two_independent_saves_in_opposite_orders() {
          take 2 1
          take 1 2
          take 2 1
-         read 1 {first} 5 => ok 0
-         read 2 {first} 261 => ok 60
-         read 1 {second} 5 => ok 50
-         read 2 {second} 261 => ok 0
+         read 1 {first} 5 => ok 0 0
+         read 2 {first} 261 => ok 60 0
+         read 1 {second} 5 => ok 50 0
+         read 2 {second} 261 => ok 0 0
          commit {first}
          take 1 2
          take 2 1
@@ -158,7 +159,7 @@ fn words_of_a_whole_save() {
     let (mut one, mut two) = (site(3, 1), site(3, 2));
     two.clock = 8;
     let other = two.begin(HOUSE).unwrap();
-    two.write(other, 300, 1).unwrap();
+    two.write(other, 300, Value::new(1, 4)).unwrap();
     assert_eq!(two.commit(other, &mut buffer()).unwrap().decision, Some(Decision::Commit(9)));
     one.begin(HOUSE).unwrap();
     let (_, join) = sent(&mut one, |site, out| site.enlist(T, 2, out));
@@ -180,9 +181,9 @@ fn words_of_a_whole_save() {
     assert_eq!(commit, [[10, 7, 1, 2, 4, T, 10, 0, 0, 0]]);
     assert_eq!(take(&mut two, &commit[0]), (None, vec![]));
     assert_eq!(two.clock, 10);
-    let mut out = vec![7; 41];
-    assert_eq!(two.install(&mut out).unwrap().words, 11);
-    assert_eq!(out[..12], [11, 1, 2, 9, 2, other, 2, 1, 9, 300, 1, 7]);
+    let mut out = vec![7; 57];
+    assert_eq!(two.install(&mut out).unwrap().words, 12);
+    assert_eq!(out[..13], [12, 1, 2, 9, 2, other, 2, 1, 9, 300, 1, 4, 7]);
     assert_eq!(two.install(&mut out).unwrap().words, 9);
     assert_eq!(out[..9], [9, 1, 2, 10, 1, T, 3, 0, 0]);
 }

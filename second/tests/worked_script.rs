@@ -5,11 +5,11 @@ mod common;
 use common::play;
 use second::house::House;
 
-const SCRIPT: &str = "sites 1\nbegin 1\nwrite 1 4294967297 5 700\ncommit 4294967297\nmerge 1\n\
+const SCRIPT: &str = "sites 1\nbegin 1\nwrite 1 4294967297 5 700 0\ncommit 4294967297\nmerge 1\n\
                       install 1\nmerge 1\nemit\nreplay 1\nvalue 1 5";
 
 const OUTPUT: &str = "1 ok\n2 ok 4294967297\n3 ok\n4 ok 1\n5 refused 17\n6 ok 1 1\n7 ok\n\
-                      8 ok 1 1 4294967297\n9 ok 1 1\n10 ok 700 1 1\n";
+                      8 ok 1 1 4294967297\n9 ok 1 1\n10 ok 700 0 1 1\n";
 
 fn output(script: &str, without_copies: bool) -> String {
     let mut house = House::new(());
@@ -53,7 +53,7 @@ fn other_lines_are_refused_2_and_counted() {
          replay 9 => refused 2
          value 9 0 => refused 2
          value 8 2048 => refused 2
-         value 8 2047 => ok 0 0 0
+         value 8 2047 => ok 0 0 0 0
          take 1 3 => refused 2
          take 1 1 => refused 17
          take 1 2 => refused 17
@@ -81,7 +81,7 @@ fn calls_go_to_the_coordinator_of_their_number() {
          enlist 8589934593 1
          commit 8589934593 => refused 7
          take 2 1
-         write 1 8589934593 7 77
+         write 1 8589934593 7 77 0
          take 1 2
          commit 0 => refused 5
          commit 8589934593
@@ -100,8 +100,8 @@ fn calls_go_to_the_coordinator_of_their_number() {
          emit => ok 1 2 8589934593
          merge 1
          replay 3 => ok 1 2
-         value 3 7 => ok 77 1 2
-         value 4 7 => ok 0 0 0",
+         value 3 7 => ok 77 0 1 2
+         value 4 7 => ok 0 0 0 0",
     );
 }
 

@@ -15,6 +15,7 @@ use Rattle.kinds.specs.declared.Answer.the-variants.{Found}
 use Rattle.kinds.specs.declared.Core.{Core}
 use Rattle.kinds.specs.declared.Reply.{Reply}
 use Rattle.kinds.specs.declared.Site.{Site}
+use Rattle.kinds.specs.declared.Value.{Value}
 use Rattle.rules.specs.Effect.{Effect, refused, unless}
 use Rattle.rules.specs.Desk.{isDesk}
 use Rattle.rules.specs.Begin.{beginCode, begun, beginOf}
@@ -24,7 +25,7 @@ use Rattle.rules.specs.Keys.{readKey, wroteKey, wroteValue}
 use Rattle.rules.specs.Live.{freePlace, placeOf, stageAt}
 use Rattle.rules.specs.Valid.{siteOk}
 use Rattle.rules.specs.Enlist.{enlistOf}
-use Rattle.rules.specs.Access.{accessCode, readCode, readVersion, readAt, readOf, writeCodeAt, written, writeAt, writeOf}
+use Rattle.rules.specs.Access.{accessCode, readCode, readVersion, readAt, readOf, lateCode, written, writeAt, writeOf}
 use Rattle.rules.specs.Commit.{commitOf, abandonOf}
 use Rattle.rules.specs.Install.{installOf, reportOf}
 use Rattle.rules.specs.World as world
@@ -33,12 +34,16 @@ use Rattle.lent.specs.Lent.{siteOf, Replied}
 use Rattle.lines.specs.declared.Command.{Command}
 use Rattle.lines.specs.declared.Command.the-variants as command
 
+-- the value that a write line gives
+abbrev pub highlight : (start long : ℕ) → Value
+highlight start long = record { start = start; length = long }
+
 -- the effect of a line's call on its site, with the site's base values and lists and an outgoing buffer of n words
 unfoldable pub effectOf : Command → Site → List ℕ → List ℕ → ℕ → Effect
 effectOf (command.Begin site d) s base lists n = beginOf s d
 effectOf (command.Enlist tx site) s base lists n = enlistOf s n tx site
 effectOf (command.Read site tx key) s base lists n = readOf s base tx key
-effectOf (command.Write site tx key value) s base lists n = writeOf s tx key value
+effectOf (command.Write site tx key start long) s base lists n = writeOf s tx key (highlight start long)
 effectOf (command.Commit tx) s base lists n = commitOf s n lists tx
 effectOf (command.Abandon tx) s base lists n = abandonOf s n tx
 effectOf (command.Install site) s base lists n = installOf s n base
@@ -58,7 +63,7 @@ baseLeft (command.Sites n given) e base = base
 baseLeft (command.Begin site d) e base = base
 baseLeft (command.Enlist tx site) e base = base
 baseLeft (command.Read site tx key) e base = base
-baseLeft (command.Write site tx key value) e base = base
+baseLeft (command.Write site tx key start long) e base = base
 baseLeft (command.Commit tx) e base = base
 baseLeft (command.Abandon tx) e base = base
 baseLeft (command.Take from to) e base = base
@@ -75,7 +80,7 @@ listsLeft (command.Sites n given) e lists = lists
 listsLeft (command.Begin site d) e lists = lists
 listsLeft (command.Enlist tx site) e lists = lists
 listsLeft (command.Read site tx key) e lists = lists
-listsLeft (command.Write site tx key value) e lists = lists
+listsLeft (command.Write site tx key start long) e lists = lists
 listsLeft (command.Abandon tx) e lists = lists
 listsLeft (command.Take from to) e lists = lists
 listsLeft (command.Install site) e lists = lists
@@ -97,7 +102,8 @@ pub data Makes : Command → ℕ → List ℕ → Call → Type 0 where
   begin : (site d s : ℕ) (out : List ℕ) → Makes (command.Begin site d) s out (world.begin s d)
   enlist : (tx site s : ℕ) (out : List ℕ) → Makes (command.Enlist tx site) s out (world.enlist s out tx site)
   read : (site tx key s : ℕ) (out : List ℕ) → Makes (command.Read site tx key) s out (world.read s tx key)
-  write : (site tx key value s : ℕ) (out : List ℕ) → Makes (command.Write site tx key value) s out (world.write s tx key value)
+  write : (site tx key start long s : ℕ) (out : List ℕ)
+      → Makes (command.Write site tx key start long) s out (world.write s tx key (highlight start long))
   commit : (tx s : ℕ) (out : List ℕ) → Makes (command.Commit tx) s out (world.commit s out tx)
   abandon : (tx s : ℕ) (out : List ℕ) → Makes (command.Abandon tx) s out (world.abandon s out tx)
   install : (site s : ℕ) (out : List ℕ) → Makes (command.Install site) s out (world.install s out)
@@ -123,7 +129,7 @@ steps w c s out k (enlist tx site _ _) =
     record { answer = refl; words = refl; site = at-own (w .site) s _; base = at-own (w .base) s _; lists = at-own (w .lists) s _ }
 steps w c s out k (read site tx key _ _) =
     record { answer = refl; words = refl; site = at-own (w .site) s _; base = at-own (w .base) s _; lists = at-own (w .lists) s _ }
-steps w c s out k (write site tx key v _ _) =
+steps w c s out k (write site tx key start long _ _) =
     record { answer = refl; words = refl; site = at-own (w .site) s _; base = at-own (w .base) s _; lists = at-own (w .lists) s _ }
 steps w c s out k (commit tx _ _) =
     record { answer = refl; words = refl; site = at-own (w .site) s _; base = at-own (w .base) s _; lists = at-own (w .lists) s _ }
@@ -158,16 +164,13 @@ read-quiet s base tx k =
     let code = accessCode (siteOk s) (length base) (s .house) (s .counters .own) k place (stageAt (s .live) place) in
     quiet (eqb code 0) (readAt s base place k) (refused code s []) (read-at-quiet s base place k) refl
 
-write-at-quiet : (s : Site) (place k v : ℕ) → writeAt s place k v .words ≡ []
+write-at-quiet : (s : Site) (place k : ℕ) (v : Value) → writeAt s place k v .words ≡ []
 unfolding writeAt written quietly
-write-at-quiet s place k v =
-    let code = writeCodeAt s place k in
-    quiet (wroteKey (subAt s place .keys) k) (written s place k v) (unless code s [] (written s place k v)) refl
-    (quiet (eqb code 0) (written s place k v) (refused code s []) refl refl)
+write-at-quiet s place k v = quiet (eqb (lateCode s place k v) 0) (written s place k v) (refused (lateCode s place k v) s []) refl refl
 
-pub write-quiet : (s : Site) (tx k v : ℕ) → writeOf s tx k v .words ≡ []
+pub write-quiet : (s : Site) (tx k : ℕ) (v : Value) → writeOf s tx k v .words ≡ []
 unfolding writeOf
 write-quiet s tx k v =
     let place = placeOf (s .live) tx in
-    let code = accessCode (siteOk s) sizes.keys (s .house) (s .counters .own) k place (stageAt (s .live) place) in
+    let code = accessCode (siteOk s) sizes.base (s .house) (s .counters .own) k place (stageAt (s .live) place) in
     quiet (eqb code 0) (writeAt s place k v) (refused code s []) (write-at-quiet s place k v) refl

@@ -69,7 +69,7 @@ unfolding step siteStep logStep effectOf baseLeft listsLeft
 replaces w c s out k (begin site d _ _) = record { site = λ j. refl; base = λ j. refl; lists = λ j. refl }
 replaces w c s out k (enlist tx site _ _) = record { site = λ j. refl; base = λ j. refl; lists = λ j. refl }
 replaces w c s out k (read site tx key _ _) = record { site = λ j. refl; base = λ j. refl; lists = λ j. refl }
-replaces w c s out k (write site tx key v _ _) = record { site = λ j. refl; base = λ j. refl; lists = λ j. refl }
+replaces w c s out k (write site tx key start long _ _) = record { site = λ j. refl; base = λ j. refl; lists = λ j. refl }
 replaces w c s out k (commit tx _ _) = record { site = λ j. refl; base = λ j. refl; lists = λ j. refl }
 replaces w c s out k (abandon tx _ _) = record { site = λ j. refl; base = λ j. refl; lists = λ j. refl }
 replaces w c s out k (install site _ _) = record { site = λ j. refl; base = λ j. refl; lists = upd-same (w .lists) s }
@@ -87,7 +87,7 @@ matched w v cores t u i out left e b l r h low a n =
             live = only-length sizes.liveWords i sizes.sites (t .live) (u .live) low (h .tables .live) (a .others .live);
             history =
                 only-length sizes.historyWords i sizes.sites (t .history) (u .history) low (h .tables .history) (a .others .history);
-            base = only-length sizes.keys i sizes.sites (t .base) (u .base) low (h .tables .base) (a .others .base);
+            base = only-length sizes.base i sizes.sites (t .base) (u .base) low (h .tables .base) (a .others .base);
             lists = only-length sizes.lists i sizes.sites (t .lists) (u .lists) low (h .tables .lists) (a .others .lists);
           };
       site = λ j q. by-test (eqb j i) (λ y. rw (eqb-true j i y) own-site) (λ z. other-site j q (eqb-false j i z));
@@ -120,7 +120,7 @@ matched w v cores t u i out left e b l r h low a n =
 
     other-base : (j : ℕ) → j < sizes.sites → (j ≡ i → ⊥) → ownBase j u ≡ v .base (j + 1)
     other-base j q z =
-        only-elsewhere sizes.keys i j sizes.sites (t .base) (u .base) low (h .tables .base) (a .others .base) z
+        only-elsewhere sizes.base i j sizes.sites (t .base) (u .base) low (h .tables .base) (a .others .base) z
         ∙ h .base j q
         ∙ sym (n .base (j + 1) ∙ upd-other (w .base) (i + 1) (j + 1) b (next j z))
 

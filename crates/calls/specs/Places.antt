@@ -33,7 +33,7 @@ abbrev pub ownHistory : ℕ → Words → List ℕ
 ownHistory i t = own sizes.historyWords i (t .history)
 
 abbrev pub ownBase : ℕ → Words → List ℕ
-ownBase i t = own sizes.keys i (t .base)
+ownBase i t = own sizes.base i (t .base)
 
 abbrev pub ownLists : ℕ → Words → List ℕ
 ownLists i t = own sizes.lists i (t .lists)
@@ -46,7 +46,7 @@ siteIn i p t = siteOf p (ownLive i t) (ownHistory i t)
 pub record Elsewhere (i : ℕ) (t u : Words) : Type 0 where
   pub live : Only sizes.liveWords i (t .live) (u .live)
   pub history : Only sizes.historyWords i (t .history) (u .history)
-  pub base : Only sizes.keys i (t .base) (u .base)
+  pub base : Only sizes.base i (t .base) (u .base)
   pub lists : Only sizes.lists i (t .lists) (u .lists)
 
 -- A call of the site in place i, whose core is p: the words t and the buffer out before it, its effect e, the reply r, and the

@@ -9,7 +9,7 @@ use Rattle.kinds.specs.Sizes as sizes
 pub record Tables (w h b l : List ℕ) : Type 0 where
   pub live : length w ≡ sizes.sites * sizes.liveWords
   pub history : length h ≡ sizes.sites * sizes.historyWords
-  pub base : length b ≡ sizes.sites * sizes.keys
+  pub base : length b ≡ sizes.sites * sizes.base
   pub lists : length l ≡ sizes.sites * sizes.lists
 
 -- a message is lent no base values

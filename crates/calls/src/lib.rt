@@ -4,8 +4,8 @@ mod own;
 use kinds::Core;
 use kinds::House;
 use kinds::Reply;
+use kinds::sizes::BASE;
 use kinds::sizes::HISTORY_WORDS;
-use kinds::sizes::KEYS;
 use kinds::sizes::LISTS;
 use kinds::sizes::LIVE_WORDS;
 use kinds::sizes::OUTGOING;
@@ -33,7 +33,7 @@ pub const LIVES: usize = SITES * LIVE_WORDS;
 
 pub const HISTORIES: usize = SITES * HISTORY_WORDS;
 
-pub const BASES: usize = SITES * KEYS;
+pub const BASES: usize = SITES * BASE;
 
 pub const GATHERINGS: usize = SITES * LISTS;
 
@@ -58,14 +58,14 @@ fn in_place(
 {
     let live_at = place * LIVE_WORDS;
     let history_at = place * HISTORY_WORDS;
-    let base_at = place * KEYS;
+    let base_at = place * BASE;
     let lists_at = place * LISTS;
     own_call(
         p,
         c,
         &mut live[live_at..live_at + LIVE_WORDS],
         &mut history[history_at..history_at + HISTORY_WORDS],
-        &mut base[base_at..base_at + KEYS],
+        &mut base[base_at..base_at + BASE],
         &mut lists[lists_at..lists_at + LISTS],
         out,
     )
@@ -156,12 +156,12 @@ fn start_at(
     lists: &mut [u64],
 ) -> Core
     requires { ⌜ (place < sizes.sites) × Tables (now live) (now history) (now base) (now lists) ⌝ }
-    ensures { λ r. ⌜ r ≡ pick (eqb (startCode (house .sites) (firstsOf house) (place + 1) sizes.keys sizes.lists) 0)
+    ensures { λ r. ⌜ r ≡ pick (eqb (startCode (house .sites) (firstsOf house) (place + 1) sizes.base sizes.lists) 0)
         (freshCore (houseOf (house .sites) (firstsOf house)) (place + 1)) (freshCore noHouse 0) ⌝ }
 {
     let n = house.sites;
     let firsts = house.firsts;
-    let a = place * KEYS;
+    let a = place * BASE;
     let b = place * LISTS;
     let x = place * LIVE_WORDS;
     let y = place * HISTORY_WORDS;
@@ -171,7 +171,7 @@ fn start_at(
         place as u64 + 1,
         &mut live[x..x + LIVE_WORDS],
         &mut history[y..y + HISTORY_WORDS],
-        &mut base[a..a + KEYS],
+        &mut base[a..a + BASE],
         &mut lists[b..b + LISTS],
     );
     let p = o.core;

@@ -1,6 +1,7 @@
 // A line as the call of its site, which is lent its own words.
 use kinds::Core;
 use kinds::Reply;
+use kinds::Value;
 use kinds::reason::MALFORMED;
 use lines::Command;
 ghost use Rattle.calls.specs.Calls.{OwnLeaves};
@@ -25,7 +26,9 @@ pub fn own_call(
         Command::Begin(_, desk) => store::begin(p, live, history, desk),
         Command::Enlist(tx, to) => store::enlist(p, live, history, tx, to, out),
         Command::Read(_, tx, key) => store::read(p, live, history, base, tx, key),
-        Command::Write(_, tx, key, value) => store::write(p, live, history, tx, key, value),
+        Command::Write(_, tx, key, start, length) => {
+            store::write(p, live, history, tx, key, Value { start, length })
+        }
         Command::Commit(tx) => store::commit(p, live, history, tx, lists, out),
         Command::Abandon(tx) => store::abandon(p, live, history, tx, out),
         Command::Install(_) => store::install(p, live, history, base, out),

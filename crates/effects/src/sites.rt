@@ -9,8 +9,9 @@ use kinds::Answer;
 use kinds::Core;
 use kinds::Key;
 use kinds::Reply;
+use kinds::Value;
+use kinds::sizes::BASE;
 use kinds::sizes::HISTORY_WORDS;
-use kinds::sizes::KEYS;
 use kinds::sizes::LIVE_WORDS;
 use pages::is_refused;
 use pieces::front;
@@ -62,6 +63,15 @@ fn start(
     o
 }
 
+// The value is the line's start and length (Q12.8).
+fn write(p: Core, l: Line, live: &mut [u64], history: &[u64]) -> Reply {
+    let value = Value {
+        start: l.d,
+        length: l.e,
+    };
+    store::write(p, live, history, l.b, l.c, value)
+}
+
 // A search hands back no core.
 fn search(p: Core, l: Line, live: &[u64], history: &[u64], base: &[u64]) -> Reply {
     Reply {
@@ -89,7 +99,7 @@ fn call(
         verb::ENLIST => store::enlist(p, live, history, l.b, l.c, out),
         verb::READ => store::read(p, live, history, base, l.b, l.c),
         verb::SEARCH => search(p, l, live, history, base),
-        verb::WRITE => store::write(p, live, history, l.b, l.c, l.d),
+        verb::WRITE => write(p, l, live, history),
         verb::COMMIT => store::commit(p, live, history, l.b, lists, out),
         verb::ABANDON => store::abandon(p, live, history, l.b, out),
         verb::MESSAGE => store::message(p, live, history, m, lists, out),
@@ -152,7 +162,7 @@ fn state_of(a: Answer, p: Core, live: &[u64], history: &[u64], base: &[u64]) -> 
         p,
         front(live, LIVE_WORDS),
         front(history, HISTORY_WORDS),
-        front(base, KEYS),
+        front(base, BASE),
     )
 }
 

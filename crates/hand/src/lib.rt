@@ -109,8 +109,8 @@ fn entries(hand: &mut [u64], n: u64, tx: u64, mask: u64, mark: u64) -> Held {
     has(length)
 }
 
-// n writes of keys and values that ascend by 1, and their count and offset in the header.
-fn writes(hand: &mut [u64], n: u64, key: u64, value: u64) -> Held {
+// n writes of keys and starts that ascend by 1, each of one length (Q12.1), and their count and offset in the header.
+fn writes(hand: &mut [u64], n: u64, key: u64, start: u64, length: u64) -> Held {
     if n > WRITES {
         return has(0);
     }
@@ -118,19 +118,21 @@ fn writes(hand: &mut [u64], n: u64, key: u64, value: u64) -> Held {
     let mut i: usize = 0;
     while i < count {
         let at = RECORD_HEADER + WRITE * i;
+        let value = at + word::WRITE_VALUE;
         put(hand, at, wrapping_add_u64(key, i as u64));
         put(
             hand,
-            at + word::WRITE_VALUE,
-            wrapping_add_u64(value, i as u64),
+            value + word::VALUE_START,
+            wrapping_add_u64(start, i as u64),
         );
+        put(hand, value + word::VALUE_LENGTH, length);
         i += 1;
     }
-    let length = RECORD_HEADER + WRITE * count;
-    put(hand, word::LENGTH, length as u64);
+    let words = RECORD_HEADER + WRITE * count;
+    put(hand, word::LENGTH, words as u64);
     put(hand, word::WRITE_COUNT, n);
     put(hand, word::WRITE_OFFSET, RECORD_HEADER as u64);
-    has(length)
+    has(words)
 }
 
 fn cut(n: u64) -> Held {
@@ -159,7 +161,7 @@ pub fn shaped(l: Line, hand: &mut [u64], now: usize, store: &[u64; STORE], used:
         verb::HEAD => head(hand, l.a, l.b, l.c, l.d),
         verb::ENTRIES => entries(hand, l.a, l.b, l.c, l.d),
         verb::FORM => form(hand, l.a, l.b, l.c, l.d),
-        verb::WRITES => writes(hand, l.a, l.b, l.c),
+        verb::WRITES => writes(hand, l.a, l.b, l.c, l.d),
         _ => has(now),
     }
 }

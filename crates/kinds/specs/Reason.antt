@@ -40,6 +40,9 @@ newer = 10
 abbrev pub tooMany : ℕ
 tooMany = 11
 
+abbrev pub tooLong : ℕ
+tooLong = 29
+
 abbrev pub full : ℕ
 full = 12
 

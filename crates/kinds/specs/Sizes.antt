@@ -62,7 +62,7 @@ abbrev pub recordHeader : ℕ
 recordHeader = 9
 
 abbrev pub value : ℕ
-value = 1
+value = 2
 
 abbrev pub write : ℕ
 write = 1 + value

@@ -2,6 +2,7 @@
 use Prim.Native.Nat.{ℕ}
 use mathlib.Core.List.{[]}
 use lib.ListN.{replicate, set, getD}
+use Rattle.kinds.specs.declared.Value.{Value}
 use Rattle.kinds.specs.declared.Snapshot.{Snapshot}
 use Rattle.kinds.specs.declared.Keys.{Keys}
 use Rattle.kinds.specs.declared.Course.{Course}
@@ -15,12 +16,9 @@ use Rattle.kinds.specs.Sizes as sizes
 use Rattle.kinds.specs.Stage as stage
 use Rattle.kinds.specs.Desk as desk
 
-abbrev pub Value : Type 0
-Value = ℕ
-
--- S11: every value starts at 0
+-- S11 and Q12.2: what every key holds at the start
 abbrev pub fresh : Value
-fresh = 0
+fresh = record { start = 0; length = 0 }
 
 -- past the end
 abbrev pub pastKeys : Keys

@@ -1,5 +1,5 @@
--- Positions of the words of a message, of an entry, of a record, of a write, of a copy, of a part's keys, of a place of the live
--- table and of a slot of the history: the numbers of src/word.rt.
+-- Positions of the words of a message, of an entry, of a record, of a write, of a value, of a copy, of a part's keys, of a place of the
+-- live table and of a slot of the history: the numbers of src/word.rt.
 use Prim.Native.Nat.{ℕ, _+_}
 use Rattle.kinds.specs.Sizes as sizes
 
@@ -68,6 +68,12 @@ writeKey = 0
 
 abbrev pub writeValue : ℕ
 writeValue = 1
+
+abbrev pub valueStart : ℕ
+valueStart = 0
+
+abbrev pub valueLength : ℕ
+valueLength = 1
 
 abbrev pub lastNumber : ℕ
 lastNumber = 0

@@ -15,11 +15,17 @@ use sizes::WRITES;
 // Keys are below 2,048 (S2).
 pub type Key = u64;
 
-// A stored offset.
-pub type Value = u64;
+// A stored highlight: where it starts, and how long it is (Q12.1).
+pub struct Value {
+    pub start: u64,
+    pub length: u64,
+}
 
-// What every key holds at the start.
-pub const FRESH: Value = 0;
+// What every key holds at the start (Q12.2).
+pub const FRESH: Value = Value {
+    start: 0,
+    length: 0,
+};
 
 // How a house is laid out: how many sites it has, and the first key of each, 0 behind them. Which site a key lives at is asked of it
 // alone.

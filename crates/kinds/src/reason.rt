@@ -38,6 +38,9 @@ pub const NEWER: u64 = 10;
 // The key would be the 17th distinct key that the part reads or writes, or the 5th that it writes for the proofing desk.
 pub const TOO_MANY: u64 = 11;
 
+// The value's start plus its length is above 2^64 − 1.
+pub const TOO_LONG: u64 = 29;
+
 // The site has 16 live subtransactions. As a reason: a JOINED said so.
 pub const FULL: u64 = 12;
 

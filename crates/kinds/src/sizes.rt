@@ -41,8 +41,8 @@ pub const GATHERED: usize = ENTRY * CERT_ENTRIES;
 
 pub const LISTS: usize = LIVE * GATHERED;
 
-// Words of a value.
-pub const VALUE: usize = 1;
+// Words of a value: start and length.
+pub const VALUE: usize = 2;
 // Words of a record: header, then writes, each a key and its value.
 pub const RECORD_HEADER: usize = 9;
 

@@ -1,5 +1,5 @@
-// Positions of the words of a message, of an entry, of a record, of a write, of a copy, of a part's keys, of a place of the live
-// table and of a slot of the history.
+// Positions of the words of a message, of an entry, of a record, of a write, of a value, of a copy, of a part's keys, of a place of the
+// live table and of a slot of the history.
 use crate::sizes::READS;
 use crate::sizes::WRITES;
 
@@ -46,6 +46,10 @@ pub const WRITE_OFFSET: usize = 8;
 pub const WRITE_KEY: usize = 0;
 
 pub const WRITE_VALUE: usize = 1;
+
+pub const VALUE_START: usize = 0;
+
+pub const VALUE_LENGTH: usize = 1;
 
 pub const LAST_NUMBER: usize = 0;
 

@@ -62,7 +62,9 @@ no-words n o m = rows-same _ _ m (λ j h. zero-at n (o + j))
 
 no-values : (n o m : ℕ) → valuesFrom (zeros n) o m ≡ rows (λ j. fresh) m
 unfolding valuesFrom valueAt
-no-values n o m = rows-same _ _ m (λ j h. rw (zero-at n (o + sizes.value * j)))
+no-values n o m =
+    rows-same _ _ m (λ j h.
+    rw (zero-at n (o + sizes.value * j + word.valueStart), zero-at n (o + sizes.value * j + word.valueLength)))
 
 no-keys : (n o : ℕ) → keysFrom (zeros n) o ≡ noKeys
 unfolding keysFrom noKeys rows

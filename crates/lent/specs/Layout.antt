@@ -9,7 +9,8 @@ use Rattle.kinds.specs.declared.Keys.{Keys}
 use Rattle.kinds.specs.declared.Sub.{Sub}
 use Rattle.kinds.specs.declared.Entry.{Entry}
 use Rattle.kinds.specs.declared.Seat.{Seat}
-use Rattle.kinds.specs.State.{Value, pastSeat}
+use Rattle.kinds.specs.State.{pastSeat}
+use Rattle.kinds.specs.declared.Value.{Value}
 use Rattle.rules.specs.Value.{valueWords, valueAt}
 use Rattle.lent.specs.Rows.{rows, flat}
 

@@ -1,11 +1,13 @@
 -- Q12.1: values in words behind one another: they are as many words as they should be, and are read back from these words.
 use Prim.Native.Nat.{ℕ, _+_, _*_, _<_}
-use mathlib.Core.Path.{_≡_, _∙_}
+use mathlib.Core.Path.{_≡_, refl, _∙_}
 use mathlib.Core.List.{List}
 use native.Mathlib.Omega.{arith}
 use lib.ListN.{getD, length}
 use Rattle.kinds.specs.Sizes as sizes
-use Rattle.kinds.specs.State.{Value, fresh}
+use Rattle.kinds.specs.Word as word
+use Rattle.kinds.specs.State.{fresh}
+use Rattle.kinds.specs.declared.Value.{Value}
 use Rattle.rules.specs.Value.{valueWords, valueAt}
 use Rattle.rules.specs.ValueLaws.{words-size, value-back}
 use Rattle.lent.specs.Rows.{rows, rows-at, rows-same, rows-read, flat, flat-length, flat-at, flat-rows}
@@ -14,14 +16,11 @@ use Rattle.lent.specs.Layout.{wordsFrom, valuesFrom}
 -- One value: it is what its words are.
 value-same : (w v : List ℕ) (o k : ℕ) → ((j : ℕ) → j < sizes.value → getD w (o + j) 0 ≡ getD v (k + j) 0) → valueAt w o ≡ valueAt v k
 unfolding valueAt
-value-same w v o k p =
-    let here : o + 0 ≡ o = omega arith in
-    let there : k + 0 ≡ k = omega arith in
-    rw (here, there) at (p 0 (omega arith))
+value-same w v o k p = rw (p word.valueStart (omega arith), p word.valueLength (omega arith))
 
 value-words : (w : List ℕ) (o : ℕ) → valueWords (valueAt w o) ≡ rows (λ j. getD w (o + j) 0) sizes.value
 unfolding valueWords valueAt rows
-value-words w o = let here : o + 0 ≡ o = omega arith in rw here
+value-words w o = refl
 
 -- Value i of n from word o on.
 pub values-at : (w : List ℕ) (o n i : ℕ) → i < n → getD (valuesFrom w o n) i fresh ≡ valueAt w (o + sizes.value * i)

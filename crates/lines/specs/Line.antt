@@ -1,5 +1,5 @@
--- A line of a script (H1 to H20): a verb and up to nine decimal numbers below 2^64, with one space between; anything else is Bad.
--- Only `sites` takes more than four: behind its number of sites stand up to eight first keys.
+-- A line of a script (H1 to H20 and Q12.8): a verb and up to nine decimal numbers below 2^64, with one space between; anything else is
+-- Bad. A write has five numbers. Only `sites` takes four or more than five: up to eight first keys stand behind its number of sites.
 use Prim.Native.Nat.{ℕ, suc, _+_, _-_, _*_, _≤_, _<_}
 use mathlib.Core.Path.{_≡_}
 use mathlib.Core.List.{List, [], _∷_}
@@ -106,13 +106,13 @@ threeOf verb a b c =
     (pick (eqb verb (verbOf (114 ∷ 101 ∷ 97 ∷ 100 ∷ []))) (command.Read a b c)  -- read
     command.Bad)
 
-unfoldable pub fourOf : ℕ → ℕ → ℕ → ℕ → ℕ → Command
-fourOf verb a b c d =
-    pick (eqb verb (verbOf (115 ∷ 105 ∷ 116 ∷ 101 ∷ 115 ∷ []))) (command.Sites a 3)  -- sites
-    (pick (eqb verb (verbOf (119 ∷ 114 ∷ 105 ∷ 116 ∷ 101 ∷ []))) (command.Write a b c d)  -- write
+unfoldable pub fiveOf : ℕ → ℕ → ℕ → ℕ → ℕ → ℕ → Command
+fiveOf verb a b c d e =
+    pick (eqb verb (verbOf (115 ∷ 105 ∷ 116 ∷ 101 ∷ 115 ∷ []))) (command.Sites a 4)  -- sites
+    (pick (eqb verb (verbOf (119 ∷ 114 ∷ 105 ∷ 116 ∷ 101 ∷ []))) (command.Write a b c d e)  -- write
     command.Bad)
 
--- a verb with more than four numbers, of which so many stand behind the first
+-- a verb with another count of numbers, of which so many stand behind the first
 unfoldable pub manyOf : ℕ → ℕ → ℕ → Command
 manyOf verb a behind =
     pick (eqb verb (verbOf (115 ∷ 105 ∷ 116 ∷ 101 ∷ 115 ∷ []))) (command.Sites a behind)  -- sites
@@ -126,7 +126,8 @@ commandOf s =
     (pick (eqb (s .ended) 1) (oneOf (getD (s .words) 0 0) (s .word))
     (pick (eqb (s .ended) 2) (twoOf (getD (s .words) 0 0) (getD (s .words) 1 0) (s .word))
     (pick (eqb (s .ended) 3) (threeOf (getD (s .words) 0 0) (getD (s .words) 1 0) (getD (s .words) 2 0) (s .word))
-    (pick (eqb (s .ended) 4) (fourOf (getD (s .words) 0 0) (getD (s .words) 1 0) (getD (s .words) 2 0) (getD (s .words) 3 0) (s .word))
+    (pick (eqb (s .ended) 5)
+    (fiveOf (getD (s .words) 0 0) (getD (s .words) 1 0) (getD (s .words) 2 0) (getD (s .words) 3 0) (getD (s .words) 4 0) (s .word))
     (pick (ltb 9 (s .ended)) command.Bad
     (manyOf (getD (s .words) 0 0) (getD (s .words) 1 0) (s .ended - 1))))))))
 

@@ -1,8 +1,8 @@
-// Lines of a script (H1 to H20 and Q10.7): a verb and up to nine numbers, with one space between two words. A line is read byte by
-// byte, so none is too long, whatever zeros stand before a number.
+// Lines of a script (H1 to H20, Q10.7 and Q12.8): a verb and up to nine numbers, with one space between two words. A line is read byte
+// by byte, so none is too long, whatever zeros stand before a number.
 mod verb;
 
-use verb::four;
+use verb::five;
 use verb::many;
 use verb::none;
 use verb::one;
@@ -20,7 +20,7 @@ pub enum Command {
     Begin(u64, u64),
     Enlist(u64, u64),
     Read(u64, u64, u64),
-    Write(u64, u64, u64, u64),
+    Write(u64, u64, u64, u64, u64),
     Commit(u64),
     Abandon(u64),
     Take(u64, u64),
@@ -200,8 +200,8 @@ pub fn told(s: Place, words: &[u64; WORDS]) -> Command
     if ended == 3 {
         return three(words[0], words[1], words[2], s.word);
     }
-    if ended == 4 {
-        return four(words[0], words[1], words[2], words[3], s.word);
+    if ended == 5 {
+        return five(words[0], words[1], words[2], words[3], words[4], s.word);
     }
     if FULL < ended {
         return Command::Bad;

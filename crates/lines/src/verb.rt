@@ -1,7 +1,7 @@
 // Verbs by how many numbers follow them, each as its letters to the base 256.
 use crate::Command;
 ghost use mathlib.Core.Path.{_≡_};
-ghost use Rattle.lines.specs.Line.{noneOf, oneOf, twoOf, threeOf, fourOf, manyOf};
+ghost use Rattle.lines.specs.Line.{noneOf, oneOf, twoOf, threeOf, fiveOf, manyOf};
 
 // The desk of a `begin` that gives none.
 const HOUSE: u64 = 0;
@@ -82,17 +82,18 @@ pub fn three(verb: u64, a: u64, b: u64, c: u64) -> Command
     }
 }
 
-pub fn four(verb: u64, a: u64, b: u64, c: u64, d: u64) -> Command
-    ensures { λ r. ⌜ r ≡ fourOf verb a b c d ⌝ }
+// A write gives its value as start and length (Q12.8).
+pub fn five(verb: u64, a: u64, b: u64, c: u64, d: u64, e: u64) -> Command
+    ensures { λ r. ⌜ r ≡ fiveOf verb a b c d e ⌝ }
 {
     match verb {
-        SITES => Command::Sites(a, 3),
-        WRITE => Command::Write(a, b, c, d),
+        SITES => Command::Sites(a, 4),
+        WRITE => Command::Write(a, b, c, d, e),
         _ => Command::Bad,
     }
 }
 
-// A verb with more than four numbers, of which so many stand behind the first.
+// A verb with another count of numbers, of which so many stand behind the first.
 pub fn many(verb: u64, a: u64, behind: u64) -> Command
     ensures { λ r. ⌜ r ≡ manyOf verb a behind ⌝ }
 {

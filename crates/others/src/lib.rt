@@ -14,8 +14,8 @@ use hand::shown;
 use hand::store::STORE;
 use kinds::Core;
 use kinds::Merger;
+use kinds::sizes::BASE;
 use kinds::sizes::HISTORY_WORDS;
-use kinds::sizes::KEYS;
 use kinds::sizes::LISTS;
 use kinds::sizes::LIVE_WORDS;
 use kinds::sizes::QUEUES;
@@ -45,7 +45,7 @@ const LIVE_PLACE: usize = LIVE_WORDS + 1;
 
 const HISTORY_PLACE: usize = HISTORY_WORDS + 1;
 
-const BASE_PLACE: usize = KEYS + 1;
+const BASE_PLACE: usize = BASE + 1;
 
 const LISTS_PLACE: usize = LISTS + 1;
 

@@ -9,8 +9,8 @@ use hand::store::keep_letters;
 use hand::store::keep_record;
 use kinds::Answer;
 use kinds::Key;
+use kinds::sizes::BASE;
 use kinds::sizes::HISTORY_WORDS;
-use kinds::sizes::KEYS;
 use kinds::sizes::LISTS;
 use kinds::sizes::LIVE_WORDS;
 use kinds::sizes::OUTGOING;
@@ -62,7 +62,7 @@ fn all_lent(firsts: [Key; TABLE]) -> Lent {
         room: OUTGOING,
         live: LIVE_WORDS,
         history: HISTORY_WORDS,
-        base: KEYS,
+        base: BASE,
         lists: LISTS,
         queues: QUEUES,
         copy: kinds::sizes::COPY,
@@ -257,7 +257,7 @@ fn lend(lent: Lent, verb: u64, n: u64) -> Lent {
             t
         }
         verb::BASE => {
-            t.base = least(n, KEYS + 1);
+            t.base = least(n, BASE + 1);
             t
         }
         verb::LISTS => {

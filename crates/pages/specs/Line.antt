@@ -1,4 +1,4 @@
--- H1 and H5 to H20: what is printed for an event: its number, `ok`, `ok abort` or `refused`, then the results, each behind a space.
+-- H1, H5 to H20 and Q12.8: what is printed for an event: its number, `ok`, `ok abort` or `refused`, then the results, each behind a space.
 use Prim.Native.Nat.{ℕ, _^_, max}
 use Prim.Native.Char.{code}
 use Prim.Native.String.{String, [] as end, _∷_ as _then_}

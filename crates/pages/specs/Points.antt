@@ -1,4 +1,4 @@
--- H2: the ten lines that the worked script prints.
+-- H2 and Q12.8: the ten lines that the worked script prints.
 use Prim.Native.Nat.{ℕ}
 use mathlib.Core.Path.{_≡_, refl}
 use mathlib.Core.List.{List, [], _∷_, _++_}
@@ -22,11 +22,11 @@ printed =
     ∷ lineOf 7 (ok [])
     ∷ lineOf 8 (ok (1 ∷ 1 ∷ 4294967297 ∷ []))
     ∷ lineOf 9 (ok (1 ∷ 1 ∷ []))
-    ∷ lineOf 10 (ok (700 ∷ 1 ∷ 1 ∷ []))
+    ∷ lineOf 10 (ok (700 ∷ 0 ∷ 1 ∷ 1 ∷ []))
     ∷ [])
 
 pub prints : printed
-    ≡ bytesOf "1 ok\n2 ok 4294967297\n3 ok\n4 ok 1\n5 refused 17\n6 ok 1 1\n7 ok\n8 ok 1 1 4294967297\n9 ok 1 1\n10 ok 700 1 1\n"
+    ≡ bytesOf "1 ok\n2 ok 4294967297\n3 ok\n4 ok 1\n5 refused 17\n6 ok 1 1\n7 ok\n8 ok 1 1 4294967297\n9 ok 1 1\n10 ok 700 0 1 1\n"
 unfolding firstBelow placesOf decimalOf resultsOf outcomeOf lineOf
 prints = refl
 

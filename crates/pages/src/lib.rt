@@ -1,11 +1,11 @@
-// A line's outcome in words (H1 to H20), gathered in a page.
+// A line's outcome in words (H1 to H20 and Q12.8), gathered in a page.
 mod text;
 
 use kinds::Answer;
 use text::digits;
 use text::put;
 use text::told;
-use text::told_more;
+use text::told_four;
 use text::told_three;
 use text::told_two;
 ghost use mathlib.Core.Path.{_≡_};
@@ -16,7 +16,7 @@ ghost use Rattle.said.specs.Said.{saidOf};
 ghost use Rattle.pages.specs.Laid.{Laid, lineStart, longest, full, nearly, okWith};
 ghost use Rattle.pages.specs.Line.{outcomeOf, lineOf, lineWith};
 
-// Bytes of a page, and of the longest line: four numbers, with at most nine other bytes before each.
+// Bytes of a page, and at most of the longest line: an event's number, ` ok` and four numbers.
 pub const PAGE: usize = 65536;
 
 const LONGEST: usize = 128;
@@ -38,16 +38,18 @@ pub fn is_refused(a: Answer) -> bool
 }
 
 fn outcome(page: &mut [u8], used: usize, a: Answer) -> usize
-    requires { ⌜ used + (okWith 3) ≤ length (now page) ⌝ }
+    requires { ⌜ used + (okWith 4) ≤ length (now page) ⌝ }
     ensures { λ r. ⌜ Laid (now (page .entry)) used (outcomeOf (saidOf a)) (now (page .exit)) r ⌝ }
-    ensures { λ r. ⌜ r ≤ used + (okWith 3) ⌝ }
+    ensures { λ r. ⌜ r ≤ used + (okWith 4) ⌝ }
 {
     match a {
         Answer::Refused(code) => told(page, used, b" refused", code),
         Answer::Done => put(page, used, b" ok"),
         Answer::Begun { tx } => told(page, used, b" ok", tx),
-        Answer::Found { value } => told(page, used, b" ok", value),
-        Answer::Searched { value, looked } => told_two(page, used, value, looked),
+        Answer::Found { value } => told_two(page, used, value.start, value.length),
+        Answer::Searched { value, looked } => {
+            told_three(page, used, value.start, value.length, looked)
+        }
         Answer::Committed { number } => told(page, used, b" ok", number),
         Answer::Aborted { reason } => told(page, used, b" ok abort", reason),
         Answer::Installed {
@@ -68,7 +70,15 @@ fn outcome(page: &mut [u8], used: usize, a: Answer) -> usize
             value,
             number,
             coordinator,
-        } => told_three(page, used, value, number, coordinator),
+        } => told_four(
+            page,
+            used,
+            b" ok",
+            value.start,
+            value.length,
+            number,
+            coordinator,
+        ),
     }
 }
 
@@ -128,7 +138,7 @@ fn line_with(
 {
     let next = digits(page, used, event);
     let told = outcome(page, next, a);
-    let last = told_more(page, told, b, c, d, e);
+    let last = told_four(page, told, b" ;", b, c, d, e);
     put(page, last, b"\n")
 }
 

@@ -91,12 +91,12 @@ pub fn told_three(page: &mut [u8], used: usize, a: u64, b: u64, c: u64) -> usize
     three_numbers(page, next, a, b, c)
 }
 
-// Four numbers behind an outcome.
-pub fn told_more(page: &mut [u8], used: usize, a: u64, b: u64, c: u64, d: u64) -> usize
-    requires { ⌜ used + (2 + fields 4) ≤ length (now page) ⌝ }
-    ensures { λ r. ⌜ Laid (now (page .entry)) used (bytesOf " ;" ++ resultsOf (a ∷ b ∷ c ∷ d ∷ [])) (now (page .exit)) r ⌝ }
-    ensures { λ r. ⌜ r ≤ used + (2 + fields 4) ⌝ }
+// Four numbers behind ` ok`, or behind an outcome.
+pub fn told_four(page: &mut [u8], used: usize, word: &[u8], a: u64, b: u64, c: u64, d: u64) -> usize
+    requires { ⌜ used + (length (now word) + fields 4) ≤ length (now page) ⌝ }
+    ensures { λ r. ⌜ Laid (now (page .entry)) used (now (word .entry) ++ resultsOf (a ∷ b ∷ c ∷ d ∷ [])) (now (page .exit)) r ⌝ }
+    ensures { λ r. ⌜ r ≤ used + (length (now (word .entry)) + fields 4) ⌝ }
 {
-    let next = put(page, used, b" ;");
+    let next = put(page, used, word);
     four_numbers(page, next, a, b, c, d)
 }

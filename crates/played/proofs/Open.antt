@@ -6,6 +6,7 @@ use Rattle.laws.specs.Overlay as overlay
 use Rattle.kinds.specs.State as state
 use Rattle.rules.specs.House as house
 use Rattle.rules.specs.Desk as desk
+use Rattle.rules.specs.Value as values
 use Rattle.rules.specs.Message as message
 use Rattle.rules.specs.Record as records
 use Rattle.rules.specs.Keys as keys
@@ -36,7 +37,8 @@ unfoldable pub Open : Type 0
 unfolding scan.firstBelow scan.allBelow scan.anyBelow scan.foldBelow pair.precedes digits.onesBelow overlay.overlay overlay.putAt
     state.noKeys state.noSub state.noEntry house.countOk house.tableOk house.restOk house.houseOk house.evenTable house.isSite house.homeOf
     house.isKey house.txOf house.coordinatorOf house.serialOf house.isTx house.maskOf house.inMask house.isMask house.participants
-    house.repliesWanted house.wholeHouse desk.isDesk desk.writeLimit message.entryOffset
+    house.repliesWanted house.wholeHouse desk.isDesk desk.writeLimit values.valueWords values.valueAt values.putValue values.fits
+    values.valuesFit message.entryOffset
     message.messageWords message.entryCount message.messageHead message.messageEntries message.toCoordinator message.coordinatorEnd
     message.carriesClock message.argumentOk message.mostEntries message.endsOk message.headOk message.entryBefore message.entryOk
     message.entryPossible message.messageShape message.messageOk records.writeOffset records.recordWords records.recordHead
@@ -53,9 +55,9 @@ unfolding scan.firstBelow scan.allBelow scan.anyBelow scan.foldBelow pair.preced
     course.abortStep course.withDecision course.commitStep course.decideStep course.withQueueMark course.castStep course.withRequest
     course.prepareStep course.voteDecides course.voteStep course.withStage course.preparedStep course.certifiedStep send.isRecipient
     send.headTo send.wordsTo send.messagesTo send.stepRecipients send.countsLow begin.nextTx begin.beginCode begin.begun begin.beginOf
-    access.keyCode access.accessCode access.readCode access.readVersion access.readAt access.readOf access.writeCode access.writeCodeAt
-    access.written access.writeAt access.writeOf access.searchOf enlist.enlistCode enlist.joinerCode enlist.enlistAt enlist.enlistOf
-    commit.requestCode commit.commitCode
+    access.keyCode access.accessCode access.readCode access.readVersion access.readAt access.readOf access.longCode access.writeCode
+    access.writeCodeAt access.lateCode access.written access.writeAt access.writeOf access.searchOf enlist.enlistCode enlist.joinerCode
+    enlist.enlistAt enlist.enlistOf commit.requestCode commit.commitCode
     commit.requestChange commit.isFull commit.commitChange commit.commitLists commit.commitOf commit.abandonCode commit.abandonOf
     certify.preparedWords certify.installedWords certify.preparedList certify.installedList certify.candidates certify.concurrent
     certify.conflictsAt certify.conflictsWith certify.isRecorded certify.uncertainOf certify.voteOf join.lesserAbove join.leastAbove

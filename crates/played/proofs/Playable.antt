@@ -22,7 +22,7 @@ unfoldable pub playable : World → Line → Bool
 playable w (begin s d) = true
 playable w (enlist tx site) = true
 playable w (read s tx key) = true
-playable w (write s tx key v) = true
+playable w (write s tx key start n) = true
 playable w (search s snapshot key) = true
 playable w (commit tx) = true
 playable w (commitAt s tx) = true
@@ -56,7 +56,7 @@ unfolding playable callOf
 handed w (begin s d) e = tt
 handed w (enlist tx site) e = tt
 handed w (read s tx key) e = tt
-handed w (write s tx key v) e = tt
+handed w (write s tx key start n) e = tt
 handed w (search s snapshot key) e = tt
 handed w (commit tx) e = tt
 handed w (commitAt s tx) e = tt

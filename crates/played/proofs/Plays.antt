@@ -1,4 +1,4 @@
--- The four scripts, computed.
+-- The five scripts, computed.
 use mathlib.Core.Path.{_≡_, refl}
 use mathlib.Core.List.{[], _∷_}
 use lib.ListN.{take, drop}
@@ -13,6 +13,7 @@ use Rattle.played.specs.First.{firstScript, firstCalls}
 use Rattle.played.specs.Second.{secondScript, secondCalls, sends, secondMail, secondBook}
 use Rattle.played.specs.Third.{thirdScript, thirdCalls, thirdMail, proofing, whole}
 use Rattle.played.specs.Fourth.{fourthScript, fourthCalls, uneven}
+use Rattle.played.specs.Fifth.{fifthScript, fifthCalls, fifthLog}
 use Rattle.played.proofs.Open.{Open}
 use Rattle.played.proofs.Playable.{lawful}
 
@@ -76,3 +77,15 @@ fourth-lawful = lawful (freshWorld uneven) (linesOf fourthScript) refl
 pub fourth-answers : answersFrom (freshWorld uneven) fourthCalls ≡ answersOf fourthScript
 unfolding Open fourthCalls fourthScript
 fourth-answers = refl
+
+pub fifth-lawful : Lawful (freshWorld (even 1)) fifthCalls
+unfolding Open fifthCalls fifthScript
+fifth-lawful = lawful (freshWorld (even 1)) (linesOf fifthScript) refl
+
+pub fifth-answers : answersFrom (freshWorld (even 1)) fifthCalls ≡ answersOf fifthScript
+unfolding Open fifthCalls fifthScript
+fifth-answers = refl
+
+pub fifth-log : run (freshWorld (even 1)) fifthCalls .log 1 ≡ fifthLog
+unfolding Open fifthCalls fifthScript fifthLog
+fifth-log = refl

@@ -13,7 +13,7 @@ use Rattle.rules.specs.Book.{Fact, began, used, wrote, committed, installed, re
 use Rattle.rules.specs.Claim.{Demand3, Committed, Dependent, on-write-of-other, Parts, Saw, NoneHalfSeen}
 use Rattle.rules.proofs.demand.Theorem.{demand3}
 use Rattle.rules.proofs.houses.Placed.{keys-placed}
-use Rattle.played.specs.Script.{even}
+use Rattle.played.specs.Script.{even, highlight}
 use Rattle.played.specs.Second.{secondCalls, secondBook, spanning, halfSeeing, later}
 use Rattle.played.specs.Seen.{SawBoth, SawHalf}
 use Rattle.played.proofs.Playable.{is-at}
@@ -38,7 +38,7 @@ spanning-committed = stands secondBook 6 refl
 -- `later` used keys 5 and 261
 later-touches : Dependent secondBook later spanning
 unfolding secondBook
-later-touches = on-write-of-other 5 (stands secondBook 17 refl) (700, stands secondBook 3 refl)
+later-touches = on-write-of-other 5 (stands secondBook 17 refl) (highlight 700 0, stands secondBook 3 refl)
 
 later-parts : (Parts secondBook 1 later spanning) × (Parts secondBook 2 later spanning)
 unfolding secondBook
@@ -87,7 +87,7 @@ saw-both = ((later-touches, later-parts .0, later-parts .1, later-saw-1), later-
 -- `halfSeeing` used them too
 half-touches : Dependent secondBook halfSeeing spanning
 unfolding secondBook
-half-touches = on-write-of-other 5 (stands secondBook 10 refl) (700, stands secondBook 3 refl)
+half-touches = on-write-of-other 5 (stands secondBook 10 refl) (highlight 700 0, stands secondBook 3 refl)
 
 half-parts : (Parts secondBook 1 halfSeeing spanning) × (Parts secondBook 2 halfSeeing spanning)
 unfolding secondBook

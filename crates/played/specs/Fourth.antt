@@ -6,7 +6,8 @@ use Rattle.kinds.specs.declared.Answer.the-variants.{Refused, Done, Begun, Foun
 use Rattle.kinds.specs.declared.House.{House}
 use Rattle.rules.specs.House.{houseOf}
 use Rattle.rules.specs.World.{Call}
-use Rattle.played.specs.Script.{Told, _⟶_, begin, enlist, read, write, commit, take, install, merge, emit, replay, value, callsOf}
+use Rattle.played.specs.Script.{Told, _⟶_, highlight, begin, enlist, read, write, commit, take, install, merge, emit, replay}
+use Rattle.played.specs.Script.{value, callsOf}
 
 abbrev pub uneven : House
 uneven = houseOf 3 (0 ∷ 700 ∷ 701 ∷ [])
@@ -21,22 +22,22 @@ reader = 12884901889
 unfoldable pub fourthScript : List Told
 fourthScript =
     begin 1 0 ⟶ Begun spread
-    ∷ write 1 spread 0 5 ⟶ Done
-    ∷ write 1 spread 699 10 ⟶ Done
-    ∷ write 1 spread 700 11 ⟶ Refused 3
-    ∷ write 1 spread 2047 12 ⟶ Refused 3
-    ∷ write 1 spread 2048 13 ⟶ Refused 2
+    ∷ write 1 spread 0 5 0 ⟶ Done
+    ∷ write 1 spread 699 10 0 ⟶ Done
+    ∷ write 1 spread 700 11 0 ⟶ Refused 3
+    ∷ write 1 spread 2047 12 0 ⟶ Refused 3
+    ∷ write 1 spread 2048 13 0 ⟶ Refused 2
     ∷ enlist spread 2 ⟶ Done
     ∷ enlist spread 3 ⟶ Done
     ∷ enlist spread 4 ⟶ Refused 2
     ∷ take 1 2 1 ⟶ Done
     ∷ take 1 3 1 ⟶ Done
-    ∷ write 2 spread 699 20 ⟶ Refused 3
-    ∷ write 2 spread 700 21 ⟶ Done
-    ∷ write 2 spread 701 22 ⟶ Refused 3
-    ∷ write 3 spread 700 30 ⟶ Refused 3
-    ∷ write 3 spread 701 31 ⟶ Done
-    ∷ write 3 spread 2047 32 ⟶ Done
+    ∷ write 2 spread 699 20 0 ⟶ Refused 3
+    ∷ write 2 spread 700 21 0 ⟶ Done
+    ∷ write 2 spread 701 22 0 ⟶ Refused 3
+    ∷ write 3 spread 700 30 0 ⟶ Refused 3
+    ∷ write 3 spread 701 31 0 ⟶ Done
+    ∷ write 3 spread 2047 32 0 ⟶ Done
     ∷ take 2 1 1 ⟶ Done
     ∷ take 3 1 1 ⟶ Done
     -- It commits at the three sites.
@@ -55,7 +56,7 @@ fourthScript =
     ∷ install 2 ⟶ Installed 1 1
     ∷ install 3 ⟶ Installed 1 1
     ∷ begin 3 1 ⟶ Begun reader
-    ∷ read 3 reader 2047 ⟶ Found 32
+    ∷ read 3 reader 2047 ⟶ Found (highlight 32 0)
     ∷ read 3 reader 700 ⟶ Refused 3
     -- The merger takes the three parts, and a copy the record of them all.
     ∷ merge 1 1 ⟶ Done
@@ -63,10 +64,10 @@ fourthScript =
     ∷ merge 3 1 ⟶ Done
     ∷ emit ⟶ Emitted 1 1 spread
     ∷ replay 1 1 ⟶ Replayed 1 1
-    ∷ value 1 699 ⟶ Standing 10 1 1
-    ∷ value 1 700 ⟶ Standing 21 1 1
-    ∷ value 1 701 ⟶ Standing 31 1 1
-    ∷ value 1 2047 ⟶ Standing 32 1 1
+    ∷ value 1 699 ⟶ Standing (highlight 10 0) 1 1
+    ∷ value 1 700 ⟶ Standing (highlight 21 0) 1 1
+    ∷ value 1 701 ⟶ Standing (highlight 31 0) 1 1
+    ∷ value 1 2047 ⟶ Standing (highlight 32 0) 1 1
     ∷ []
 
 unfoldable pub fourthCalls : List Call

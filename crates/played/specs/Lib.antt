@@ -4,4 +4,5 @@ pub mod First
 pub mod Second
 pub mod Third
 pub mod Fourth
+pub mod Fifth
 pub mod Seen

@@ -9,7 +9,7 @@ use lib.Dec.{eqb}
 use Rattle.laws.specs.Choice.{every}
 use Rattle.laws.specs.Scan.{firstBelow}
 use Rattle.kinds.specs.Sizes as sizes
-use Rattle.kinds.specs.State.{Value}
+use Rattle.kinds.specs.declared.Value.{Value}
 use Rattle.kinds.specs.declared.Answer.{Answer}
 use Rattle.kinds.specs.declared.House.{House}
 use Rattle.rules.specs.House.{houseOf, evenTable, coordinatorOf}
@@ -21,7 +21,7 @@ pub data Line : Type 0 where
   begin : (s desk : ℕ) → Line
   enlist : (tx site : ℕ) → Line
   read : (s tx key : ℕ) → Line
-  write : (s tx key : ℕ) (value : Value) → Line
+  write : (s tx key start length : ℕ) → Line
   search : (s snapshot key : ℕ) → Line
   commit : (tx : ℕ) → Line
   commitAt : (s tx : ℕ) → Line
@@ -33,6 +33,10 @@ pub data Line : Type 0 where
   emit : Line
   replay : (copy place : ℕ) → Line
   value : (copy key : ℕ) → Line
+
+-- the value of a start and a length
+abbrev pub highlight : ℕ → ℕ → Value
+highlight start n = record { start = start; length = n }
 
 -- a buffer of n words
 abbrev pub room : ℕ → List ℕ
@@ -51,7 +55,7 @@ unfoldable pub callOf : World → Line → Call
 callOf w (begin s d) = world.begin s d
 callOf w (enlist tx site) = world.enlist (coordinatorOf tx) (room sizes.outgoing) tx site
 callOf w (read s tx key) = world.read s tx key
-callOf w (write s tx key v) = world.write s tx key v
+callOf w (write s tx key start n) = world.write s tx key (highlight start n)
 callOf w (search s snapshot key) = world.search s snapshot key
 callOf w (commit tx) = world.commit (coordinatorOf tx) (room sizes.outgoing) tx
 callOf w (commitAt s tx) = world.commit s (room sizes.outgoing) tx

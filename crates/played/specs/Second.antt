@@ -9,8 +9,8 @@ use Rattle.rules.specs.Message.{messageWords, entryCount}
 use Rattle.rules.specs.Course.{headOf}
 use Rattle.rules.specs.World.{Call}
 use Rattle.rules.specs.Book.{Fact, began, used, wrote, committed, installed, replayed}
-use Rattle.played.specs.Script.{Told, _⟶_, begin, enlist, read, write, search, commit, commitAt, abandon, take, install, report}
-use Rattle.played.specs.Script.{merge, emit, replay, value, even, callsOf}
+use Rattle.played.specs.Script.{Told, _⟶_, highlight, begin, enlist, read, write, search, commit, commitAt, abandon, take, install}
+use Rattle.played.specs.Script.{report, merge, emit, replay, value, even, callsOf}
 
 -- the first, second and third of site 1, the first and second of site 2
 abbrev pub spanning : ℕ
@@ -36,8 +36,8 @@ secondScript =
     ∷ take 1 2 1 ⟶ Done
     ∷ take 1 2 1 ⟶ Refused 4
     ∷ take 2 1 1 ⟶ Done
-    ∷ write 1 spanning 5 700 ⟶ Done
-    ∷ write 2 spanning 261 900 ⟶ Done
+    ∷ write 1 spanning 5 700 0 ⟶ Done
+    ∷ write 2 spanning 261 900 0 ⟶ Done
     -- Its commit request: PREPARE, CONC, CERT, VOTE. With site 2's yes it commits, and COMMIT goes out.
     ∷ commit spanning ⟶ Done
     ∷ take 1 2 2 ⟶ Done
@@ -45,27 +45,27 @@ secondScript =
     ∷ commitAt 2 spanning ⟶ Refused 26
     ∷ commitAt 1 spanning ⟶ Refused 27
     ∷ enlist spanning 2 ⟶ Refused 27
-    ∷ write 2 spanning 262 1 ⟶ Refused 27
+    ∷ write 2 spanning 262 1 0 ⟶ Refused 27
     ∷ take 2 1 2 ⟶ Done
     ∷ take 1 2 3 ⟶ Done
     ∷ take 2 1 3 ⟶ Committed 1
     -- `halfSeeing` begins at site 2 before `spanning` is installed there, and at site 1 after it is installed there. Its JOINED
     -- cannot overtake the COMMIT.
     ∷ begin 2 0 ⟶ Begun halfSeeing
-    ∷ search 1 1 5 ⟶ Searched 0 0
+    ∷ search 1 1 5 ⟶ Searched (highlight 0 0) 0
     ∷ install 1 ⟶ Installed 1 1
-    ∷ search 1 1 5 ⟶ Searched 700 1
-    ∷ search 1 0 5 ⟶ Searched 0 0
+    ∷ search 1 1 5 ⟶ Searched (highlight 700 0) 1
+    ∷ search 1 0 5 ⟶ Searched (highlight 0 0) 0
     ∷ enlist halfSeeing 1 ⟶ Done
     ∷ take 2 1 4 ⟶ Done
     ∷ take 1 2 5 ⟶ Refused 4
     ∷ take 1 2 4 ⟶ Done
     ∷ take 1 2 5 ⟶ Done
     -- It reads what `spanning` wrote at site 1, and what stood before that at site 2, where `spanning` still holds the key.
-    ∷ read 1 halfSeeing 5 ⟶ Found 700
-    ∷ read 2 halfSeeing 261 ⟶ Found 0
-    ∷ write 1 halfSeeing 7 777 ⟶ Done
-    ∷ write 2 halfSeeing 261 777 ⟶ Refused 9
+    ∷ read 1 halfSeeing 5 ⟶ Found (highlight 700 0)
+    ∷ read 2 halfSeeing 261 ⟶ Found (highlight 0 0)
+    ∷ write 1 halfSeeing 7 777 0 ⟶ Done
+    ∷ write 2 halfSeeing 261 777 0 ⟶ Refused 9
     ∷ install 2 ⟶ Installed 1 1
     -- PREPARE, CONC, and a CERT that lists `spanning` with mark 1: site 1 votes 18, and the VOTE aborts. Site 1 takes the ABORT.
     ∷ commit halfSeeing ⟶ Done
@@ -79,12 +79,12 @@ secondScript =
     ∷ enlist later 1 ⟶ Done
     ∷ take 2 1 8 ⟶ Done
     ∷ take 1 2 8 ⟶ Done
-    ∷ read 1 later 5 ⟶ Found 700
-    ∷ read 2 later 261 ⟶ Found 900
-    ∷ write 2 later 261 901 ⟶ Done
+    ∷ read 1 later 5 ⟶ Found (highlight 700 0)
+    ∷ read 2 later 261 ⟶ Found (highlight 900 0)
+    ∷ write 2 later 261 901 0 ⟶ Done
     -- Meanwhile `lone` commits at site 1 without a message, and another is abandoned.
     ∷ begin 1 0 ⟶ Begun lone
-    ∷ write 1 lone 6 600 ⟶ Done
+    ∷ write 1 lone 6 600 0 ⟶ Done
     ∷ commit lone ⟶ Committed 2
     ∷ begin 1 0 ⟶ Begun abandoned
     ∷ abandon abandoned ⟶ Aborted 20
@@ -105,8 +105,8 @@ secondScript =
     ∷ emit ⟶ Emitted 1 1 spanning
     ∷ replay 1 1 ⟶ Replayed 1 1
     ∷ replay 1 1 ⟶ Refused 14
-    ∷ value 1 5 ⟶ Standing 700 1 1
-    ∷ value 1 261 ⟶ Standing 900 1 1
+    ∷ value 1 5 ⟶ Standing (highlight 700 0) 1 1
+    ∷ value 1 261 ⟶ Standing (highlight 900 0) 1 1
     -- `lone` is due only with the state of site 2.
     ∷ merge 1 2 ⟶ Done
     ∷ emit ⟶ Refused 17
@@ -117,12 +117,12 @@ secondScript =
     ∷ install 1 ⟶ Installed 3 2
     ∷ install 2 ⟶ Installed 3 2
     -- Site 1 has three installs, of `spanning`, `lone` and `later`, which wrote nothing there; site 2 has two that wrote key 261.
-    ∷ search 1 3 5 ⟶ Searched 700 3
-    ∷ search 1 2 5 ⟶ Searched 700 2
-    ∷ search 1 9 6 ⟶ Searched 600 2
-    ∷ search 1 3 7 ⟶ Searched 0 3
-    ∷ search 2 1 261 ⟶ Searched 900 1
-    ∷ search 2 2 261 ⟶ Searched 901 1
+    ∷ search 1 3 5 ⟶ Searched (highlight 700 0) 3
+    ∷ search 1 2 5 ⟶ Searched (highlight 700 0) 2
+    ∷ search 1 9 6 ⟶ Searched (highlight 600 0) 2
+    ∷ search 1 3 7 ⟶ Searched (highlight 0 0) 3
+    ∷ search 2 1 261 ⟶ Searched (highlight 900 0) 1
+    ∷ search 2 2 261 ⟶ Searched (highlight 901 0) 1
     ∷ search 2 2 5 ⟶ Refused 3
     ∷ search 1 3 2048 ⟶ Refused 2
     ∷ merge 1 3 ⟶ Done
@@ -172,9 +172,9 @@ secondBook =
     began 1 spanning
     ∷ began 2 spanning
     ∷ used spanning 5
-    ∷ wrote spanning 5 700
+    ∷ wrote spanning 5 (highlight 700 0)
     ∷ used spanning 261
-    ∷ wrote spanning 261 900
+    ∷ wrote spanning 261 (highlight 900 0)
     ∷ committed spanning 1 1
     ∷ began 2 halfSeeing
     ∷ installed 1 1 1
@@ -182,17 +182,17 @@ secondBook =
     ∷ used halfSeeing 5
     ∷ used halfSeeing 261
     ∷ used halfSeeing 7
-    ∷ wrote halfSeeing 7 777
+    ∷ wrote halfSeeing 7 (highlight 777 0)
     ∷ installed 2 1 1
     ∷ began 2 later
     ∷ began 1 later
     ∷ used later 5
     ∷ used later 261
     ∷ used later 261
-    ∷ wrote later 261 901
+    ∷ wrote later 261 (highlight 901 0)
     ∷ began 1 lone
     ∷ used lone 6
-    ∷ wrote lone 6 600
+    ∷ wrote lone 6 (highlight 600 0)
     ∷ committed lone 2 1
     ∷ began 1 abandoned
     ∷ committed later 3 2

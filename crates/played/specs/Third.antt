@@ -5,7 +5,7 @@ use mathlib.Core.List.{List, [], _∷_}
 use Rattle.kinds.specs.declared.Answer.the-variants.{Refused, Done, Begun, Found, Committed, Installed}
 use Rattle.kinds.specs.Kind as kind
 use Rattle.rules.specs.World.{Call}
-use Rattle.played.specs.Script.{Told, _⟶_, begin, enlist, read, write, commit, take, install, even, callsOf}
+use Rattle.played.specs.Script.{Told, _⟶_, highlight, begin, enlist, read, write, commit, take, install, even, callsOf}
 use Rattle.played.specs.Second.{sends}
 
 -- the first of site 1 and of site 2
@@ -20,30 +20,30 @@ thirdScript =
     begin 1 1 ⟶ Begun proofing
     ∷ begin 1 2 ⟶ Refused 2
     -- Four keys at the coordinator, one of them again, and no fifth. Reads are not counted with them.
-    ∷ write 1 proofing 0 10 ⟶ Done
-    ∷ write 1 proofing 1 11 ⟶ Done
-    ∷ write 1 proofing 2 12 ⟶ Done
-    ∷ write 1 proofing 3 13 ⟶ Done
-    ∷ write 1 proofing 4 14 ⟶ Refused 11
-    ∷ write 1 proofing 0 20 ⟶ Done
-    ∷ read 1 proofing 4 ⟶ Found 0
+    ∷ write 1 proofing 0 10 0 ⟶ Done
+    ∷ write 1 proofing 1 11 0 ⟶ Done
+    ∷ write 1 proofing 2 12 0 ⟶ Done
+    ∷ write 1 proofing 3 13 0 ⟶ Done
+    ∷ write 1 proofing 4 14 0 ⟶ Refused 11
+    ∷ write 1 proofing 0 20 0 ⟶ Done
+    ∷ read 1 proofing 4 ⟶ Found (highlight 0 0)
     -- JOIN says its desk, and the part at site 2 has it.
     ∷ enlist proofing 2 ⟶ Done
     ∷ take 1 2 1 ⟶ Done
-    ∷ write 2 proofing 256 30 ⟶ Done
-    ∷ write 2 proofing 257 31 ⟶ Done
-    ∷ write 2 proofing 258 32 ⟶ Done
-    ∷ write 2 proofing 259 33 ⟶ Done
-    ∷ write 2 proofing 260 34 ⟶ Refused 11
-    ∷ write 2 proofing 256 40 ⟶ Done
+    ∷ write 2 proofing 256 30 0 ⟶ Done
+    ∷ write 2 proofing 257 31 0 ⟶ Done
+    ∷ write 2 proofing 258 32 0 ⟶ Done
+    ∷ write 2 proofing 259 33 0 ⟶ Done
+    ∷ write 2 proofing 260 34 0 ⟶ Refused 11
+    ∷ write 2 proofing 256 40 0 ⟶ Done
     ∷ take 2 1 1 ⟶ Done
     -- A transaction for the house writes a fifth key at the same site.
     ∷ begin 2 0 ⟶ Begun whole
-    ∷ write 2 whole 260 50 ⟶ Done
-    ∷ write 2 whole 261 51 ⟶ Done
-    ∷ write 2 whole 262 52 ⟶ Done
-    ∷ write 2 whole 263 53 ⟶ Done
-    ∷ write 2 whole 264 54 ⟶ Done
+    ∷ write 2 whole 260 50 0 ⟶ Done
+    ∷ write 2 whole 261 51 0 ⟶ Done
+    ∷ write 2 whole 262 52 0 ⟶ Done
+    ∷ write 2 whole 263 53 0 ⟶ Done
+    ∷ write 2 whole 264 54 0 ⟶ Done
     -- Both commit.
     ∷ commit proofing ⟶ Done
     ∷ take 1 2 2 ⟶ Done

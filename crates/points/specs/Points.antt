@@ -20,7 +20,7 @@ use Rattle.rules.specs.Access.{readOf, writeOf, searchOf}
 use Rattle.rules.specs.Install.{freshSite, installOf, reportOf}
 use Rattle.rules.specs.Merger.{emitOf}
 use Rattle.said.specs.Said.{Said, ok, abort, no, saidOf}
-use Rattle.points.specs.States.{evenHouse, queued, queueOf, queueing, wrote, read, versions, merging, headWords}
+use Rattle.points.specs.States.{evenHouse, value, queued, queueOf, queueing, wrote, read, versions, merging, headWords}
 
 -- the numbers of an answer: 0 and what follows `ok`, 1 and the reason of an abort, 2 and the cause of a refusal
 unfoldable pub numbersOf : Said → List ℕ
@@ -43,13 +43,13 @@ point a b = record { got = a; want = b }
 
 -- what an install answers at a site with that live table
 abbrev installs : List Sub → List ℕ
-installs live = said (installOf (queueing live) sizes.part (replicate sizes.keys 0) .answer)
+installs live = said (installOf (queueing live) sizes.part (replicate sizes.base 0) .answer)
 
 unfoldable pub points : List Point
 points =
     point (homeOf wholeHouse 255 ∷ homeOf wholeHouse 256 ∷ homeOf wholeHouse 2047 ∷ []) (1 ∷ 2 ∷ 8 ∷ [])
     ∷ point (homeOf (evenHouse 2) 512 ∷ homeOf (evenHouse 2) 255 ∷ []) (2 ∷ 1 ∷ [])
-    ∷ point (said (readOf (freshSite wholeHouse 8) (replicate sizes.keys 0) 34359738369 2048 .answer)) (2 ∷ 2 ∷ [])
+    ∷ point (said (readOf (freshSite wholeHouse 8) (replicate sizes.base 0) 34359738369 2048 .answer)) (2 ∷ 2 ∷ [])
     ∷ point (said (beginOf (freshSite (evenHouse 2) 1) desk.house .answer)) (0 ∷ 4294967297 ∷ [])
     ∷ point (said (beginOf (freshSite (evenHouse 2) 2) desk.house .answer)) (0 ∷ 8589934593 ∷ [])
     ∷ point (yes (precedes 16777216 2 16777217 1)) (1 ∷ [])
@@ -59,13 +59,15 @@ points =
     ∷ point (installs (queueOf (queued 1 stage.queued 4) (queued 2 stage.decided 4))) (2 ∷ 17 ∷ [])
     ∷ point (said (reportOf (queueing (replicate sizes.live noSub)) sizes.part .answer)) (0 ∷ 9 ∷ [])
     ∷ point (said (reportOf (queueing (queueOf (queued 1 stage.queued 6) (queued 2 stage.decided 6))) sizes.part .answer)) (0 ∷ 5 ∷ [])
-    ∷ point (said (readOf versions (replicate sizes.keys 0) 4294967301 5 .answer)) (0 ∷ 70 ∷ [])
-    ∷ point (said (searchOf versions (replicate sizes.keys 0) (record { installs = 3 }) 5)) (0 ∷ 70 ∷ 2 ∷ [])
-    ∷ point (said (writeOf versions 4294967301 5 90 .answer)) (2 ∷ 10 ∷ [])
+    ∷ point (said (readOf versions (replicate sizes.base 0) 4294967301 5 .answer)) (0 ∷ 70 ∷ 0 ∷ [])
+    ∷ point (said (searchOf versions (replicate sizes.base 0) (record { installs = 3 }) 5)) (0 ∷ 70 ∷ 0 ∷ 2 ∷ [])
+    ∷ point (said (writeOf versions 4294967301 5 (value 90 0) .answer)) (2 ∷ 10 ∷ [])
+    ∷ point (said (writeOf versions 4294967301 6 (value sizes.last 0) .answer)) (0 ∷ [])
+    ∷ point (said (writeOf versions 4294967301 6 (value sizes.last 1) .answer)) (2 ∷ 29 ∷ [])
     ∷ point (said (emitOf (merging 4) sizes.merged (headWords ++ replicate (sizes.queues - length headWords) 0) .answer)) (2 ∷ 17 ∷ [])
     ∷ point (said (emitOf (merging 5) sizes.merged (headWords ++ replicate (sizes.queues - length headWords) 0) .answer))
     (0 ∷ 5 ∷ 1 ∷ 4294967297 ∷ [])
-    ∷ point (yes (dependent (read 5) (read 5)) ++ yes (dependent (wrote 5 1) (read 5))) (0 ∷ 1 ∷ [])
+    ∷ point (yes (dependent (read 5) (read 5)) ++ yes (dependent (wrote 5 (value 1 0)) (read 5))) (0 ∷ 1 ∷ [])
     ∷ []
 
 unfoldable pub PointsHold : Type 0

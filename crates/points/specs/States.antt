@@ -12,7 +12,8 @@ use Rattle.kinds.specs.declared.Sub.{Sub}
 use Rattle.kinds.specs.declared.Entry.{Entry}
 use Rattle.kinds.specs.declared.Site.{Site}
 use Rattle.kinds.specs.declared.Merger.{Merger}
-use Rattle.kinds.specs.State.{noSub, noKeys, noEntry}
+use Rattle.kinds.specs.declared.Value.{Value}
+use Rattle.kinds.specs.State.{fresh, noSub, noKeys, noEntry}
 use Rattle.rules.specs.House.{houseOf, evenTable, txOf}
 use Rattle.rules.specs.Record.{recordWords}
 use Rattle.rules.specs.Merger.{pastSource}
@@ -47,14 +48,18 @@ queueing live =
       history = replicate sizes.history noEntry;
     }
 
+-- the value of a start and a length
+abbrev pub value : ℕ → ℕ → Value
+value start n = record { start = start; length = n }
+
 -- one key written
-unfoldable pub wrote : ℕ → ℕ → Keys
+unfoldable pub wrote : ℕ → Value → Keys
 wrote k v = record {
   read = 0;
   wrote = 1;
   reads = replicate sizes.reads 0;
   writes = set (replicate sizes.writes 0) 0 k;
-  values = set (replicate sizes.writes 0) 0 v;
+  values = set (replicate sizes.writes fresh) 0 v;
 }
 
 unfoldable pub read : ℕ → Keys
@@ -63,7 +68,7 @@ read k = record {
   wrote = 0;
   reads = set (replicate sizes.reads 0) 0 k;
   writes = replicate sizes.writes 0;
-  values = replicate sizes.writes 0;
+  values = replicate sizes.writes fresh;
 }
 
 unfoldable pub installed : ℕ → Keys → Entry
@@ -86,8 +91,10 @@ versions =
             keys = noKeys;
           });
       history =
-          set (set (set (set (replicate sizes.history noEntry) 0 (installed 1 noKeys)) 1 (installed 2 (wrote 5 70))) 2 (installed 3 noKeys))
-          3 (installed 4 (wrote 5 80));
+          set
+          (set (set (set (replicate sizes.history noEntry) 0 (installed 1 noKeys)) 1 (installed 2 (wrote 5 (value 70 0)))) 2
+          (installed 3 noKeys))
+          3 (installed 4 (wrote 5 (value 80 0)));
     }
 
 -- a merger of two sites: site 1's head is (5, 1) of mask 1, site 2's queue is empty and its state is n

@@ -15,6 +15,7 @@ use kinds::sizes::LIVE;
 use kinds::sizes::PLACE;
 use kinds::sizes::SITES;
 use kinds::sizes::SLOT;
+use kinds::sizes::VALUE;
 use kinds::sizes::WRITES;
 use kinds::word;
 use pieces::put;
@@ -59,14 +60,16 @@ const WROTE: u64 = 9;
 
 const DESK: u64 = 10;
 
-// A key or a value is its group times STEP and its place.
+// A key, or a value's start or length, is its group times STEP and its place.
 const STEP: u64 = 100;
 
 const KEYS_READ: u64 = 1;
 
 const KEYS_WRITTEN: u64 = 2;
 
-const VALUES: u64 = 3;
+const STARTS: u64 = 3;
+
+const LENGTHS: u64 = 4;
 
 fn counters(c: Counters, field: u64, v: u64) -> Counters {
     let mut d = c;
@@ -112,21 +115,24 @@ fn channels(c: Channels, field: u64, v: u64) -> Channels {
     d
 }
 
-// The first word of a group of keys or values; KEYSET where there is none.
-fn group_word(group: u64) -> usize
+// The word of a group at a place; KEYSET where there is none.
+fn group_word(group: u64, place: usize) -> usize
+    requires { ⌜ place < sizes.writes ⌝ }
     ensures { λ r. ⌜ r ≤ sizes.keyset ⌝ }
 {
+    let value = word::KEYS_VALUES + VALUE * place;
     match group {
-        KEYS_READ => word::KEYS_READS,
-        KEYS_WRITTEN => word::KEYS_WRITES,
-        VALUES => word::KEYS_VALUES,
+        KEYS_READ => word::KEYS_READS + place,
+        KEYS_WRITTEN => word::KEYS_WRITES + place,
+        STARTS => value + word::VALUE_START,
+        LENGTHS => value + word::VALUE_LENGTH,
         _ => KEYSET,
     }
 }
 
-// The word of a field among those of a part's keys; KEYSET or more where there is none.
+// The word of a field among those of a part's keys; KEYSET where there is none.
 fn keys_word(field: u64) -> usize
-    ensures { λ r. ⌜ r < sizes.keyset + sizes.writes ⌝ }
+    ensures { λ r. ⌜ r ≤ sizes.keyset ⌝ }
 {
     if field == READ {
         return word::KEYS_READ;
@@ -138,12 +144,12 @@ fn keys_word(field: u64) -> usize
     if WRITES as u64 <= place {
         return KEYSET;
     }
-    group_word(field / STEP) + place as usize
+    group_word(field / STEP, place as usize)
 }
 
-// The word of a field among those of a place; PLACE or more where there is none.
+// The word of a field among those of a place; PLACE where there is none.
 fn place_word(field: u64) -> usize
-    ensures { λ r. ⌜ r < sizes.place + sizes.writes ⌝ }
+    ensures { λ r. ⌜ r ≤ sizes.place ⌝ }
 {
     match field {
         SNAPSHOT => word::PLACE_SNAPSHOT,
@@ -157,9 +163,9 @@ fn place_word(field: u64) -> usize
     }
 }
 
-// The word of a field among those of a slot; SLOT or more where there is none.
+// The word of a field among those of a slot; SLOT where there is none.
 fn slot_word(field: u64) -> usize
-    ensures { λ r. ⌜ r < sizes.slot + sizes.writes ⌝ }
+    ensures { λ r. ⌜ r ≤ sizes.slot ⌝ }
 {
     match field {
         TX => word::SLOT_TX,

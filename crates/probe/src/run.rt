@@ -5,8 +5,8 @@ use effects::start_by;
 use hand::HAND;
 use hand::store::STORE;
 use kinds::Core;
+use kinds::sizes::BASE;
 use kinds::sizes::HISTORY_WORDS;
-use kinds::sizes::KEYS;
 use kinds::sizes::LISTS;
 use kinds::sizes::LIVE_WORDS;
 use kinds::sizes::SITES;
@@ -36,7 +36,7 @@ ghost use Rattle.kinds.specs.Sizes as sizes;
 fn start_at(n: u64, lent: Lent, place: usize) -> Core {
     let mut live = [0u64; LIVE_WORDS];
     let mut history = [0u64; HISTORY_WORDS];
-    let mut base = [0u64; KEYS];
+    let mut base = [0u64; BASE];
     let mut lists = [0u64; LISTS];
     let own = std::num::wrapping_add_u64(place as u64, 1);
     let firsts = lent.firsts;

@@ -8,9 +8,9 @@ use crate::step::site_of;
 use kinds::Answer;
 use kinds::Core;
 use kinds::Merger;
+use kinds::sizes::BASE;
 use kinds::sizes::COPY;
 use kinds::sizes::HISTORY_WORDS;
-use kinds::sizes::KEYS;
 use kinds::sizes::LISTS;
 use kinds::sizes::LIVE_WORDS;
 use kinds::sizes::OUTGOING;
@@ -28,7 +28,7 @@ pub const LIVES: usize = PAIR * LIVE_WORDS;
 
 pub const HISTORIES: usize = PAIR * HISTORY_WORDS;
 
-pub const BASES: usize = PAIR * KEYS;
+pub const BASES: usize = PAIR * BASE;
 
 pub const GATHERINGS: usize = PAIR * LISTS;
 

@@ -19,6 +19,7 @@ use kinds::Core;
 use kinds::Merger;
 use kinds::MergerOut;
 use kinds::Reply;
+use kinds::Value;
 use kinds::desk::HOUSE;
 use kinds::sizes::COPY;
 use kinds::sizes::HISTORY;
@@ -85,6 +86,14 @@ fn key_before(n: u64, back: u64) -> u64 {
     (n % WRITTEN + WRITTEN - back % WRITTEN) % WRITTEN
 }
 
+// What the save writes which so many come before: a start, and a length other than 0.
+fn written_by(n: u64) -> Value {
+    Value {
+        start: n,
+        length: n % WRITTEN + 1,
+    }
+}
+
 // A search at the site, with all that is installed visible.
 fn searched(p: Core, live: &[u64], history: &[u64], base: &[u64]) -> Reply {
     Reply {
@@ -116,8 +125,8 @@ fn at_site(
         },
         1 => store::begin(p, live, history, HOUSE),
         2 => store::enlist(p, live, history, tx, 2, out),
-        5 => store::write(p, live, history, tx, n % WRITTEN, n),
-        6 => store::write(p, live, history, tx, SITE_KEYS + n % WRITTEN, n),
+        5 => store::write(p, live, history, tx, n % WRITTEN, written_by(n)),
+        6 => store::write(p, live, history, tx, SITE_KEYS + n % WRITTEN, written_by(n)),
         7 => store::read(p, live, history, base, tx, UNWRITTEN),
         8 => store::commit(p, live, history, tx, lists, out),
         14 | 16 => store::install(p, live, history, base, out),

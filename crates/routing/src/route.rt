@@ -168,7 +168,7 @@ pub fn routed(sites: u64, c: Command) -> Route
         Command::Begin(site, _) => to_site(sites, site),
         Command::Enlist(tx, site) => to_enlister(sites, tx, site),
         Command::Read(site, _, _) => to_site(sites, site),
-        Command::Write(site, _, _, _) => to_site(sites, site),
+        Command::Write(site, _, _, _, _) => to_site(sites, site),
         Command::Commit(tx) => to_coordinator(sites, tx),
         Command::Abandon(tx) => to_coordinator(sites, tx),
         Command::Take(from, site) => to_receiver(sites, from, site),

@@ -13,3 +13,4 @@ pub mod desks
 pub mod possible
 pub mod refusals
 pub mod houses
+pub mod lengths

@@ -1,4 +1,4 @@
--- C8 to C14, Q5.1, Q5.4, Q5.5, Q10.4 and Q10.5: read, write and search. Nobody waits: the first writer of a key wins.
+-- C8 to C14, Q5.1, Q5.4, Q5.5, Q10.4, Q10.5 and Q12.5: read, write and search. Nobody waits: the first writer of a key wins.
 use Prim.Native.Nat.{ℕ}
 use mathlib.Core.List.{List, [], _∷_, _++_}
 use mathlib.Core.Bool.{Bool, not}
@@ -14,9 +14,11 @@ use Rattle.kinds.specs.declared.Site.{Site}
 use Rattle.kinds.specs.declared.Answer.{Answer}
 use Rattle.kinds.specs.declared.Answer.the-variants.{Refused, Found, Searched}
 use Rattle.kinds.specs.declared.Snapshot.{Snapshot}
-use Rattle.kinds.specs.State.{Value, subAt, withKeys}
+use Rattle.kinds.specs.State.{subAt, withKeys}
+use Rattle.kinds.specs.declared.Value.{Value}
 use Rattle.rules.specs.House.{homeOf, isKey}
 use Rattle.rules.specs.Desk.{writeLimit}
+use Rattle.rules.specs.Value.{fits}
 use Rattle.rules.specs.Keys.{wroteKey, readKey, wroteValue, withRead, withWrite}
 use Rattle.rules.specs.Live.{placeOf, keyHeld, stageAt}
 use Rattle.rules.specs.History.{isForgotten, isNewer, searchIn}
@@ -88,34 +90,41 @@ searchOf s base p k =
     let found = searchIn (s .history) (s .counters .installs) base p k in
     pick (eqb code 0) (Searched (found .value) (found .looked)) (Refused code)
 
--- Write: kept privately; the key is held until install or abort. `most` is how many keys the part's desk lets it write.
-abbrev pub writeCauses : Bool → Bool → Bool → ℕ → ℕ → List Cause
-writeCauses lost held newer most wrote =
+-- Write: kept privately; the key is held until install or abort. The last cause of any write is a value that does not fit,
+abbrev pub longCauses : Value → List Cause
+longCauses v = cause (not (fits v)) reason.tooLong ∷ []
+
+unfoldable pub longCode : Value → ℕ
+longCode v = codeOf (longCauses v)
+
+-- and the only one of a key already written (N4). `most` is how many keys the part's desk lets it write.
+abbrev pub writeCauses : Bool → Bool → Bool → ℕ → ℕ → Value → List Cause
+writeCauses lost held newer most wrote v =
     cause lost reason.forgotten
     ∷ cause held reason.held
     ∷ cause newer reason.newer
     ∷ cause (leb most wrote) reason.tooMany
-    ∷ []
+    ∷ longCauses v
 
-unfoldable pub writeCode : Bool → Bool → Bool → ℕ → ℕ → ℕ
-writeCode lost held newer most wrote = codeOf (writeCauses lost held newer most wrote)
+unfoldable pub writeCode : Bool → Bool → Bool → ℕ → ℕ → Value → ℕ
+writeCode lost held newer most wrote v = codeOf (writeCauses lost held newer most wrote v)
 
-unfoldable pub writeCodeAt : Site → ℕ → ℕ → ℕ
-writeCodeAt s place k =
+unfoldable pub writeCodeAt : Site → ℕ → ℕ → Value → ℕ
+writeCodeAt s place k v =
     let b = subAt s place in
     writeCode (isForgotten (s .counters .installs) (b .snapshot)) (keyHeld (s .live) place k)
-    (isNewer (s .history) (s .counters .installs) (b .snapshot) k) (writeLimit (b .desk)) (b .keys .wrote)
+    (isNewer (s .history) (s .counters .installs) (b .snapshot) k) (writeLimit (b .desk)) (b .keys .wrote) v
+
+unfoldable pub lateCode : Site → ℕ → ℕ → Value → ℕ
+lateCode s place k v = pick (wroteKey (subAt s place .keys) k) (longCode v) (writeCodeAt s place k v)
 
 unfoldable pub written : Site → ℕ → ℕ → Value → Effect
 written s place k v =
     let b = subAt s place in
     changed s place (quietly (withSubOf (turnAt s place) (withKeys b (withWrite (b .keys) k v)))) []
 
--- causes 8 to 11 never arise for a key already written
 unfoldable pub writeAt : Site → ℕ → ℕ → Value → Effect
-writeAt s place k v =
-    pick (wroteKey (subAt s place .keys) k) (written s place k v)
-    (unless (writeCodeAt s place k) s [] (written s place k v))
+writeAt s place k v = unless (lateCode s place k v) s [] (written s place k v)
 
 unfoldable pub writeOf : Site → ℕ → ℕ → Value → Effect
 writeOf s tx k v =

@@ -5,7 +5,7 @@ use mathlib.Core.List.{List}
 use lib.ListN.{length}
 use Rattle.kinds.specs.Sizes as sizes
 use Rattle.kinds.specs.declared.Site.{Site}
-use Rattle.kinds.specs.State.{Value}
+use Rattle.kinds.specs.declared.Value.{Value}
 use Rattle.rules.specs.Live.{placeOf, stageAt}
 use Rattle.rules.specs.Valid.{siteOk}
 use Rattle.rules.specs.Access.{accessCode, readAt, readOf, writeAt, writeOf}

@@ -1,12 +1,13 @@
 -- One case of an answer, and `other` for the rest. (A definition by cases has no catch-all.)
 use Prim.Native.Nat.{ℕ}
 use mathlib.Core.Bool.{Bool, true, false}
+use Rattle.kinds.specs.declared.Value.{Value}
 use Rattle.kinds.specs.declared.Answer.{Answer}
 use Rattle.kinds.specs.declared.Answer.the-variants.{Refused, Done, Begun, Found, Searched, Committed, Aborted, Installed}
 use Rattle.kinds.specs.declared.Answer.the-variants.{Reported, Emitted, Replayed, Standing}
 
 -- by cases; a refusal, an abort, and what search, report, emit and value answer are `other`
-abbrev pub onAnswer : {A : Type 0} → A → A → (ℕ → A) → (ℕ → A) → (ℕ → A) → (ℕ → ℕ → A) → (ℕ → ℕ → A) → Answer → A
+abbrev pub onAnswer : {A : Type 0} → A → A → (ℕ → A) → (Value → A) → (ℕ → A) → (ℕ → ℕ → A) → (ℕ → ℕ → A) → Answer → A
 onAnswer other done begun found committed installed replayed (Refused n) = other
 onAnswer other done begun found committed installed replayed Done = done
 onAnswer other done begun found committed installed replayed (Begun tx) = begun tx
@@ -26,7 +27,7 @@ onDone other f = onAnswer other f (λ tx. other) (λ v. other) (λ n. other) (λ
 abbrev pub onBegun : {A : Type 0} → A → (ℕ → A) → Answer → A
 onBegun other f = onAnswer other other f (λ v. other) (λ n. other) (λ n c. other) (λ n c. other)
 
-abbrev pub onFound : {A : Type 0} → A → (ℕ → A) → Answer → A
+abbrev pub onFound : {A : Type 0} → A → (Value → A) → Answer → A
 onFound other f = onAnswer other other (λ tx. other) f (λ n. other) (λ n c. other) (λ n c. other)
 
 abbrev pub onCommitted : {A : Type 0} → A → (ℕ → A) → Answer → A

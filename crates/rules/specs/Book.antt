@@ -7,7 +7,7 @@ use Rattle.laws.specs.Choice.{pick, every}
 use Rattle.kinds.specs.Kind as kind
 use Rattle.kinds.specs.Reason as reason
 use Rattle.kinds.specs.Word as word
-use Rattle.kinds.specs.State.{Value}
+use Rattle.kinds.specs.declared.Value.{Value}
 use Rattle.kinds.specs.declared.Answer.{Answer}
 use Rattle.rules.specs.House.{coordinatorOf}
 use Rattle.rules.specs.Message.{messageHead}

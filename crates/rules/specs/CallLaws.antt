@@ -6,13 +6,22 @@ use mathlib.Core.List.{[], _∷_}
 use native.Mathlib.Omega.{arith}
 use borrow.Author.Tests.{ltb-false, leb-false, eqb-true, not-false}
 use lib.Dec.{leb, eqb}
-use Rattle.laws.specs.Choice.{every, by-test}
+use Rattle.laws.specs.Choice.{every, by-test, set-not}
 use Rattle.laws.specs.Cause.{codeOf, clear-at, code-append}
 use Rattle.kinds.specs.Sizes as sizes
 use Rattle.kinds.specs.Stage as stage
 use Rattle.kinds.specs.declared.House.{House}
+use Rattle.kinds.specs.declared.Site.{Site}
+use Rattle.kinds.specs.declared.Value.{Value}
+use Rattle.kinds.specs.State.{subAt}
 use Rattle.rules.specs.House.{isKey, homeOf}
+use Rattle.rules.specs.Desk.{writeLimit}
+use Rattle.rules.specs.Value.{fits}
+use Rattle.rules.specs.Keys.{wroteKey}
+use Rattle.rules.specs.Live.{keyHeld}
+use Rattle.rules.specs.History.{isForgotten, isNewer}
 use Rattle.rules.specs.Access.{keyCauses, partCauses, keyCode, accessCauses, accessCode, readCauses, readCode, writeCauses, writeCode}
+use Rattle.rules.specs.Access.{longCauses, longCode, writeCodeAt, lateCode}
 use Rattle.rules.specs.Enlist.{enlistCauses, enlistCode, joinerCauses, joinerCode}
 use Rattle.rules.specs.Commit.{requestCauses, requestCode, commitCauses, commitCode, abandonCauses, abandonCode}
 use Rattle.rules.specs.Deliver.{arrivalCauses, arrivalCode, nextCauses, nextCode, replyCauses, replyCode}
@@ -80,23 +89,44 @@ read-clear lost has read e =
       room = λ h. leb-false sizes.reads read (not-both (not has) (leb sizes.reads read) (clear-at l 1 refl e) (rw h));
     }
 
-pub record WriteClear (lost : Bool) (held : Bool) (newer : Bool) (most wrote : ℕ) : Type 0 where
+pub record WriteClear (lost : Bool) (held : Bool) (newer : Bool) (most wrote : ℕ) (v : Value) : Type 0 where
   pub kept : lost ≡ false
   pub free : held ≡ false
   pub latest : newer ≡ false
   pub room : wrote < most
+  pub short : fits v ≡ true
 
-pub write-clear : (lost : Bool) (held : Bool) (newer : Bool) (most wrote : ℕ) → writeCode lost held newer most wrote ≡ 0
-    → WriteClear lost held newer most wrote
+pub write-clear : (lost : Bool) (held : Bool) (newer : Bool) (most wrote : ℕ) (v : Value) → writeCode lost held newer most wrote v ≡ 0
+    → WriteClear lost held newer most wrote v
 unfolding writeCode
-write-clear lost held newer most wrote e =
-    let l = writeCauses lost held newer most wrote in
+write-clear lost held newer most wrote v e =
+    let l = writeCauses lost held newer most wrote v in
     record {
       kept = (clear-at l 0 refl e);
       free = (clear-at l 1 refl e);
       latest = (clear-at l 2 refl e);
       room = leb-false most wrote (clear-at l 3 refl e);
+      short = not-false (fits v) (clear-at l 4 refl e);
     }
+
+pub long-clear : (v : Value) → longCode v ≡ 0 → fits v ≡ true
+unfolding longCode
+long-clear v e = not-false (fits v) (clear-at (longCauses v) 0 refl e)
+
+-- a write past all its causes: the value fits, and a key that the part has not written is past 8 to 11
+pub record LateClear (s : Site) (place k : ℕ) (v : Value) : Type 0 where
+  pub short : fits v ≡ true
+  pub new : wroteKey (subAt s place .keys) k ≡ false
+      → WriteClear (isForgotten (s .counters .installs) (subAt s place .snapshot)) (keyHeld (s .live) place k)
+      (isNewer (s .history) (s .counters .installs) (subAt s place .snapshot) k) (writeLimit (subAt s place .desk))
+      (subAt s place .keys .wrote) v
+
+pub late-clear : (s : Site) (place k : ℕ) (v : Value) → lateCode s place k v ≡ 0 → LateClear s place k v
+unfolding lateCode writeCodeAt
+late-clear s place k v e =
+    by-test (wroteKey (subAt s place .keys) k)
+    (λ t. record { short = long-clear v (rw t at e); new = λ f. absurd (set-not _ t f) })
+    (λ t. let c = write-clear _ _ _ _ _ v (rw t at e) in record { short = c .short; new = λ f. c })
 
 pub record EnlistClear (ok : Bool) (room : ℕ) (known : Bool) (place : ℕ) (mine : Bool) : Type 0 where
   pub long : sizes.outgoing ≤ room

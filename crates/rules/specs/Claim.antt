@@ -5,7 +5,8 @@ use mathlib.Core.Bool.{true, false}
 use mathlib.Core.List.{List, _∷_, _++_}
 use Rattle.laws.specs.Pair.{precedes}
 use Rattle.kinds.specs.Sizes as sizes
-use Rattle.kinds.specs.State.{Value, fresh}
+use Rattle.kinds.specs.State.{fresh}
+use Rattle.kinds.specs.declared.Value.{Value}
 use Rattle.kinds.specs.declared.House.{House}
 use Rattle.kinds.specs.declared.Answer.the-variants.{Standing}
 use Rattle.rules.specs.House.{homeOf, GoodHouse}

@@ -12,7 +12,7 @@ use Rattle.laws.specs.Pair.{precedes}
 use Rattle.laws.specs.Scan.{all-below-at, fold-more}
 use Rattle.kinds.specs.Reason as reason
 use Rattle.kinds.specs.Sizes as sizes
-use Rattle.rules.specs.Value.{putValue}
+use Rattle.rules.specs.Value.{putValue, fits}
 use Rattle.rules.specs.Record.{keyAscends, mergedOk, mergedTests, mergedWriteOk, recordHead, recordLength, recordWrites, writeKey}
 use Rattle.rules.specs.Record.{writeValue}
 use Rattle.rules.specs.RecordLaws.{merged-clear, merged-passed-good, shape-clear}
@@ -27,7 +27,7 @@ pub record MergedReady (m : List ℕ) : Type 0 where
 
 write-low : (ws : List ℕ) (i : ℕ) → mergedWriteOk ws i ≡ true → writeKey ws i < sizes.keys
 unfolding mergedWriteOk
-write-low ws i e = ltb-true _ _ (every-at (keyAscends ws i ∷ ltb (writeKey ws i) sizes.keys ∷ []) 1 e)
+write-low ws i e = ltb-true _ _ (every-at (keyAscends ws i ∷ ltb (writeKey ws i) sizes.keys ∷ fits (writeValue ws i) ∷ []) 1 e)
 
 pub merged-ready : (m : List ℕ) → mergedOk m ≡ true → MergedReady m
 unfolding mergedOk recordHead

@@ -5,7 +5,8 @@ use mathlib.Core.Bool.{true, false}
 use mathlib.Core.List.{List, _∷_, _++_}
 use lib.ListN.{length, getD}
 use Rattle.kinds.specs.Sizes as sizes
-use Rattle.kinds.specs.State.{Value, subAt}
+use Rattle.kinds.specs.State.{subAt}
+use Rattle.kinds.specs.declared.Value.{Value}
 use Rattle.kinds.specs.declared.House.{House}
 use Rattle.kinds.specs.declared.Site.{Site}
 use Rattle.kinds.specs.declared.Sub.{Sub}
@@ -13,6 +14,7 @@ use Rattle.kinds.specs.declared.Answer.{Answer}
 use Rattle.kinds.specs.declared.Answer.the-variants.{Refused, Done, Begun}
 use Rattle.rules.specs.House.{homeOf, isSite, GoodHouse}
 use Rattle.rules.specs.Desk.{isDesk, writeLimit}
+use Rattle.rules.specs.Value.{Fits}
 use Rattle.rules.specs.Keys.{wroteKey}
 use Rattle.rules.specs.Live.{isPartOf, placeOf, keyHeld, stageAt}
 use Rattle.rules.specs.History.{isForgotten, isNewer}
@@ -39,7 +41,7 @@ module _ (s : Site) (tx k : ℕ) (v : Value) where
   left = subAt (writeOf s tx k v .site) place
 
   -- no cause before 8 holds
-  abbrev Reaches : Type 0
+  abbrev pub Reaches : Type 0
   Reaches = accessCode (siteOk s) sizes.base (s .house) (s .counters .own) k place (stageAt (s .live) place) ≡ 0
 
   -- and none of 8, 9 and 10 does, for a key that the part has not written
@@ -51,11 +53,11 @@ module _ (s : Site) (tx k : ℕ) (v : Value) where
     pub latest : isNewer (s .history) (s .counters .installs) (part .snapshot) k ≡ false
 
   pub record Limited : Type 0 where
-    -- one key more is taken below the desk's limit, and refused 11 at it
-    pub below : OneMore → part .keys .wrote < writeLimit (part .desk) → answer ≡ Done
+    -- one key more is taken below the desk's limit, where its value fits, and refused 11 at it
+    pub below : OneMore → part .keys .wrote < writeLimit (part .desk) → Fits v → answer ≡ Done
     pub full : OneMore → writeLimit (part .desk) ≤ part .keys .wrote → answer ≡ Refused 11
     -- a key already written is taken, at the limit too
-    pub again : Reaches → wroteKey (part .keys) k ≡ true → answer ≡ Done
+    pub again : Reaches → wroteKey (part .keys) k ≡ true → Fits v → answer ≡ Done
     -- nothing else is refused 11
     pub only : answer ≡ Refused 11 → (wroteKey (part .keys) k ≡ false) × (writeLimit (part .desk) ≤ part .keys .wrote)
     -- so a part never passes its limit, and a write leaves it its desk

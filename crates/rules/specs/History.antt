@@ -12,7 +12,8 @@ use Rattle.kinds.specs.declared.Keys.{Keys}
 use Rattle.kinds.specs.declared.Entry.{Entry}
 use Rattle.kinds.specs.declared.Search.{Search}
 use Rattle.kinds.specs.declared.Snapshot.{Snapshot}
-use Rattle.kinds.specs.State.{Value, fresh, pastEntry}
+use Rattle.kinds.specs.State.{fresh, pastEntry}
+use Rattle.kinds.specs.declared.Value.{Value}
 use Rattle.rules.specs.Value.{putValue, baseValue}
 use Rattle.rules.specs.Keys.{wroteKey, wroteValue}
 

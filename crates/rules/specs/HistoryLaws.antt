@@ -9,11 +9,9 @@ use borrow.Author.Tests.{ltb-true, ltb-false, lt-ltb, le-ltb}
 use lib.Dec.{ltb}
 use native.Mathlib.Nat.{mod-eq-of-lt}
 use Rattle.laws.specs.Choice.{by-test}
-use lib.ListN.{getD}
 use Rattle.laws.specs.Scan.{NoneBelow, first-below, first-below-none}
 use Rattle.kinds.specs.declared.Entry.{Entry}
 use Rattle.kinds.specs.declared.Snapshot.{Snapshot}
-use Rattle.kinds.specs.State.{Value, fresh}
 use Rattle.rules.specs.Value.{baseValue}
 use Rattle.rules.specs.Keys.{wroteKey, wroteValue}
 use Rattle.rules.specs.History.{remembered, forgotten, slotOf, recall, isForgotten, within, backwards, newer, versionOf}

@@ -15,7 +15,7 @@ use Rattle.kinds.specs.declared.RecordHead.{RecordHead}
 use Rattle.kinds.specs.declared.House.{House}
 use Rattle.kinds.specs.declared.Site.{Site}
 use Rattle.kinds.specs.declared.Answer.the-variants.{Done, Installed, Reported}
-use Rattle.kinds.specs.State.{Value, noSub, noEntry, subAt, entryAt, withInstalls}
+use Rattle.kinds.specs.State.{noSub, noEntry, subAt, entryAt, withInstalls}
 use Rattle.rules.specs.House.{countOk, tableOk, houseOf, noHouse, isSite, coordinatorOf}
 use Rattle.rules.specs.Record.{recordWords}
 use Rattle.rules.specs.Keys.{sortedCount, sortedWords}

@@ -18,9 +18,11 @@ use Rattle.kinds.specs.declared.Site.{Site}
 use Rattle.kinds.specs.State.{subAt}
 use Rattle.kinds.specs.declared.Answer.the-variants.{Reported}
 use Rattle.rules.specs.House.{houseOk, isSite, isTx, inMask, homeOf, coordinatorOf}
-use Rattle.rules.specs.Keys.{sortedKey, sortedCount, sortedWords}
-use Rattle.rules.specs.KeysLaws.{by-order, words-length, word-key, sorted-low, sorted-ascends, sorted-wrote, wrote-among}
-use Rattle.rules.specs.Record.{partHeadOk, partWriteOk, keyAscends, pairOk, stateHeadOk, partOk, stateOk, writeKey}
+use Rattle.rules.specs.Value.{fits, valuesFit}
+use Rattle.rules.specs.ValueLaws.{each-fits}
+use Rattle.rules.specs.Keys.{keyPlace, wroteKey, wroteValue, sortedKey, sortedCount, sortedWords}
+use Rattle.rules.specs.KeysLaws.{by-order, words-length, word-key, word-value, sorted-low, sorted-ascends, sorted-wrote, wrote-among}
+use Rattle.rules.specs.Record.{partHeadOk, partWriteOk, keyAscends, pairOk, stateHeadOk, partOk, stateOk, writeKey, writeValue}
 use Rattle.rules.specs.RecordLaws.{part-written-passes, state-written-passes}
 use Rattle.rules.specs.Live.{partAt}
 use Rattle.rules.specs.Queue.{isInstallable, leastQueued, stateNumber}
@@ -53,22 +55,29 @@ pub sorted-few : (b : Keys) → sortedCount b ≤ b .wrote
 unfolding sortedCount
 sorted-few b = first-le (λ j. leb sizes.keys (sortedKey b j)) (b .wrote)
 
--- its keys ascend and are of the site
-part-write : (o : House) (own : ℕ) (b : Keys) → ((j : ℕ) → j < b .wrote → homeOf o (getD (b .writes) j 0) ≡ own) → (n i : ℕ)
-    → n ≡ sortedCount b → i < n
+-- the value of a key written fits
+pub wrote-fits : (b : Keys) (k : ℕ) → valuesFit (b .values) (b .wrote) ≡ true → wroteKey b k ≡ true → fits (wroteValue b k) ≡ true
+unfolding wroteValue wroteKey
+wrote-fits b k e t = each-fits (b .values) (b .wrote) (keyPlace (b .writes) (b .wrote) k) e (ltb-true _ _ t)
+
+-- its keys ascend and are of the site, and its values fit
+part-write : (o : House) (own : ℕ) (b : Keys) → ((j : ℕ) → j < b .wrote → homeOf o (getD (b .writes) j 0) ≡ own)
+    → valuesFit (b .values) (b .wrote) ≡ true → (n i : ℕ) → n ≡ sortedCount b → i < n
     → partWriteOk o own (sortedWords b n) i ≡ true
 unfolding partWriteOk keyAscends
-part-write o own b here n i e h =
+part-write o own b here short n i e h =
     let k : (j : ℕ) → j < n → writeKey (sortedWords b n) j ≡ sortedKey b j = word-key b n in
-    let (j, l, q) = wrote-among b (sortedKey b i) (sorted-wrote b i (sorted-low b i (omega arith))) in
+    let t = sorted-wrote b i (sorted-low b i (omega arith)) in
+    let (j, l, q) = wrote-among b (sortedKey b i) t in
+    let f : fits (writeValue (sortedWords b n) i) ≡ true = ap fits (word-value b n i h) ∙ wrote-fits b (sortedKey b i) short t in
     let s = ap (homeOf o) (sym q) ∙ here j l in
     by-test (eqb i 0)
-    (λ z. rw (z, k i h, eq-eqb (homeOf o (sortedKey b i)) own s))
+    (λ z. rw (z, k i h, eq-eqb (homeOf o (sortedKey b i)) own s, f))
     (λ z.
     let p : 0 < i = by-order 0 i (λ l. l) (λ l. absurd (eqb-false i 0 z (omega arith))) in
     let q : i - 1 + 1 ≡ i = omega arith in
     let a = rw q at (sorted-ascends b (i - 1) (omega arith)) in
-    rw (z, k (i - 1) (omega arith), k i h, lt-ltb (sortedKey b (i - 1)) (sortedKey b i) a, eq-eqb (homeOf o (sortedKey b i)) own s))
+    rw (z, k (i - 1) (omega arith), k i h, lt-ltb (sortedKey b (i - 1)) (sortedKey b i) a, eq-eqb (homeOf o (sortedKey b i)) own s, f))
 
 -- of a part of a valid site whose transaction is of the house and whose participants have the site
 pub part-good : (s : Site) (i : ℕ) → siteOk s ≡ true → i < sizes.live → isTx (s .house) (subAt s i .tx) ≡ true
@@ -88,7 +97,8 @@ part-good s i t h x m =
       size = words-length (b .keys) n;
       head = rw (here, x, p .course .mask-house, m, le-leb n sizes.writes few, eq-eqb (coordinatorOf (b .tx)) (coordinatorOf (b .tx)) refl);
       writes = sym
-          (all-below (partWriteOk o own (sortedWords (b .keys) n)) n (λ j l. part-write o own (b .keys) (p .keys .wrote-here) n j refl l));
+          (all-below (partWriteOk o own (sortedWords (b .keys) n)) n
+          (λ j l. part-write o own (b .keys) (p .keys .wrote-here) (p .keys .values-fit) n j refl l));
     })
 
 -- The state record passes its check.

@@ -2,7 +2,8 @@
 use Prim.Native.Nat.{ℕ}
 use mathlib.Core.Path.{_≡_}
 use mathlib.Core.List.{List}
-use Rattle.kinds.specs.State.{Value, fresh}
+use Rattle.kinds.specs.State.{fresh}
+use Rattle.kinds.specs.declared.Value.{Value}
 use Rattle.rules.specs.Book.{Fact}
 use Rattle.rules.specs.Claim.{LastWrite, Wrote, Committed, UpTo}
 

@@ -35,6 +35,7 @@ pub mod Reads
 pub mod Searches
 pub mod Snapshots
 pub mod Desks
+pub mod Lengths
 pub mod Progress
 pub mod Possible
 pub mod Refusals

@@ -14,6 +14,8 @@ use Rattle.kinds.specs.declared.Merger.{Merger}
 use Rattle.kinds.specs.declared.RecordHead.{RecordHead}
 use Rattle.laws.specs.Choice.{by-test, every, every-at}
 use Rattle.laws.specs.Scan.{all-below, all-below-at, allBelow, foldBelow, split-last}
+use Rattle.rules.specs.Value.{valueAt, fits}
+use Rattle.rules.specs.ValueLaws.{value-left, value-right}
 use Rattle.rules.specs.HouseLaws.{key-low, home-rises}
 use Rattle.rules.specs.House.{coordinatorOf, inMask, isMask, isSite, isTx, serialOf, homeOf, wholeHouse}
 use Rattle.rules.specs.Merger.{Merging, dueCode, dueHead, emitCode, emitDue, emitOf, headAt, headIn, headsOf, joinedWrites, leastSite}
@@ -22,7 +24,7 @@ use Rattle.rules.specs.MergerClear.{MergerClear, QueuedClear, emit-clear
 use Rattle.rules.specs.MergerLaws.{IsDue, LeastOf, Queued, WholeAt, due-clear, due-queued, is-due, least-is, queued-fits, whole-parts}
 use Rattle.rules.specs.MergerWords.{HeadFits, HeadsFit, head-fits, joined-writes, part-writes}
 use Rattle.rules.specs.Record.{GoodMerged, keyAscends, mergedHeadOk, mergedOk, mergedWriteOk, pairOk, partHeadOk, partHeadTests}
-use Rattle.rules.specs.Record.{partOk, partWriteOk, recordHead, recordWrites, writeKey}
+use Rattle.rules.specs.Record.{partOk, partWriteOk, recordHead, recordWrites, writeKey, writeValue}
 use Rattle.rules.specs.RecordLaws.{head-back, merged-written-passes, pair-clear, part-passed-good, writes-back}
 use Rattle.kinds.specs.Sizes as sizes
 use Rattle.kinds.specs.Word as word
@@ -61,11 +63,12 @@ head-part o queues i c =
       getD-take n w word.writeCount 0 (omega arith),
     ))
 
--- Keys that ascend, of sites above low and up to high.
+-- Keys that ascend, of sites above low and up to high, with values that fit.
 pub record KeysAscend (o : House) (ws : List ℕ) (n low high : ℕ) : Type 0 where
   pub above : (k : ℕ) → suc k < n → writeKey ws k < writeKey ws (suc k)
   pub from : (k : ℕ) → k < n → low < homeOf o (writeKey ws k)
   pub to : (k : ℕ) → k < n → homeOf o (writeKey ws k) ≤ high
+  pub short : (k : ℕ) → k < n → fits (writeValue ws k) ≡ true
 
 ascends : (ws : List ℕ) (k : ℕ) → keyAscends ws (suc k) ≡ true → writeKey ws k < writeKey ws (suc k)
 unfolding keyAscends
@@ -87,7 +90,7 @@ part-ascending o m s p e =
     let ws = recordWrites m in
     let n = recordHead m .count in
     let a = part-passed-good o m p .writes in
-    let l : ℕ → List Bool = λ k. keyAscends ws k ∷ eqb (homeOf o (writeKey ws k)) (recordHead m .site) ∷ [] in
+    let l : ℕ → List Bool = λ k. keyAscends ws k ∷ eqb (homeOf o (writeKey ws k)) (recordHead m .site) ∷ fits (writeValue ws k) ∷ [] in
     let good : (k : ℕ) → k < n → every (l k) ≡ true = λ k h. all-below-at (partWriteOk o (recordHead m .site) ws) n k a h in
     let home : (k : ℕ) → k < n → homeOf o (writeKey ws k) ≡ s + 1 =
     λ k h. eqb-true (homeOf o (writeKey ws k)) (recordHead m .site) (every-at (l k) 1 (good k h)) ∙ e in
@@ -95,6 +98,7 @@ part-ascending o m s p e =
       above = λ k h. ascends ws k (every-at (l (suc k)) 0 (good (suc k) h));
       from = λ k h. omega (arith, home k h);
       to = λ k h. omega (arith, home k h);
+      short = λ k h. every-at (l k) 2 (good k h);
     }
 
 -- one list behind another
@@ -117,6 +121,24 @@ module _ (o : House) (ws p : List ℕ) (a : ℕ) (e : length ws ≡ sizes.write 
       let y : writeKey (ws ++ p) k ≡ writeKey p (k - a) = ap (writeKey (ws ++ p)) z ∙ key-right (k - a) in
       rw y (g (k - a) (omega arith) z))
 
+  value-before : (k : ℕ) → k < a → writeValue (ws ++ p) k ≡ writeValue ws k
+  value-before k h = value-left ws p (sizes.write * k + word.writeValue) (omega arith)
+
+  value-behind : (j : ℕ) → writeValue (ws ++ p) (a + j) ≡ writeValue p j
+  value-behind j =
+      let z : sizes.write * (a + j) + word.writeValue ≡ length ws + (sizes.write * j + word.writeValue) = omega arith in
+      ap (valueAt (ws ++ p)) z ∙ value-right ws p (sizes.write * j + word.writeValue)
+
+  append-short : (b k : ℕ) → k < a + b → ((k : ℕ) → k < a → fits (writeValue ws k) ≡ true)
+      → ((k : ℕ) → k < b → fits (writeValue p k) ≡ true) → fits (writeValue (ws ++ p) k) ≡ true
+  append-short b k h f g =
+      by-test (ltb k a)
+      (λ t. let l = ltb-true k a t in rw (value-before k l) (f k l))
+      (λ t. let l = ltb-false k a t in
+      let z : k ≡ a + (k - a) = omega arith in
+      let y : writeValue (ws ++ p) k ≡ writeValue p (k - a) = ap (writeValue (ws ++ p)) z ∙ value-behind (k - a) in
+      rw y (g (k - a) (omega arith)))
+
   append-ascending : (b low mid high : ℕ) → low ≤ mid → mid ≤ high → KeysAscend o ws a low mid → KeysAscend o p b mid high
       → KeysAscend o (ws ++ p) (a + b) low high
   append-ascending b low mid high x y s t =
@@ -137,10 +159,17 @@ module _ (o : House) (ws p : List ℕ) (a : ℕ) (e : length ws ≡ sizes.write 
             rw (w, v) (t .above (k - a) (omega arith))));
         from = λ k h. key-cases (λ i. low < homeOf o i) b k h (λ l. s .from k l) (λ j l q. omega (arith, t .from j l));
         to = λ k h. key-cases (λ i. homeOf o i ≤ high) b k h (λ l. omega (arith, s .to k l)) (λ j l q. t .to j l);
+        short = λ k h. append-short b k h (s .short) (t .short);
       }
 
 no-writes : (o : House) (low high : ℕ) → KeysAscend o [] 0 low high
-no-writes o low high = record { above = λ k h. absurd (omega arith); from = λ k h. absurd (omega arith); to = λ k h. absurd (omega arith) }
+no-writes o low high =
+    record {
+      above = λ k h. absurd (omega arith);
+      from = λ k h. absurd (omega arith);
+      to = λ k h. absurd (omega arith);
+      short = λ k h. absurd (omega arith);
+    }
 
 pub halved : (n k : ℕ) → n ≡ sizes.write * k → n / sizes.write ≡ k
 halved n k e = omega arith
@@ -195,7 +224,8 @@ merged-writes : (o : House) (ws : List ℕ) (n high : ℕ) → high ≤ sizes.si
 unfolding mergedWriteOk
 merged-writes o ws n high b a =
     sym (all-below (mergedWriteOk ws) n (λ k h.
-    rw (key-rises o ws k n high a h, lt-ltb (writeKey ws k) sizes.keys (key-low o _ (writeKey ws k) (omega (arith, a .to k h)) refl))))
+    let low = key-low o _ (writeKey ws k) (omega (arith, a .to k h)) refl in
+    rw (key-rises o ws k n high a h, lt-ltb (writeKey ws k) sizes.keys low, a .short k h)))
 
 wider-pair : (o : House) (r : RecordHead) → o .sites ≤ sizes.sites → pairOk o r ≡ true → pairOk wholeHouse r ≡ true
 unfolding pairOk isTx isSite isMask wholeHouse

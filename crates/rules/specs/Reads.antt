@@ -3,7 +3,7 @@ use Prim.Native.Nat.{ℕ}
 use mathlib.Core.Path.{_≡_}
 use mathlib.Core.List.{List}
 use Rattle.kinds.specs.declared.House.{House}
-use Rattle.kinds.specs.State.{Value}
+use Rattle.kinds.specs.declared.Value.{Value}
 use Rattle.kinds.specs.declared.Answer.the-variants.{Found}
 use Rattle.rules.specs.House.{GoodHouse}
 use Rattle.rules.specs.World as world

@@ -10,10 +10,10 @@ use Rattle.laws.specs.Scan.{allBelow}
 use Rattle.kinds.specs.Sizes as sizes
 use Rattle.kinds.specs.Kind as kind
 use Rattle.kinds.specs.Word as word
-use Rattle.kinds.specs.State.{Value}
+use Rattle.kinds.specs.declared.Value.{Value}
 use Rattle.kinds.specs.declared.House.{House}
 use Rattle.kinds.specs.declared.RecordHead.{RecordHead}
-use Rattle.rules.specs.Value.{valueAt}
+use Rattle.rules.specs.Value.{valueAt, fits}
 use Rattle.rules.specs.House.{isSite, isTx, coordinatorOf, inMask, isMask, homeOf, wholeHouse}
 
 -- The layout.
@@ -35,7 +35,7 @@ recordHeadWords r =
 unfoldable pub recordWords : RecordHead → List ℕ → List ℕ
 recordWords r ws = recordHeadWords r ++ ws
 
--- write i: key, value
+-- write i: its key, and its value behind it
 abbrev pub writeKey : List ℕ → ℕ → ℕ
 writeKey ws i = getD ws (sizes.write * i + word.writeKey) 0
 
@@ -105,17 +105,17 @@ mergedHeadTests r =
 unfoldable pub mergedHeadOk : RecordHead → Bool
 mergedHeadOk r = every (mergedHeadTests r)
 
--- What the writes must be: ascending by key, and keys of the site; in a merged record, of any.
+-- What the writes must be: ascending by key, and keys of the site; in a merged record, of any. Every value fits (Q12.6).
 
 -- write i is above the one before it
 unfoldable pub keyAscends : List ℕ → ℕ → Bool
 keyAscends ws i = pick (eqb i 0) true (ltb (writeKey ws (i - 1)) (writeKey ws i))
 
 unfoldable pub partWriteOk : House → ℕ → List ℕ → ℕ → Bool
-partWriteOk o site ws i = every (keyAscends ws i ∷ eqb (homeOf o (writeKey ws i)) site ∷ [])
+partWriteOk o site ws i = every (keyAscends ws i ∷ eqb (homeOf o (writeKey ws i)) site ∷ fits (writeValue ws i) ∷ [])
 
 unfoldable pub mergedWriteOk : List ℕ → ℕ → Bool
-mergedWriteOk ws i = every (keyAscends ws i ∷ ltb (writeKey ws i) sizes.keys ∷ [])
+mergedWriteOk ws i = every (keyAscends ws i ∷ ltb (writeKey ws i) sizes.keys ∷ fits (writeValue ws i) ∷ [])
 
 -- The checks.
 abbrev pub shapeTests : List ℕ → List Bool

@@ -18,7 +18,8 @@ use Rattle.kinds.specs.declared.Answer.the-variants.{Refused}
 use Rattle.kinds.specs.declared.MessageHead.{MessageHead}
 use Rattle.kinds.specs.declared.Merger.{Merger}
 use Rattle.kinds.specs.declared.Site.{Site}
-use Rattle.kinds.specs.State.{Value, subAt}
+use Rattle.kinds.specs.State.{subAt}
+use Rattle.kinds.specs.declared.Value.{Value}
 use Rattle.rules.specs.House.{isSite, inMask}
 use Rattle.rules.specs.Desk.{isDesk, writeLimit}
 use Rattle.rules.specs.Message.{messageOk, messageHead}
@@ -31,7 +32,7 @@ use Rattle.rules.specs.Queue.{leastQueued, isInstallable}
 use Rattle.rules.specs.Valid.{siteOk, handedOk}
 use Rattle.rules.specs.Course.{channelSpent, withReply, voteDecides}
 use Rattle.rules.specs.Begin.{beginCauses}
-use Rattle.rules.specs.Access.{keyCauses, accessCauses, readCauses, writeCauses}
+use Rattle.rules.specs.Access.{keyCauses, accessCauses, readCauses, longCauses, writeCauses}
 use Rattle.rules.specs.Enlist.{isMine, enlistCauses, joinerCauses}
 use Rattle.rules.specs.Commit.{requestCauses, commitCauses, abandonCauses}
 use Rattle.rules.specs.Deliver.{arrivalCauses, nextCauses, replyCauses, spentTo, spentToAll, joinedInTurn, concInTurn, voteInTurn}
@@ -63,7 +64,7 @@ order =
     ∷ reason.held
     ∷ reason.newer
     ∷ reason.tooMany
-    ∷ 29
+    ∷ reason.tooLong
     ∷ reason.full
     ∷ reason.spent
     ∷ reason.behind
@@ -90,15 +91,15 @@ readHas s base tx k =
     accessHas s (length base) tx k
     ++ pick (wroteKey (b .keys) k) [] (readCauses (isForgotten (s .counters .installs) (b .snapshot)) (readKey (b .keys) k) (b .keys .read))
 
-unfoldable pub writeHas : Site → ℕ → ℕ → List Cause
-writeHas s tx k =
+unfoldable pub writeHas : Site → ℕ → ℕ → Value → List Cause
+writeHas s tx k v =
     let place = placeOf (s .live) tx in
     let b = subAt s place in
     let n = s .counters .installs in
     accessHas s sizes.base tx k
-    ++ pick (wroteKey (b .keys) k) []
+    ++ pick (wroteKey (b .keys) k) (longCauses v)
     (writeCauses (isForgotten n (b .snapshot)) (keyHeld (s .live) place k) (isNewer (s .history) n (b .snapshot) k) (writeLimit (b .desk))
-    (b .keys .wrote))
+    (b .keys .wrote) v)
 
 unfoldable pub searchHas : Site → List ℕ → ℕ → List Cause
 searchHas s base k = keyCauses (siteOk s) (length base) (s .house) (s .counters .own) k
@@ -183,7 +184,7 @@ abbrev pub causesOf : World → Call → List Cause
 causesOf w (world.begin s d) = beginHas (w .site s) d
 causesOf w (world.enlist s out tx site) = enlistHas (w .site s) (length out) tx site
 causesOf w (world.read s tx key) = readHas (w .site s) (w .base s) tx key
-causesOf w (world.write s tx key v) = writeHas (w .site s) tx key
+causesOf w (world.write s tx key v) = writeHas (w .site s) tx key v
 causesOf w (world.search s p key) = searchHas (w .site s) (w .base s) key
 causesOf w (world.commit s out tx) = commitHas (w .site s) (length out) (w .lists s) tx
 causesOf w (world.abandon s out tx) = abandonHas (w .site s) (length out) tx
@@ -214,7 +215,7 @@ abbrev pub numbersOf : Call → List ℕ
 numbersOf (world.begin s d) = 2 ∷ 12 ∷ 13 ∷ []
 numbersOf (world.enlist s out tx site) = 1 ∷ 2 ∷ 5 ∷ 26 ∷ 27 ∷ 13 ∷ []
 numbersOf (world.read s tx key) = 2 ∷ 3 ∷ 5 ∷ 27 ∷ 8 ∷ 11 ∷ []
-numbersOf (world.write s tx key v) = 2 ∷ 3 ∷ 5 ∷ 27 ∷ 8 ∷ 9 ∷ 10 ∷ 11 ∷ []
+numbersOf (world.write s tx key v) = 2 ∷ 3 ∷ 5 ∷ 27 ∷ 8 ∷ 9 ∷ 10 ∷ 11 ∷ 29 ∷ []
 numbersOf (world.search s p key) = 2 ∷ 3 ∷ []
 numbersOf (world.commit s out tx) = 1 ∷ 2 ∷ 5 ∷ 26 ∷ 27 ∷ 7 ∷ 13 ∷ []
 numbersOf (world.abandon s out tx) = 1 ∷ 2 ∷ 5 ∷ 26 ∷ 27 ∷ 13 ∷ []

@@ -9,7 +9,8 @@ use Rattle.kinds.specs.declared.Answer.the-variants.{Found, Searched}
 use Rattle.kinds.specs.declared.Entry.{Entry}
 use Rattle.kinds.specs.declared.Site.{Site}
 use Rattle.kinds.specs.declared.Snapshot.{Snapshot}
-use Rattle.kinds.specs.State.{Value, subAt}
+use Rattle.kinds.specs.State.{subAt}
+use Rattle.kinds.specs.declared.Value.{Value}
 use Rattle.rules.specs.Keys.{wroteKey}
 use Rattle.rules.specs.Live.{placeOf}
 use Rattle.rules.specs.History.{within, backwards, versionOf, searchIn}

@@ -24,6 +24,7 @@ use Rattle.kinds.specs.State.{pastSub, pastEntry, subAt, entryAt}
 use Rattle.rules.specs.HouseLaws.{house-passed, range-is, key-low}
 use Rattle.rules.specs.House.{houseOk, isSite, isTx, homeOf, inRange, isMask, inMask, participants, participants-sites}
 use Rattle.rules.specs.Desk.{isDesk, writeLimit}
+use Rattle.rules.specs.Value.{valuesFit}
 use Rattle.rules.specs.Keys.{keysAt, keysOk}
 use Rattle.rules.specs.History.{forgotten, remembered, slotOf, recall}
 use Rattle.rules.specs.HistoryLaws.{slot-low, slot-used}
@@ -39,7 +40,7 @@ pub record ValidHouse (o : House) (own : ℕ) : Type 0 where
   pub own-high : own ≤ o .sites
   pub range : (k : ℕ) → eqb (homeOf o k) own ≡ inRange o own k
 
--- A part's keys: at most 16 read and 16 written, each of this site, and so below 2,048.
+-- A part's keys: at most 16 read and 16 written, each of this site, and so below 2,048; the values written fit.
 pub record ValidKeys (o : House) (own : ℕ) (b : Keys) : Type 0 where
   pub few-read : b .read ≤ 16
   pub few-wrote : b .wrote ≤ 16
@@ -47,6 +48,7 @@ pub record ValidKeys (o : House) (own : ℕ) (b : Keys) : Type 0 where
   pub wrote-here : (j : ℕ) → j < b .wrote → homeOf o (getD (b .writes) j 0) ≡ own
   pub read-low : (j : ℕ) → j < b .read → getD (b .reads) j 0 < 2048
   pub wrote-low : (j : ℕ) → j < b .wrote → getD (b .writes) j 0 < 2048
+  pub values-fit : valuesFit (b .values) (b .wrote) ≡ true
 
 -- A part's course: masks of sites of the house, replies of others, and at most 47 entries from each list gathered.
 pub record ValidCourse (o : House) (own : ℕ) (c : Course) : Type 0 where
@@ -149,7 +151,7 @@ pub valid-keys : (o : House) (own : ℕ) (b : Keys) → own ≤ 8 → keysOk o o
 unfolding keysOk
 valid-keys o own b h t =
     let l = leb (b .read) sizes.reads ∷ leb (b .wrote) sizes.writes ∷ keysAt o own (b .reads) (b .read)
-    ∷ keysAt o own (b .writes) (b .wrote) ∷ [] in
+    ∷ keysAt o own (b .writes) (b .wrote) ∷ valuesFit (b .values) (b .wrote) ∷ [] in
     record {
       few-read = leb-true (b .read) 16 (every-at l 0 t);
       few-wrote = leb-true (b .wrote) 16 (every-at l 1 t);
@@ -157,6 +159,7 @@ valid-keys o own b h t =
       wrote-here = λ j q. keys-here o own (b .writes) (b .wrote) j (every-at l 3 t) q;
       read-low = λ j q. key-low o own _ h (keys-here o own (b .reads) (b .read) j (every-at l 2 t) q);
       wrote-low = λ j q. key-low o own _ h (keys-here o own (b .writes) (b .wrote) j (every-at l 3 t) q);
+      values-fit = every-at l 4 t;
     }
 
 pub valid-course : (o : House) (own : ℕ) (c : Course) → ValidHouse o own → courseOk o own c ≡ true → ValidCourse o own c

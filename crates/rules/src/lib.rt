@@ -6,6 +6,7 @@ ghost use Rattle.rules.specs.Reads.{ReadsRight};
 ghost use Rattle.rules.specs.Searches.{SearchesRight};
 ghost use Rattle.rules.specs.Snapshots.{SnapshotsStay};
 ghost use Rattle.rules.specs.Desks.{WritesLimited, DesksKept};
+ghost use Rattle.rules.specs.Lengths.{WritesMeasured, AnswersFit};
 ghost use Rattle.rules.specs.Tables.{KeysPlaced, TablesRefused, HousesStay};
 ghost use Rattle.rules.specs.Refusals.{RefusedLeaves, FirstCause, OwnNumbers};
 ghost use Rattle.rules.specs.Moments.{WrongMoments};
@@ -84,6 +85,16 @@ pub fn keys_placed()
 // A start of a site or of the merger is refused 22 exactly where nothing gives 2 and its table is bad.
 pub fn tables_refused()
     ensures { λ _. ⌜ TablesRefused ⌝ }
+{}
+
+// In any state a write is refused 29 exactly where no cause before 29 holds and its value does not fit.
+pub fn writes_measured()
+    ensures { λ _. ⌜ WritesMeasured ⌝ }
+{}
+
+// After any list of calls, with any words handed in, a value that a read, a search or a copy answers fits.
+pub fn answers_fit()
+    ensures { λ _. ⌜ AnswersFit ⌝ }
 {}
 
 // In any state no call changes a house.

@@ -8,7 +8,8 @@ use Rattle.laws.specs.Choice.{by-test, set-not}
 use Rattle.kinds.specs.Sizes as sizes
 use Rattle.kinds.specs.Kind as kind
 use Rattle.kinds.specs.Reason as reason
-use Rattle.kinds.specs.State.{Value, subAt}
+use Rattle.kinds.specs.State.{subAt}
+use Rattle.kinds.specs.declared.Value.{Value}
 use Rattle.kinds.specs.declared.Site.{Site}
 use Rattle.kinds.specs.declared.Snapshot.{Snapshot}
 use Rattle.kinds.specs.declared.Merger.{Merger}
@@ -24,7 +25,7 @@ use Rattle.rules.specs.Valid.{siteOk}
 use Rattle.rules.specs.Live.{placeOf, freePlace, stageAt}
 use Rattle.rules.specs.Course.{channelSpent, sendTo, sendAll, quietly, enlistStep, abortStep}
 use Rattle.rules.specs.Begin.{beginCode, nextTx, begun, beginOf}
-use Rattle.rules.specs.Access.{keyCode, accessCode, readCode, writeCodeAt, readVersion, readAt, readOf, written, writeAt, writeOf, searchOf}
+use Rattle.rules.specs.Access.{keyCode, accessCode, readCode, lateCode, readVersion, readAt, readOf, written, writeAt, writeOf, searchOf}
 use Rattle.rules.specs.Enlist.{isMine, enlistCode, joinerCode, enlistAt, enlistOf}
 use Rattle.rules.specs.Commit.{requestCode, abandonCode, abandonOf}
 use Rattle.rules.specs.Install.{installCode, reportCode, installedAt, installOf, reportOf, startCode, startOf}
@@ -84,10 +85,7 @@ search-taken s base p k =
 write-taken : (s : Site) (tx k : ℕ) (v : Value) → Takes (writeOf s tx k v) (ok [])
 unfolding saidOf writeOf writeAt written quietly
 write-taken s tx k v =
-    let place = placeOf (s .live) tx in
-    by-test (wroteKey (subAt s place .keys) k)
-    (λ w. rw w (past (accessNo s sizes.base tx k) s [] _ _ (record { said = λ r. refl })))
-    (λ w. rw w (past (accessNo s sizes.base tx k) s [] _ _ (past (writeCodeAt s place k) s [] _ _ (record { said = λ r. refl }))))
+    past (accessNo s sizes.base tx k) s [] _ _ (past (lateCode s (placeOf (s .live) tx) k v) s [] _ _ (record { said = λ r. refl }))
 
 abandon-taken : (s : Site) (room tx : ℕ) → Takes (abandonOf s room tx) (abort reason.abandoned)
 unfolding saidOf abandonOf abortStep sendAll

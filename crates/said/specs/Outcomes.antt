@@ -1,6 +1,6 @@
 -- A5, F20, H5 to H20 and Q5.4: what each of the seventeen calls says, in any state and for any arguments. After `ok`: begin, transaction;
--- commit, number; install and replay, number and coordinator; emit also transaction; value, value and pair; read, value; search, value and
--- how many entries it looked at; report, state.
+-- commit, number; install and replay, number and coordinator; emit also transaction; value, start, length and pair; read, start and
+-- length; search, start, length and how many entries it looked at; report, state.
 use Prim.Native.Nat.{ℕ}
 use mathlib.Core.Path.{_≡_}
 use mathlib.Core.List.{List, [], _∷_}
@@ -8,7 +8,8 @@ use lib.ListN.{length}
 use Rattle.laws.specs.Choice.{pick}
 use Rattle.kinds.specs.Sizes as sizes
 use Rattle.kinds.specs.Reason as reason
-use Rattle.kinds.specs.State.{Value, subAt}
+use Rattle.kinds.specs.State.{subAt}
+use Rattle.kinds.specs.declared.Value.{Value}
 use Rattle.kinds.specs.declared.Site.{Site}
 use Rattle.kinds.specs.declared.Snapshot.{Snapshot}
 use Rattle.kinds.specs.declared.Merger.{Merger}
@@ -37,10 +38,13 @@ use Rattle.said.specs.Decided.{commitSaid, messageSaid}
 unfoldable pub readSaid : Site → List ℕ → ℕ → ℕ → Said
 readSaid s base tx k =
     let b = subAt s (placeOf (s .live) tx) in
-    ok (pick (wroteKey (b .keys) k) (wroteValue (b .keys) k) (versionOf (s .history) (s .counters .installs) base (b .snapshot) k) ∷ [])
+    let v = pick (wroteKey (b .keys) k) (wroteValue (b .keys) k) (versionOf (s .history) (s .counters .installs) base (b .snapshot) k) in
+    ok (v .start ∷ v .length ∷ [])
 
 unfoldable pub searchSaid : Site → List ℕ → Snapshot → ℕ → Said
-searchSaid s base p k = let found = searchIn (s .history) (s .counters .installs) base p k in ok (found .value ∷ found .looked ∷ [])
+searchSaid s base p k =
+    let found = searchIn (s .history) (s .counters .installs) base p k in
+    ok (found .value .start ∷ found .value .length ∷ found .looked ∷ [])
 
 -- install: the pair of the queue's least
 unfoldable pub installSaid : Site → Said
@@ -56,7 +60,7 @@ unfoldable pub replaySaid : List ℕ → Said
 replaySaid m = let r = recordHead m in ok (r .number ∷ r .coordinator ∷ [])
 
 unfoldable pub valueSaid : List ℕ → ℕ → Said
-valueSaid copy k = ok (copyValue copy k ∷ copyNumber copy ∷ copyCoordinator copy ∷ [])
+valueSaid copy k = let v = copyValue copy k in ok (v .start ∷ v .length ∷ copyNumber copy ∷ copyCoordinator copy ∷ [])
 
 -- Each call's answer, which its contract gives by the rule cited here, says its first cause of refusal, else just that.
 pub record Says : Type 0 where
@@ -66,7 +70,7 @@ pub record Says : Type 0 where
   pub enlists : (s : Site) (room tx site : ℕ) → saidOf (enlistOf s room tx site .answer) ≡ unlessFirst (enlistHas s room tx site) (ok [])
   pub reads : (s : Site) (base : List ℕ) (tx k : ℕ)
       → saidOf (readOf s base tx k .answer) ≡ unlessFirst (readHas s base tx k) (readSaid s base tx k)
-  pub writes : (s : Site) (tx k : ℕ) (v : Value) → saidOf (writeOf s tx k v .answer) ≡ unlessFirst (writeHas s tx k) (ok [])
+  pub writes : (s : Site) (tx k : ℕ) (v : Value) → saidOf (writeOf s tx k v .answer) ≡ unlessFirst (writeHas s tx k v) (ok [])
   pub searches : (s : Site) (base : List ℕ) (p : Snapshot) (k : ℕ)
       → saidOf (searchOf s base p k) ≡ unlessFirst (searchHas s base k) (searchSaid s base p k)
   pub commits : (s : Site) (room : ℕ) (lists : List ℕ) (tx : ℕ)

@@ -1,4 +1,4 @@
--- F19 and H1: the numbers of an answer, those printed after `ok`, `ok abort` or `refused`.
+-- F19, H1 and Q12.8: the numbers of an answer, those printed after `ok`, `ok abort` or `refused`. A value is start, then length.
 use Prim.Native.Nat.{ℕ}
 use mathlib.Core.List.{List, [], _∷_}
 use lib.Dec.{eqb}
@@ -18,15 +18,15 @@ unfoldable pub saidOf : Answer → Said
 saidOf (Refused n) = no n
 saidOf Done = ok []
 saidOf (Begun tx) = ok (tx ∷ [])
-saidOf (Found v) = ok (v ∷ [])
-saidOf (Searched v n) = ok (v ∷ n ∷ [])
+saidOf (Found v) = ok (v .start ∷ v .length ∷ [])
+saidOf (Searched v n) = ok (v .start ∷ v .length ∷ n ∷ [])
 saidOf (Committed n) = ok (n ∷ [])
 saidOf (Aborted r) = abort r
 saidOf (Installed n c) = ok (n ∷ c ∷ [])
 saidOf (Reported n) = ok (n ∷ [])
 saidOf (Emitted n c tx) = ok (n ∷ c ∷ tx ∷ [])
 saidOf (Replayed n c) = ok (n ∷ c ∷ [])
-saidOf (Standing v n c) = ok (v ∷ n ∷ c ∷ [])
+saidOf (Standing v n c) = ok (v .start ∷ v .length ∷ n ∷ c ∷ [])
 
 -- a call of these causes says the number of the first that holds, and where none holds what it says once it is taken
 unfoldable pub unlessFirst : List Cause → Said → Said

@@ -3,6 +3,9 @@ pub mod seen;
 pub mod whole;
 
 use kinds::House;
+use kinds::sizes::VALUE;
+use kinds::word::VALUE_LENGTH;
+use kinds::word::VALUE_START;
 ghost use Prim.Native.Nat.{_<_};
 
 const PRIME: u64 = 4294967291;
@@ -60,7 +63,7 @@ pub fn of_set(ks: &[u64], n: u64) -> u64 {
     sum
 }
 
-// The first n keys with their values as a set.
+// The first n keys with their values, each a start and a length, as a set.
 pub fn of_writes(ks: &[u64], vs: &[u64], n: u64) -> u64 {
     let mut sum: u64 = 0;
     let mut i: usize = 0;
@@ -68,10 +71,13 @@ pub fn of_writes(ks: &[u64], vs: &[u64], n: u64) -> u64 {
         if n <= i as u64 {
             break;
         }
-        if vs.len() <= i {
+        if vs.len() / VALUE <= i {
             break;
         }
-        sum = together(sum, more(more(2, ks[i]), vs[i]));
+        let at = VALUE * i;
+        let start = vs[at + VALUE_START];
+        let length = vs[at + VALUE_LENGTH];
+        sum = together(sum, three_more(2, ks[i], start, length));
         i += 1;
     }
     sum

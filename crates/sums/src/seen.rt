@@ -15,6 +15,7 @@ use kinds::sizes::LIVE;
 use kinds::sizes::PLACE;
 use kinds::sizes::READS;
 use kinds::sizes::SLOT;
+use kinds::sizes::VALUE;
 use kinds::sizes::WRITES;
 use kinds::stage::ACTIVE;
 use kinds::stage::DECIDED;
@@ -43,7 +44,7 @@ use pieces::word;
 fn keys(h: u64, ws: &[u64]) -> u64 {
     let reads = piece(ws, KEYS_READS, READS);
     let writes = piece(ws, KEYS_WRITES, WRITES);
-    let values = piece(ws, KEYS_VALUES, WRITES);
+    let values = piece(ws, KEYS_VALUES, VALUE * WRITES);
     let a = more(h, of_set(reads, word(ws, KEYS_READ)));
     more(a, of_writes(writes, values, word(ws, KEYS_WROTE)))
 }

@@ -8,7 +8,8 @@ use lib.ListN.{getD, set, length, take, drop, length-append, take-append-drop}
 use lib.Seq.{append-snoc, set-split, length-take-le, take-at, drop-append-add, drop-drop}
 use Rattle.laws.specs.Overlay.{overlay, putAt}
 use Rattle.kinds.specs.Sizes as sizes
-use Rattle.kinds.specs.State.{Value, fresh}
+use Rattle.kinds.specs.State.{fresh}
+use Rattle.kinds.specs.declared.Value.{Value}
 use Rattle.rules.specs.Value.{valueWords, putValue}
 use Rattle.rules.specs.ValueLaws.{words-size, overlay-value}
 use Rattle.rules.specs.MergerWords.{length-put}

@@ -27,6 +27,7 @@ use kinds::sizes::SERIALS;
 use kinds::sizes::SITE_KEYS;
 use kinds::sizes::SITES;
 use kinds::sizes::SLOT;
+use kinds::sizes::VALUE;
 use kinds::sizes::WRITES;
 use kinds::stage::PREPARED;
 use kinds::word;
@@ -100,7 +101,7 @@ fn put_entries(es: &mut [u64]) {
     }
 }
 
-// Sixteen keys read and the next sixteen written.
+// Sixteen keys read and the next sixteen written, each with a start and a length.
 fn put_keys(w: &mut [u64], first: u64)
     requires { ⌜ first ≤ 1000 ⌝ }
 {
@@ -108,8 +109,11 @@ fn put_keys(w: &mut [u64], first: u64)
     put(w, word::KEYS_WROTE, WRITES as u64);
     let mut i: usize = 0;
     while i < WRITES {
+        let value = word::KEYS_VALUES + VALUE * i;
         put(w, word::KEYS_READS + i, first + i as u64);
         put(w, word::KEYS_WRITES + i, first + 16 + i as u64);
+        put(w, value + word::VALUE_START, first + i as u64);
+        put(w, value + word::VALUE_LENGTH, 1 + i as u64);
         i += 1;
     }
 }

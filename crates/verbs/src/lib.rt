@@ -1,4 +1,4 @@
-// Lines of a probe: a verb and up to four numbers. Any other line is a remark.
+// Lines of a probe: a verb and up to five numbers. Any other line is a remark.
 pub mod verb;
 
 use lines::Place;
@@ -26,6 +26,7 @@ pub struct Line {
     pub b: u64,
     pub c: u64,
     pub d: u64,
+    pub e: u64,
 }
 
 pub fn remark() -> Line {
@@ -36,6 +37,7 @@ pub fn remark() -> Line {
         b: 0,
         c: 0,
         d: 0,
+        e: 0,
     }
 }
 
@@ -99,7 +101,6 @@ fn three(v: u64) -> u64 {
         verb::QUEUED => MERGER,
         verb::COPIED => COPY,
         verb::LETTER => HAND,
-        verb::WRITES => HAND,
         _ => NOBODY,
     }
 }
@@ -107,13 +108,21 @@ fn three(v: u64) -> u64 {
 // Whom a verb with four numbers is for.
 fn four(v: u64) -> u64 {
     match v {
-        verb::WRITE => SITE,
         verb::LIVE => SITE,
         verb::PAST => SITE,
         verb::LIST => SITE,
         verb::HEAD => HAND,
         verb::ENTRIES => HAND,
         verb::FORM => HAND,
+        verb::WRITES => HAND,
+        _ => NOBODY,
+    }
+}
+
+// Whom a verb with five numbers is for.
+fn five(v: u64) -> u64 {
+    match v {
+        verb::WRITE => SITE,
         _ => NOBODY,
     }
 }
@@ -125,16 +134,16 @@ pub fn told(s: Place, words: &[u64; WORDS]) -> Line {
         return remark();
     }
     if n == 0 {
-        return made(none(s.word), s.word, 0, 0, 0, 0);
+        return made(none(s.word), s.word, 0, 0, 0, 0, 0);
     }
     if n == 1 {
-        return made(one(words[0]), words[0], s.word, 0, 0, 0);
+        return made(one(words[0]), words[0], s.word, 0, 0, 0, 0);
     }
     if n == 2 {
-        return made(two(words[0]), words[0], words[1], s.word, 0, 0);
+        return made(two(words[0]), words[0], words[1], s.word, 0, 0, 0);
     }
     if n == 3 {
-        return made(three(words[0]), words[0], words[1], words[2], s.word, 0);
+        return made(three(words[0]), words[0], words[1], words[2], s.word, 0, 0);
     }
     if n == 4 {
         return made(
@@ -144,12 +153,24 @@ pub fn told(s: Place, words: &[u64; WORDS]) -> Line {
             words[2],
             words[3],
             s.word,
+            0,
+        );
+    }
+    if n == 5 {
+        return made(
+            five(words[0]),
+            words[0],
+            words[1],
+            words[2],
+            words[3],
+            words[4],
+            s.word,
         );
     }
     remark()
 }
 
-fn made(group: u64, verb: u64, a: u64, b: u64, c: u64, d: u64) -> Line {
+fn made(group: u64, verb: u64, a: u64, b: u64, c: u64, d: u64, e: u64) -> Line {
     Line {
         group,
         verb,
@@ -157,5 +178,6 @@ fn made(group: u64, verb: u64, a: u64, b: u64, c: u64, d: u64) -> Line {
         b,
         c,
         d,
+        e,
     }
 }

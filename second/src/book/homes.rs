@@ -28,6 +28,11 @@ impl Homes {
         self.0[key as usize]
     }
 
+    /// None for a key above 2,047.
+    pub fn of_key(&self, key: u64) -> Option<u64> {
+        self.0.get(usize::try_from(key).ok()?).copied()
+    }
+
     /// Q3.6: a call takes a key of its site, gives 3 for another site's and 2 for one
     /// above 2,047. What is installed lives at its site.
     pub fn check(&self, call: &Call, answer: &Result<Answer, Refusal>, written: &[u64]) -> Checked {
@@ -38,7 +43,7 @@ impl Homes {
             Call::Install { site } => return self.check_part(site, written),
             _ => return Ok(()),
         };
-        let home = self.0.get(key as usize).copied();
+        let home = self.of_key(key);
         let fits = match answer {
             Err(Refusal::Impossible) => home.is_none() || !self.has(site),
             Err(Refusal::OtherSite) => home.is_some_and(|home| home != site),

@@ -8,7 +8,7 @@ use crate::sizes::*;
 use crate::world::Call;
 
 impl Chapter {
-    fn written_at(&self, site: u64, homes: &Homes) -> usize {
+    pub(super) fn written_at(&self, site: u64, homes: &Homes) -> usize {
         self.writes.keys().filter(|&&key| homes.at(key) == site).count()
     }
 
@@ -17,7 +17,7 @@ impl Chapter {
     }
 
     /// Distinct keys that it may write at each site; none before it began.
-    fn limit(&self) -> usize {
+    pub(super) fn limit(&self) -> usize {
         self.desk.map_or(0, Desk::written_keys)
     }
 }

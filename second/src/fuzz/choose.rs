@@ -45,8 +45,7 @@ impl Fuzz {
             1 => plain(Call::Enlist { site: at, transaction, target: site }),
             2 => plain(Call::Read { site: at, transaction, key: self.key(at) }),
             3 => {
-                let value = self.random.word();
-                let key = self.key(at);
+                let (key, value) = (self.key(at), self.random.value());
                 plain(Call::Write { site: at, transaction, key, value })
             }
             4 => plain(Call::Commit { site: at, transaction }),
@@ -90,7 +89,7 @@ impl Fuzz {
         let key = self.random.key(&self.table, site, KEYS);
         Some(match self.random.below(2) {
             0 => Call::Read { site, transaction, key },
-            _ => Call::Write { site, transaction, key, value: self.random.word() },
+            _ => Call::Write { site, transaction, key, value: self.random.value() },
         })
     }
 

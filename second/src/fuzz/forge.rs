@@ -8,6 +8,7 @@ use crate::desk::Desk;
 use crate::message::Kind;
 use crate::site::Site;
 use crate::sizes::*;
+use crate::value::Value;
 
 impl Fuzz {
     /// A written message or record with a few words changed.
@@ -103,8 +104,8 @@ fn check_join(site: &Site, join: &[u64; MESSAGE_HEADER]) -> Result<(), String> {
     }
     let is_held = |key: u64| site.live.iter().any(|part| part.footprint.writes.contains(key));
     let free: Vec<u64> = site.table.keys(site.own).filter(|&key| !is_held(key)).collect();
-    let written = free.iter().take_while(|&&key| joined.write(transaction, key, key).is_ok());
-    let written = written.count();
+    let mut writes = |key: u64| joined.write(transaction, key, Value::new(key, 0)).is_ok();
+    let written = free.iter().take_while(|&&key| writes(key)).count();
     // A short range may have fewer keys than the desk allows.
     match Desk::of(desk).map(|desk| desk.written_keys().min(free.len())) == Some(written) {
         true => Ok(()),

@@ -6,6 +6,7 @@
 mod choose;
 mod forge;
 mod starts;
+mod values;
 
 use crate::answer::Refusal;
 use crate::book::Book;
@@ -120,6 +121,12 @@ impl Fuzz {
         if self.random.chance(1) {
             return self.forged_start();
         }
+        if self.random.chance(1) {
+            return self.forged_value();
+        }
+        if self.random.chance(1) {
+            return self.handed_value();
+        }
         let (handed, source) = self.choose();
         let call = source.call(&handed);
         let mut buffer = self.buffer(&call);
@@ -143,6 +150,7 @@ impl Fuzz {
         let written = &buffer[..words];
         self.tally.called(&call, &answer, written);
         self.tally.desks(&call, &answer, &self.world);
+        self.tally.values(&call, &answer, &self.world);
         self.book.enter(&call, &answer, written, &self.world.copies)?;
         self.keep(&call, &answer, written);
         Ok(())

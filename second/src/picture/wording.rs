@@ -186,6 +186,7 @@ pub fn cause(number: u64) -> &'static str {
         9 => "another transaction holds the key",
         10 => "the key has a version newer than the snapshot",
         11 => "a 17th key, or a 5th written for the proofing desk",
+        29 => "start plus length is above 2^64 − 1",
         12 => "16 transactions are live at the site",
         13 => "a count is spent",
         14 => "not above the last one",

@@ -4,6 +4,7 @@
 use super::line::Line;
 use crate::house::messages;
 use crate::sizes::*;
+use crate::value::Value;
 
 const HAND: usize = 1_200;
 const STORE: usize = 131_072;
@@ -82,7 +83,9 @@ impl Hand {
             ("entries", &[count, transaction, participants, mark]) => {
                 self.entries(count, transaction, participants, mark);
             }
-            ("writes", &[count, key, value]) => self.writes(count, key, value),
+            ("writes", &[count, key, start, length]) => {
+                self.writes(count, key, Value::new(start, length));
+            }
             _ => unreachable!("a line for the words in hand"),
         }
         true
@@ -124,16 +127,16 @@ impl Hand {
         self.words[9] = MESSAGE_HEADER as u64;
     }
 
-    /// Writes of keys and values that ascend by 1, with count and offset.
-    fn writes(&mut self, count: u64, key: u64, value: u64) {
+    /// Writes of keys and starts that ascend by 1 and of one length, with count and offset.
+    fn writes(&mut self, count: u64, key: u64, value: Value) {
         if count > WRITES {
             self.held = 0;
             return;
         }
         for one in 0..count {
             let at = RECORD_HEADER + WRITE_WORDS * one as usize;
-            self.words[at] = key.wrapping_add(one);
-            self.words[at + 1] = value.wrapping_add(one);
+            let write = [key.wrapping_add(one), value.start.wrapping_add(one), value.length];
+            self.words[at..at + WRITE_WORDS].copy_from_slice(&write);
         }
         self.held = RECORD_HEADER + WRITE_WORDS * count as usize;
         self.words[0] = self.held as u64;

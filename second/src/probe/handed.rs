@@ -6,12 +6,13 @@ use std::collections::{BTreeMap, BTreeSet};
 use super::claimed::Claimed;
 use super::listed::Listed;
 use super::sums;
+use super::valued;
 use crate::answer::Refusal;
 use crate::site::{Footprint, Installed, Part, Site, Stage};
 use crate::sizes::*;
 
 /// Fields of a part and of an installed one. A key adds its place to 100 (read)
-/// or 200 (written).
+/// or 200 (written), a value written to 300 (start) or 400 (length).
 mod field {
     pub const TRANSACTION: u64 = 0;
     pub const SNAPSHOT: u64 = 1;
@@ -67,16 +68,24 @@ impl Handed {
         }
     }
 
-    /// S19, Q3.5, Q10.6: table, counts, keys, masks and desks. What goes out in a CONC is
-    /// a transaction of the house: the numbers of parts and of remembered ones.
+    /// A site with its history in the slots.
+    pub fn of(site: Site) -> Self {
+        let mut handed = Handed::new(site);
+        for past in &handed.site.history {
+            handed.slots[slot_of(past.install)] = past.clone();
+        }
+        handed
+    }
+
+    /// S19, Q3.5, Q10.6, Q12.7: table, counts, keys, masks, desks and values written. What
+    /// goes out in a CONC is a transaction of the house: the numbers of parts and of
+    /// remembered ones.
     pub fn is_within_sizes(&self) -> bool {
         let site = &self.site;
         if !self.has_house() {
             return false;
         }
-        let footprints = (site.live.iter().map(|part| &part.footprint))
-            .chain(self.slots.iter().map(|past| &past.footprint));
-        let mut keys = footprints.flat_map(|one| one.reads.keys().chain(one.writes.keys()));
+        let mut keys = self.footprints().flat_map(|one| one.reads.keys().chain(one.writes.keys()));
         let numbers = (site.live.iter().map(|part| part.transaction))
             .chain(site.history.iter().map(|past| past.transaction));
         site.serial <= LAST_SERIAL
@@ -86,6 +95,13 @@ impl Handed {
             && self.slots.iter().all(|past| is_mask(past.participants, site.table.sites))
             && numbers.into_iter().all(|number| is_transaction(number, site.table.sites))
             && keys.all(|key| site.table.site_of(key) == Some(site.own))
+            && self.footprints().all(valued::fits)
+    }
+
+    /// Of parts, and of every slot.
+    fn footprints(&self) -> impl Iterator<Item = &Footprint> {
+        let live = self.site.live.iter().map(|part| &part.footprint);
+        live.chain(self.slots.iter().map(|past| &past.footprint))
     }
 
     fn has_house(&self) -> bool {
@@ -204,7 +220,7 @@ impl Handed {
                 }
             }
             field::LISTED => self.poke_list(place, |list| list.count = value),
-            _ => {}
+            _ => valued::poke(&mut part.footprint, what, value),
         }
         Ok(Ok(()))
     }
@@ -255,7 +271,9 @@ impl Handed {
     /// A free place's number and list are not looked at, its counts, keys, masks and
     /// desk are.
     fn free(&mut self, place: usize) -> Result<Result<(), Refusal>, String> {
-        if !self.has_house() || !self.has_possible_masks(&self.site.live[place]) {
+        let part = &self.site.live[place];
+        let possible = self.has_possible_masks(part) && valued::fits(&part.footprint);
+        if !self.has_house() || !possible {
             return Err("a free place past the sizes".to_string());
         }
         let part = self.site.live.remove(place);
@@ -302,7 +320,7 @@ impl Handed {
         match what {
             field::TRANSACTION => self.slots[slot].transaction = value,
             field::MASK => self.slots[slot].participants = value,
-            _ => {}
+            _ => valued::poke(&mut self.slots[slot].footprint, what, value),
         }
         self.remember();
         Ok(Ok(()))

@@ -1,4 +1,4 @@
-//! Lines of a probe: a verb and up to four numbers, or a remark.
+//! Lines of a probe: a verb and up to five numbers, or a remark.
 
 #[derive(Clone, PartialEq, Eq, Debug)]
 pub struct Line {
@@ -23,7 +23,7 @@ const VERBS: [(&str, usize); 44] = [
     ("enlist", 3),
     ("read", 3),
     ("search", 3),
-    ("write", 4),
+    ("write", 5),
     ("commit", 2),
     ("abandon", 2),
     ("message", 1),
@@ -51,7 +51,7 @@ const VERBS: [(&str, usize); 44] = [
     ("head", 4),
     ("entries", 4),
     ("form", 4),
-    ("writes", 3),
+    ("writes", 4),
 ];
 
 /// `Ok(None)` for a remark: an empty line, or one that begins with `#`.

@@ -4,61 +4,36 @@
 
 mod claimed;
 mod hand;
-mod handed;
+pub(crate) mod handed;
+mod lent;
 pub mod line;
 mod listed;
 mod queued;
 pub mod random;
 pub mod sums;
 mod tabled;
+mod told;
+mod valued;
 
 use std::fmt::Write;
 
-use crate::answer::{require, Decision, Refusal};
+use crate::answer::{require, Refusal};
 use crate::copy::Copy;
 use crate::desk::Desk;
 use crate::merger::Merger;
 use crate::site::Site;
 use crate::sizes::*;
+use crate::value::Value;
 use crate::world::Answer;
 use hand::Hand;
 use handed::Handed;
+use lent::{Lent, COPY, COPY_HEADER, QUEUES, WHOLE};
 use line::Line;
 use queued::Queued;
 use tabled::Lending;
+use told::tell;
 
-/// Words for the outgoing buffer, more than any call wants.
-const ROOM: u64 = 8_192;
 const COPIES: usize = 2;
-const COPY_WORDS: u64 = 2 + KEYS;
-/// Words of a set of keys: two counts, the keys read, the keys written, their values.
-const KEY_WORDS: usize = 2 + 3 * SET_KEYS;
-/// A live place has seven words beside its keys, a slot of the history three.
-const PLACES: u64 = (LIVE * (7 + KEY_WORDS)) as u64;
-const SLOTS: u64 = (HISTORY * (3 + KEY_WORDS)) as u64;
-const LISTS: u64 = (LIVE * listed::LIST_WORDS) as u64;
-const QUEUES: u64 = (SITES * sums::SITE_QUEUE) as u64;
-
-/// Lengths lent.
-struct Lent {
-    room: u64,
-    places: u64,
-    slots: u64,
-    base: u64,
-    lists: u64,
-    queues: u64,
-    copy: u64,
-}
-
-const WHOLE: Lent = Lent {
-    room: SEND_BUFFER as u64,
-    places: PLACES,
-    slots: SLOTS,
-    base: KEYS,
-    lists: LISTS,
-    queues: QUEUES,
-    copy: COPY_WORDS,
-};
 
 pub struct Probe {
     sites: Vec<Handed>,
@@ -109,7 +84,9 @@ impl Probe {
             }
             "table" => self.table.set(line.numbers[0], line.numbers[1]),
             "tables" => self.table.length = Some(line.numbers[0]),
-            "room" | "places" | "slots" | "base" | "lists" | "queues" | "copies" => self.lend(line),
+            "room" | "places" | "slots" | "base" | "lists" | "queues" | "copies" => {
+                self.lent.set(line)
+            }
             "site" | "live" | "past" | "list" | "merger" | "source" | "queued" | "copied" => {
                 let answer = self.poke(line)?;
                 tell(output, event, &answer.map(|()| Answer::Done));
@@ -136,20 +113,6 @@ impl Probe {
         Ok(())
     }
 
-    fn lend(&mut self, line: &Line) {
-        let length = line.numbers[0];
-        let (lent, most) = match line.verb.as_str() {
-            "room" => (&mut self.lent.room, ROOM),
-            "places" => (&mut self.lent.places, PLACES + 1),
-            "slots" => (&mut self.lent.slots, SLOTS + 1),
-            "base" => (&mut self.lent.base, KEYS + 1),
-            "lists" => (&mut self.lent.lists, LISTS + 1),
-            "queues" => (&mut self.lent.queues, QUEUES + 1),
-            _ => (&mut self.lent.copy, COPY_WORDS + 1),
-        };
-        *lent = length.min(most);
-    }
-
     fn poke(&mut self, line: &Line) -> Result<Result<(), Refusal>, String> {
         match (line.verb.as_str(), line.numbers.as_slice()) {
             ("merger", &[field, value]) => self.merger.poke(field, value)?,
@@ -159,11 +122,8 @@ impl Probe {
                 let Some(copy) = at(&mut self.copies, copy) else {
                     return Ok(Err(Refusal::Impossible));
                 };
-                match place {
-                    0 => copy.last.number = value,
-                    1 => copy.last.coordinator = value,
-                    _ => copy.values[place as usize - 2] = value,
-                }
+                let word = word_of(copy, place).ok_or("a word of no copy")?;
+                *word = value;
             }
             (verb, &[site, ref rest @ ..]) => {
                 let Some(site) = at(&mut self.sites, site) else {
@@ -235,7 +195,7 @@ impl Probe {
     fn at_copy(&mut self, line: &Line) -> Done {
         let Some(copy) = at(&mut self.copies, line.numbers[0]) else { return missing() };
         let before = copy.clone();
-        let lent = self.lent.copy == COPY_WORDS;
+        let lent = self.lent.copy == COPY;
         let answer = require(lent, Refusal::Impossible).and_then(|()| match line.verb.as_str() {
             "replay" => copy.replay(self.hand.words()).map(Answer::Replayed),
             "value" => {
@@ -263,27 +223,20 @@ fn missing() -> Done {
     Done { answer: Err(Refusal::Impossible), found: false, same: true, state: 0 }
 }
 
+/// Q12.4: number, coordinator, then start and length of each key's value.
+fn word_of(copy: &mut Copy, place: u64) -> Option<&mut u64> {
+    let place = usize::try_from(place).ok()?;
+    let Some(behind) = place.checked_sub(COPY_HEADER) else {
+        return Some(if place == 0 { &mut copy.last.number } else { &mut copy.last.coordinator });
+    };
+    let value = copy.values.get_mut(behind / VALUE_WORDS)?;
+    Some(if behind % VALUE_WORDS == 0 { &mut value.start } else { &mut value.length })
+}
+
 /// Sites and copies count from 1.
 fn at<T>(list: &mut [T], number: u64) -> Option<&mut T> {
     let place = usize::try_from(number).ok()?.checked_sub(1)?;
     list.get_mut(place)
-}
-
-/// The outgoing words that a call of a site wants, and whether what else it is lent has
-/// its length.
-fn lengths(verb: &str, lent: &Lent) -> (usize, bool) {
-    let tables = lent.places == PLACES && lent.slots == SLOTS;
-    let (base, lists) = (lent.base == KEYS, lent.lists == LISTS);
-    let (wanted, whole) = match verb {
-        "enlist" | "abandon" => (SEND_BUFFER, true),
-        "commit" | "message" => (SEND_BUFFER, lists),
-        "install" => (PART_BUFFER, base),
-        "report" => (PART_BUFFER, true),
-        "read" | "search" => (0, base),
-        "start" => (0, base && lists),
-        _ => (0, true),
-    };
-    (wanted, tables && whole)
 }
 
 /// A short buffer goes before a state or a lent table past its size.
@@ -294,7 +247,7 @@ fn site_call(
     lent: &Lent,
     out: &mut [u64],
 ) -> Result<Answer, Refusal> {
-    let (wanted, whole) = lengths(&line.verb, lent);
+    let (wanted, whole) = lent.wanted(&line.verb);
     require(out.len() >= wanted, Refusal::BufferTooShort)?;
     require(whole, Refusal::Impossible)?;
     if let ("start", &[_, sites, own]) = (line.verb.as_str(), line.numbers.as_slice()) {
@@ -314,8 +267,8 @@ fn site_call(
         }
         ("read", &[transaction, key]) => site.read(transaction, key).map(Answer::Value),
         ("search", &[snapshot, key]) => site.search(snapshot, key).map(Answer::Found),
-        ("write", &[transaction, key, value]) => {
-            site.write(transaction, key, value).map(|()| Answer::Done)
+        ("write", &[transaction, key, start, length]) => {
+            site.write(transaction, key, Value::new(start, length)).map(|()| Answer::Done)
         }
         ("commit", &[transaction]) => site.commit(transaction, out).map(Answer::Sent),
         ("abandon", &[transaction]) => site.abandon(transaction, out).map(Answer::Sent),
@@ -345,37 +298,5 @@ fn merger_call(
     match line.verb.as_str() {
         "merge" => queued.merger.merge(words.hand).map(|()| Answer::Done),
         _ => queued.merger.emit(out).map(Answer::Emitted),
-    }
-}
-
-/// An outcome in words, without the end of its line.
-fn tell(output: &mut String, event: u64, answer: &Result<Answer, Refusal>) {
-    // Writing to a String cannot fail.
-    let _ = match answer {
-        Err(refusal) => write!(output, "{event} refused {}", refusal.number()),
-        Ok(answer) => write!(output, "{event} ok{}", results(answer)),
-    };
-}
-
-fn results(answer: &Answer) -> String {
-    match *answer {
-        Answer::Done => String::new(),
-        Answer::Begun(number) | Answer::Value(number) => format!(" {number}"),
-        Answer::Sent(sent) => match sent.decision {
-            None => String::new(),
-            Some(Decision::Commit(number)) => format!(" {number}"),
-            Some(Decision::Abort(reason)) => format!(" abort {reason}"),
-        },
-        Answer::Installed(done) => format!(" {} {}", done.pair.number, done.pair.coordinator),
-        Answer::Reported(report) => format!(" {}", report.state),
-        Answer::Emitted(emitted) => {
-            let pair = emitted.pair;
-            format!(" {} {} {}", pair.number, pair.coordinator, emitted.transaction)
-        }
-        Answer::Replayed(pair) => format!(" {} {}", pair.number, pair.coordinator),
-        Answer::CopyValue(value, pair) => {
-            format!(" {value} {} {}", pair.number, pair.coordinator)
-        }
-        Answer::Found(found) => format!(" {} {}", found.value, found.looked_at),
     }
 }

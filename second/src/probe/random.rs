@@ -1,17 +1,19 @@
 //! Random probes: calls in turn and out of turn, words forged, buffers shortened,
 //! tables lent at other lengths, counters near their ends, states past the sizes,
-//! fields poked, histories searched, both desks, tables of all kinds. The house is run
-//! beside, so that the lines lead into deep states.
+//! fields poked, histories searched, both desks, tables of all kinds, values that do not
+//! fit. The house is run beside, so that the lines lead into deep states.
 
 mod desks;
 mod pokes;
 mod searches;
 mod tables;
+mod values;
 
 use std::fmt::Write;
 
+use super::lent::{BASE, LISTS, PLACES, SLOTS};
 use super::line::parse;
-use super::{sums, Probe, LISTS, PLACES, SLOTS};
+use super::{sums, Probe};
 use crate::random::Random;
 use crate::sizes::*;
 use crate::table::{even, Table};
@@ -110,8 +112,8 @@ impl Maker {
                 self.say(format!("read {site} {transaction} {key}"));
             }
             3 => {
-                let (key, value) = (self.key(site), self.random.word());
-                self.say(format!("write {site} {transaction} {key} {value}"));
+                let key = self.key(site);
+                self.write(site, transaction, key);
             }
             4 => drop(self.say(format!("commit {site} {transaction}"))),
             5 => drop(self.say(format!("abandon {site} {transaction}"))),
@@ -193,6 +195,15 @@ impl Maker {
         }
     }
 
+    fn forge_record(&mut self) {
+        if self.random.chance(self.forged) {
+            self.forge();
+        }
+        if self.random.chance(self.forged) {
+            self.forge_value();
+        }
+    }
+
     /// A log's next record, or one from before.
     fn merge(&mut self) {
         let site = self.random.between(1, self.sites());
@@ -202,9 +213,7 @@ impl Maker {
         if !self.say(format!("record {site} {count}")) {
             return;
         }
-        if self.random.chance(self.forged) {
-            self.forge();
-        }
+        self.forge_record();
         if self.say("merge".to_string()) && count == taken + 1 {
             self.merged[site as usize - 1] += 1;
         }
@@ -218,9 +227,7 @@ impl Maker {
         if !self.say(format!("record 0 {count}")) {
             return;
         }
-        if self.random.chance(self.forged) {
-            self.forge();
-        }
+        self.forge_record();
         if self.say(format!("replay {copy}")) && count == taken + 1 {
             self.replayed[copy as usize - 1] += 1;
         }
@@ -246,7 +253,7 @@ impl Maker {
     /// A table of a site one word shorter or longer, 16 words shorter, or none of it,
     /// for some calls.
     fn lent(&mut self, site: u64, transaction: u64) {
-        let tables = [("places", PLACES), ("slots", SLOTS), ("base", KEYS), ("lists", LISTS)];
+        let tables = [("places", PLACES), ("slots", SLOTS), ("base", BASE), ("lists", LISTS)];
         let (verb, size) = tables[self.random.below(4) as usize];
         let length = [0, size - 1, size + 1, size - LIVE as u64][self.random.below(4) as usize];
         self.say(format!("{verb} {length}"));
@@ -256,7 +263,7 @@ impl Maker {
                 0 => drop(self.begin(site)),
                 1 => drop(self.say(format!("enlist {site} {transaction} {site}"))),
                 2 => drop(self.say(format!("read {site} {transaction} {key}"))),
-                3 => drop(self.say(format!("write {site} {transaction} {key} 7"))),
+                3 => self.write(site, transaction, key),
                 4 => drop(self.say(format!("commit {site} {transaction}"))),
                 5 => drop(self.say(format!("abandon {site} {transaction}"))),
                 6 => self.message(),

@@ -7,6 +7,7 @@ use crate::record::{self, Save};
 use crate::site::{Footprint, Installed, Part, Site, Stage};
 use crate::sizes::*;
 use crate::table::Table;
+use crate::value::Value;
 
 const PRIME: u64 = 4_294_967_291;
 const FACTOR: u64 = 69_069;
@@ -23,13 +24,19 @@ pub fn words(sum: u64, words: &[u64]) -> u64 {
     words.iter().fold(sum, |sum, &word| more(sum, word))
 }
 
+/// Of each value its start, then its length.
+fn values(sum: u64, values: &[Value]) -> u64 {
+    values.iter().fold(sum, |sum, value| words(sum, &value.words()))
+}
+
 fn together(sums: impl Iterator<Item = u64>) -> u64 {
     sums.fold(0, |sum, one| (sum + one) % PRIME)
 }
 
 fn keys(sum: u64, footprint: &Footprint) -> u64 {
     let read = together(footprint.reads.keys().map(|key| more(1, key)));
-    let wrote = together(footprint.values.iter().map(|&(key, value)| more(more(2, key), value)));
+    let wrote = footprint.values.iter().map(|&(key, value)| words(more(2, key), &value.words()));
+    let wrote = together(wrote);
     more(more(sum, read), wrote)
 }
 
@@ -71,7 +78,7 @@ pub fn site(site: &Site) -> u64 {
     let sum = words(words(words(house(&site.table), &counts), &site.sent), &site.taken);
     let live = together(site.live.iter().map(|one| part(one, site.own)));
     let past = together(site.history.iter().map(installed));
-    words(more(more(sum, live), past), &site.base)
+    values(more(more(sum, live), past), &site.base)
 }
 
 /// The words of a site's queue, unused ones 0.
@@ -101,5 +108,5 @@ pub fn merger(table: &Table, sources: &[Source]) -> u64 {
 }
 
 pub fn copy(copy: &Copy) -> u64 {
-    words(words(0, &[copy.last.number, copy.last.coordinator]), &copy.values)
+    values(words(0, &[copy.last.number, copy.last.coordinator]), &copy.values)
 }

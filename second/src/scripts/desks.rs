@@ -35,16 +35,17 @@ impl Generator {
             }
             if self.random.chance(97) {
                 let value = self.fresh_value();
-                self.tell("write", &[site, transaction, key(place), value]);
+                self.write_at(site, transaction, key(place), value);
             }
         }
         for _ in 0..self.random.between(1, 5) {
             let known = key(self.random.below(limit));
             let value = self.fresh_value();
-            self.tell("write", &[site, transaction, known, value]);
+            self.write_at(site, transaction, known, value);
             self.tell("read", &[site, transaction, known]);
         }
-        self.tell("write", &[site, transaction, key(limit + 2), 5]);
+        let value = self.fresh_value();
+        self.write_at(site, transaction, key(limit + 2), value);
         if self.random.chance(50) {
             for place in 0..SET_KEYS as u64 + 2 {
                 self.tell("read", &[site, transaction, key(limit + 2 + place)]);

@@ -14,6 +14,7 @@ mod profile;
 mod scenes;
 mod steps;
 mod tables;
+mod values;
 
 use std::fmt::Write;
 
@@ -54,6 +55,7 @@ impl Observer for Watcher {
             _ => self.tally.replies(call, answer, written),
         }
         self.tally.desks(call, answer, world);
+        self.tally.values(call, answer, world);
         if let Err(violation) = self.book.enter(call, answer, written, &world.copies) {
             self.violation = Some(violation);
         }

@@ -4,7 +4,7 @@ use super::Generator;
 use crate::sizes::*;
 
 /// Lines that are no commands, or name what no house has.
-const BAD_LINES: [&str; 41] = [
+const BAD_LINES: [&str; 45] = [
     "",
     " ",
     "sites",
@@ -37,6 +37,10 @@ const BAD_LINES: [&str; 41] = [
     "begin 1 18446744073709551616",
     "enlist 4294967297",
     "write 1 4294967297 5",
+    "write 1 4294967297 5 700",
+    "write 1 4294967297 5 700 0 0",
+    "write 1 4294967297 5 700 -1",
+    "write 1 4294967297 5 700 18446744073709551616",
     "read 1 4294967297",
     "read 1 4294967297 x",
     "take 1",
@@ -93,7 +97,7 @@ impl Generator {
             1 => self.tell("abandon", &[transaction]),
             2 => self.tell("enlist", &[transaction, site]),
             3 => self.tell("read", &[site, transaction, key]),
-            _ => self.tell("write", &[site, transaction, key, 1]),
+            _ => self.write_any(site, transaction, key),
         }
     }
 
@@ -113,7 +117,7 @@ impl Generator {
         };
         match self.random.below(2) {
             0 => self.tell("read", &[site, transaction, key]),
-            _ => self.tell("write", &[site, transaction, key, 2]),
+            _ => self.write_any(site, transaction, key),
         }
     }
 
@@ -146,7 +150,7 @@ impl Generator {
             1 => self.tell("abandon", &[transaction]),
             2 => self.tell("enlist", &[transaction, target]),
             3 => self.tell("read", &[site, transaction, key]),
-            _ => self.tell("write", &[site, transaction, key, 3]),
+            _ => self.write_any(site, transaction, key),
         }
     }
 

@@ -8,7 +8,7 @@ impl Generator {
         if self.random.chance(2) {
             return self.long_lists();
         }
-        match self.random.below(10) {
+        match self.random.below(11) {
             0 => self.wide_save(),
             1 => self.old_snapshot(),
             2 => self.seen_and_missed(),
@@ -17,6 +17,7 @@ impl Generator {
             5 => self.wide_sets(),
             6 => self.early_request(),
             7 | 8 => self.third_party(),
+            9 => self.long_values(),
             _ => self.opposite_orders(),
         }
     }
@@ -32,7 +33,7 @@ impl Generator {
     fn write_some(&mut self, site: u64, transaction: u64, percent: u64) {
         if self.random.chance(percent) {
             let (key, value) = (self.key_of(site), self.fresh_value());
-            self.tell("write", &[site, transaction, key, value]);
+            self.write_at(site, transaction, key, value);
         }
     }
 
@@ -87,7 +88,10 @@ impl Generator {
         self.read_some(site, transaction, 50);
         self.lone_saves(site);
         self.read_some(site, transaction, 80);
-        self.write_some(site, transaction, 80);
+        if self.random.chance(80) {
+            let key = self.key_of(site);
+            self.write_any(site, transaction, key);
+        }
         self.tell("commit", &[transaction]);
         self.take_all();
         self.install_all();

@@ -65,17 +65,7 @@ impl Generator {
     fn write(&mut self) {
         let Some((site, transaction, key)) = self.active_part() else { return };
         let value = self.fresh_value();
-        self.tell("write", &[site, transaction, key, value]);
-    }
-
-    /// Mostly a value that tells its line; at times one from the ends.
-    pub(super) fn fresh_value(&mut self) -> u64 {
-        match self.random.below(20) {
-            0 => 0,
-            1 => u64::MAX,
-            2 => self.random.word(),
-            _ => self.written + 1,
-        }
+        self.write_at(site, transaction, key, value);
     }
 
     /// Mostly where every JOINED has come.

@@ -1,4 +1,4 @@
-//! The queue of a site: install and report (C51 to C59).
+//! The queue of a site: install and report (C51 to C59, Q12.1).
 
 use super::{Installed, Site, Stage};
 use crate::answer::{require, Pair, Refusal};
@@ -29,7 +29,7 @@ impl Site {
             pair: Pair::new(number, coordinator_of(part.transaction)),
             transaction: part.transaction,
             participants: part.participants,
-            writes: part.footprint.values.clone(),
+            writes: part.footprint.by_key(),
         };
         self.installs += 1;
         self.history.push_back(Installed {

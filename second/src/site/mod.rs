@@ -1,5 +1,5 @@
 //! A site: its state and the calls of clients (C1 to C59, Q3.1 to Q3.6, Q5.1 to
-//! Q5.5, Q10.1 to Q10.5).
+//! Q5.5, Q10.1 to Q10.5, Q12.1, Q12.2, Q12.5).
 //!
 //! Every call first finds the refusal that applies, in the order of the causes,
 //! then alters.
@@ -21,6 +21,7 @@ use crate::desk::Desk;
 use crate::message::{Kind, Letter, Outbox};
 use crate::sizes::*;
 use crate::table::Table;
+use crate::value::{Value, FRESH};
 
 #[derive(Clone, PartialEq, Eq, Debug)]
 pub struct Site {
@@ -38,8 +39,9 @@ pub struct Site {
     pub live: Vec<Part>,
     /// The last installed, oldest first.
     pub history: VecDeque<Installed>,
-    /// Values by key, as the forgotten installs left them; 0 at keys of other sites.
-    pub base: Vec<u64>,
+    /// Values by key, as the forgotten installs left them; fresh at keys of other sites.
+    /// Any words may stand for a value.
+    pub base: Vec<Value>,
 }
 
 impl Site {
@@ -55,7 +57,7 @@ impl Site {
             taken: [0; SITES],
             live: Vec::with_capacity(LIVE),
             history: VecDeque::with_capacity(HISTORY + 1),
-            base: vec![0; KEYS as usize],
+            base: vec![FRESH; KEYS as usize],
         })
     }
 
@@ -94,7 +96,7 @@ impl Site {
         Ok(Sent { words: out.used(), decision: None })
     }
 
-    pub fn read(&mut self, transaction: u64, key: u64) -> Result<u64, Refusal> {
+    pub fn read(&mut self, transaction: u64, key: u64) -> Result<Value, Refusal> {
         let place = self.find_active(transaction, key)?;
         let part = &self.live[place];
         if let Some(value) = part.footprint.value(key) {
@@ -108,7 +110,8 @@ impl Site {
         Ok(value)
     }
 
-    pub fn write(&mut self, transaction: u64, key: u64, value: u64) -> Result<(), Refusal> {
+    /// A value that does not fit is the last cause, of a key already written too.
+    pub fn write(&mut self, transaction: u64, key: u64, value: Value) -> Result<(), Refusal> {
         let place = self.find_active(transaction, key)?;
         let part = &self.live[place];
         if !part.footprint.writes.contains(key) {
@@ -121,6 +124,7 @@ impl Site {
             let limit = part.desk.written_keys();
             require(part.footprint.writes.len() < limit, Refusal::TooManyKeys)?;
         }
+        require(value.fits(), Refusal::DoesNotFit)?;
         self.live[place].footprint.put(key, value);
         Ok(())
     }

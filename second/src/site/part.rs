@@ -4,6 +4,7 @@ use crate::desk::Desk;
 use crate::message::Entry;
 use crate::record::Write;
 use crate::sizes::*;
+use crate::value::Value;
 
 /// A set of keys, a bit for each.
 #[derive(Clone, Copy, PartialEq, Eq, Debug, Default)]
@@ -51,25 +52,31 @@ impl KeySet {
 pub struct Footprint {
     pub reads: KeySet,
     pub writes: KeySet,
-    /// By key ascending, the same keys as `writes`.
+    /// The same keys as `writes`, in the order in which they were first written.
     pub values: Vec<Write>,
 }
 
 impl Footprint {
-    pub fn put(&mut self, key: u64, value: u64) {
+    pub fn put(&mut self, key: u64, value: Value) {
         self.writes.insert(key);
-        match self.values.binary_search_by_key(&key, |write| write.0) {
-            Ok(place) => self.values[place].1 = value,
-            Err(place) => self.values.insert(place, (key, value)),
+        match self.values.iter_mut().find(|write| write.0 == key) {
+            Some(write) => write.1 = value,
+            None => self.values.push((key, value)),
         }
     }
 
-    pub fn value(&self, key: u64) -> Option<u64> {
+    pub fn value(&self, key: u64) -> Option<Value> {
         if !self.writes.contains(key) {
             return None;
         }
-        let place = self.values.binary_search_by_key(&key, |write| write.0).ok()?;
-        Some(self.values[place].1)
+        self.values.iter().find(|write| write.0 == key).map(|write| write.1)
+    }
+
+    /// By key ascending, as a record has them.
+    pub fn by_key(&self) -> Vec<Write> {
+        let mut writes = self.values.clone();
+        writes.sort_unstable_by_key(|write| write.0);
+        writes
     }
 
     /// C28: one wrote a key the other read or wrote.

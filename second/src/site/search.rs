@@ -1,12 +1,13 @@
-//! The search of a site's history (C9, Q5.1 to Q5.5).
+//! The search of a site's history (C9, Q5.1 to Q5.5, Q12.1).
 
 use super::Site;
 use crate::answer::Refusal;
+use crate::value::Value;
 
 /// Outcome of a search: the value, and how many entries of the history it looked at.
 #[derive(Clone, Copy, PartialEq, Eq, Debug)]
 pub struct Found {
-    pub value: u64,
+    pub value: Value,
     pub looked_at: u64,
 }
 

@@ -11,10 +11,16 @@ use second::merger::Merger;
 use second::site::{Footprint, Installed, Part, Site, Stage};
 use second::sizes::*;
 use second::table::even;
+use second::value::Value;
 
 /// The desks by number.
 pub const HOUSE: u64 = Desk::House as u64;
 pub const PROOFING: u64 = Desk::Proofing as u64;
+
+/// A value of length 0.
+pub fn bare(start: u64) -> Value {
+    Value::new(start, 0)
+}
 
 /// Output lines of a script, without their numbers.
 pub fn outputs(script: &str) -> Vec<String> {
@@ -84,10 +90,11 @@ pub fn message(kind: u64, from: u64, to: u64, transaction: u64) -> Vec<u64> {
     vec![10, kind, from, to, 1, transaction, 0, 0, 0, 0]
 }
 
+/// Each key is written with a start, at length 0.
 pub fn footprint(reads: &[u64], writes: &[(u64, u64)]) -> Footprint {
     let mut footprint = Footprint::default();
     reads.iter().for_each(|&key| footprint.reads.insert(key));
-    writes.iter().for_each(|&(key, value)| footprint.put(key, value));
+    writes.iter().for_each(|&(key, start)| footprint.put(key, bare(start)));
     footprint
 }
 

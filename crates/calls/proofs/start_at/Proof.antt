@@ -49,8 +49,8 @@ Left n table own code r = r ≡ pick (eqb code 0) (freshCore (houseOf n table) o
 
 started : (n : ℕ) (table firsts : List ℕ) (own base lists : ℕ) (w h : List ℕ) (r : Core)
     → Left n table own (startedCode n table own w h base lists) r
-    → Lengths w h → base ≡ sizes.keys → lists ≡ sizes.lists → table ≡ firsts
-    → Left n firsts own (startCode n firsts own sizes.keys sizes.lists) r
+    → Lengths w h → base ≡ sizes.base → lists ≡ sizes.lists → table ≡ firsts
+    → Left n firsts own (startCode n firsts own sizes.base sizes.lists) r
 unfolding startCode lentSites lentOk
 started n table firsts own base lists w h r e k p q f =
     rw f at (rw (eq-eqb _ _ (k .live), eq-eqb _ _ (k .history), p, q) at e)
@@ -169,7 +169,7 @@ returns c =
     started (a .house .sites) _ _ (i + 1) _ _ w h _
     (call .start .ensures .0 .core)
     lengths
-    (cut-length (a .base .now) (i * sizes.keys) sizes.keys _ (t .base) (omega arith))
+    (cut-length (a .base .now) (i * sizes.base) sizes.base _ (t .base) (omega arith))
     (cut-length (a .lists .now) (i * sizes.lists) sizes.lists _ (t .lists) (omega arith))
     (fronted call .front .ensures)
 

@@ -48,7 +48,7 @@ leaves m i p live history lists out r v l left low tables lv ll promised base =
           record {
             live = w .only;
             history = only-none sizes.historyWords i history;
-            base = only-none sizes.keys i base;
+            base = only-none sizes.base i base;
             lists = s .only;
           };
       wrote = made .1 .1;

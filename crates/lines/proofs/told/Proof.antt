@@ -55,24 +55,27 @@ returns-5 : tie.Need-returns-5
 unfolding commandOf scanOf
 returns-5 c = search (eq-eqb, ne-eqb, ← c .three .ensures, needs)
 
-element-copy-out-four : tie.Need-element-copy-out-four
-element-copy-out-four c = search needs
+element-copy-out-five : tie.Need-element-copy-out-five
+element-copy-out-five c = search needs
 
-element-copy-out-four-2 : tie.Need-element-copy-out-four-2
-element-copy-out-four-2 c = search needs
+element-copy-out-five-2 : tie.Need-element-copy-out-five-2
+element-copy-out-five-2 c = search needs
 
-element-copy-out-four-3 : tie.Need-element-copy-out-four-3
-element-copy-out-four-3 c = search needs
+element-copy-out-five-3 : tie.Need-element-copy-out-five-3
+element-copy-out-five-3 c = search needs
 
-element-copy-out-four-4 : tie.Need-element-copy-out-four-4
-element-copy-out-four-4 c = search needs
+element-copy-out-five-4 : tie.Need-element-copy-out-five-4
+element-copy-out-five-4 c = search needs
 
-four-requires : tie.Need-four-requires
-four-requires c κs = search needs
+element-copy-out-five-5 : tie.Need-element-copy-out-five-5
+element-copy-out-five-5 c = search needs
+
+five-requires : tie.Need-five-requires
+five-requires c κs = search needs
 
 returns-6 : tie.Need-returns-6
 unfolding commandOf scanOf
-returns-6 c = search (eq-eqb, ne-eqb, ← c .four .ensures, needs)
+returns-6 c = search (eq-eqb, ne-eqb, ← c .five .ensures, needs)
 
 returns-7 : tie.Need-returns-7
 unfolding commandOf scanOf
@@ -113,11 +116,12 @@ told-spec =
     element-copy-out-three-3
     three-requires
     returns-5
-    element-copy-out-four
-    element-copy-out-four-2
-    element-copy-out-four-3
-    element-copy-out-four-4
-    four-requires
+    element-copy-out-five
+    element-copy-out-five-2
+    element-copy-out-five-3
+    element-copy-out-five-4
+    element-copy-out-five-5
+    five-requires
     returns-6
     returns-7
     element-copy-out-many

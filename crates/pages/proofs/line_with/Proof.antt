@@ -11,8 +11,11 @@ digits-requires c κs = search needs
 outcome-requires : tie.Need-outcome-requires
 outcome-requires c κs = search needs
 
-told-more-requires : tie.Need-told-more-requires
-told-more-requires c κs = search needs
+slice-aggregate-told-four : tie.Need-slice-aggregate-told-four
+slice-aggregate-told-four c = search needs
+
+told-four-requires : tie.Need-told-four-requires
+told-four-requires c κs = search needs
 
 slice-aggregate-put : tie.Need-slice-aggregate-put
 slice-aggregate-put c = search needs
@@ -33,7 +36,8 @@ line-with-spec =
     (tie.spec
     digits-requires
     outcome-requires
-    told-more-requires
+    slice-aggregate-told-four
+    told-four-requires
     slice-aggregate-put
     put-requires
     same-length

@@ -35,35 +35,32 @@ told-requires-2 c κs = search needs
 enum-known-a-3 : tie.Need-enum-known-a-3
 enum-known-a-3 c = search needs
 
+told-two-requires : tie.Need-told-two-requires
+told-two-requires c κs = search needs
+
+enum-known-a-4 : tie.Need-enum-known-a-4
+enum-known-a-4 c = search needs
+
+told-three-requires : tie.Need-told-three-requires
+told-three-requires c κs = search needs
+
+enum-known-a-5 : tie.Need-enum-known-a-5
+enum-known-a-5 c = search needs
+
 slice-aggregate-told-3 : tie.Need-slice-aggregate-told-3
 slice-aggregate-told-3 c = search needs
 
 told-requires-3 : tie.Need-told-requires-3
 told-requires-3 c κs = search needs
 
-enum-known-a-4 : tie.Need-enum-known-a-4
-enum-known-a-4 c = search needs
-
-told-two-requires : tie.Need-told-two-requires
-told-two-requires c κs = search needs
-
-enum-known-a-5 : tie.Need-enum-known-a-5
-enum-known-a-5 c = search needs
+enum-known-a-6 : tie.Need-enum-known-a-6
+enum-known-a-6 c = search needs
 
 slice-aggregate-told-4 : tie.Need-slice-aggregate-told-4
 slice-aggregate-told-4 c = search needs
 
 told-requires-4 : tie.Need-told-requires-4
 told-requires-4 c κs = search needs
-
-enum-known-a-6 : tie.Need-enum-known-a-6
-enum-known-a-6 c = search needs
-
-slice-aggregate-told-5 : tie.Need-slice-aggregate-told-5
-slice-aggregate-told-5 c = search needs
-
-told-requires-5 : tie.Need-told-requires-5
-told-requires-5 c κs = search needs
 
 enum-known-a-7 : tie.Need-enum-known-a-7
 enum-known-a-7 c = search needs
@@ -74,17 +71,17 @@ told-two-requires-2 c κs = search needs
 enum-known-a-8 : tie.Need-enum-known-a-8
 enum-known-a-8 c = search needs
 
-slice-aggregate-told-6 : tie.Need-slice-aggregate-told-6
-slice-aggregate-told-6 c = search needs
+slice-aggregate-told-5 : tie.Need-slice-aggregate-told-5
+slice-aggregate-told-5 c = search needs
 
-told-requires-6 : tie.Need-told-requires-6
-told-requires-6 c κs = search needs
+told-requires-5 : tie.Need-told-requires-5
+told-requires-5 c κs = search needs
 
 enum-known-a-9 : tie.Need-enum-known-a-9
 enum-known-a-9 c = search needs
 
-told-three-requires : tie.Need-told-three-requires
-told-three-requires c κs = search needs
+told-three-requires-2 : tie.Need-told-three-requires-2
+told-three-requires-2 c κs = search needs
 
 enum-known-a-10 : tie.Need-enum-known-a-10
 enum-known-a-10 c = search needs
@@ -95,8 +92,11 @@ told-two-requires-3 c κs = search needs
 enum-known-a-11 : tie.Need-enum-known-a-11
 enum-known-a-11 c = search needs
 
-told-three-requires-2 : tie.Need-told-three-requires-2
-told-three-requires-2 c κs = search needs
+slice-aggregate-told-four : tie.Need-slice-aggregate-told-four
+slice-aggregate-told-four c = search needs
+
+told-four-requires : tie.Need-told-four-requires
+told-four-requires c κs = search needs
 
 same-length : tie.Need-same-length
 same-length c = search needs
@@ -124,7 +124,7 @@ same-length-4 c = search needs
 
 returns-4 : tie.Need-returns-4
 unfolding saidOf outcomeOf
-returns-4 c = let arm = c .before .before .before in rw (arm .before .before .before .a3 .given .1) (search needs)
+returns-4 c = let arm = c .before .before .before in rw (arm .before .before .a3 .given .1) (search needs)
 
 same-length-5 : tie.Need-same-length-5
 same-length-5 c = search needs
@@ -180,7 +180,7 @@ same-length-12 c = search needs
 
 returns-12 : tie.Need-returns-12
 unfolding saidOf outcomeOf
-returns-12 c = let arm = c .before .before .before in rw (arm .before .before .a11 .given .1) (search needs)
+returns-12 c = let arm = c .before .before .before in rw (arm .before .before .before .a11 .given .1) (search needs)
 
 pub outcome-spec : {M : Type 1} → statement M
 outcome-spec =
@@ -196,27 +196,27 @@ outcome-spec =
     slice-aggregate-told-2
     told-requires-2
     enum-known-a-3
+    told-two-requires
+    enum-known-a-4
+    told-three-requires
+    enum-known-a-5
     slice-aggregate-told-3
     told-requires-3
-    enum-known-a-4
-    told-two-requires
-    enum-known-a-5
+    enum-known-a-6
     slice-aggregate-told-4
     told-requires-4
-    enum-known-a-6
-    slice-aggregate-told-5
-    told-requires-5
     enum-known-a-7
     told-two-requires-2
     enum-known-a-8
-    slice-aggregate-told-6
-    told-requires-6
+    slice-aggregate-told-5
+    told-requires-5
     enum-known-a-9
-    told-three-requires
+    told-three-requires-2
     enum-known-a-10
     told-two-requires-3
     enum-known-a-11
-    told-three-requires-2
+    slice-aggregate-told-four
+    told-four-requires
     same-length
     returns
     same-length-2

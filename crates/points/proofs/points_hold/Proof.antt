@@ -8,6 +8,7 @@ use Rattle.kinds.specs.State.{noKeys, noSub, noEntry}
 use Rattle.rules.specs.House.{countOk, tableOk, restOk, houseOk, evenTable, isSite, homeOf, isKey, txOf, coordinatorOf, serialOf, isTx}
 use Rattle.rules.specs.House.{maskOf, inMask, isMask, participants, repliesWanted, wholeHouse}
 use Rattle.rules.specs.Desk.{isDesk, writeLimit}
+use Rattle.rules.specs.Value.{valueWords, valueAt, putValue, fits, valuesFit}
 use Rattle.rules.specs.Message.{entryOffset, messageWords, entryCount, messageHead, messageEntries, toCoordinator, coordinatorEnd}
 use Rattle.rules.specs.Message.{carriesClock, argumentOk, mostEntries, endsOk, headOk, entryBefore, entryOk, messageShape, messageOk}
 use Rattle.rules.specs.Record.{writeOffset, recordWords, recordHead, recordWrites, pairOk, partHeadOk, stateHeadOk, mergedHeadOk}
@@ -25,8 +26,8 @@ use Rattle.rules.specs.Course.{withReply, abortStep, withDecision, commitStep, 
 use Rattle.rules.specs.Course.{prepareStep}
 use Rattle.rules.specs.Course.{voteDecides, voteStep, withStage, preparedStep, certifiedStep}
 use Rattle.rules.specs.Begin.{nextTx, beginCode, begun, beginOf}
-use Rattle.rules.specs.Access.{keyCode, accessCode, readCode, readVersion, readAt, readOf, writeCode, writeCodeAt, written, writeAt}
-use Rattle.rules.specs.Access.{writeOf, searchOf}
+use Rattle.rules.specs.Access.{keyCode, accessCode, readCode, readVersion, readAt, readOf, longCode, writeCode, writeCodeAt, lateCode}
+use Rattle.rules.specs.Access.{written, writeAt, writeOf, searchOf}
 use Rattle.rules.specs.Install.{installCode, entryOf, partHead, partWords, baseAfter, installedAt, installOf, reportCode, stateWords}
 use Rattle.rules.specs.Install.{reportOf, freshSite, startCode, startOf, startTable}
 use Rattle.rules.specs.Merger.{mergerOutOf, placeWords, queuedPart, queuedOk, sourceOk, mergerOk, mergePartCode, mergePart, mergeStateCode}
@@ -46,7 +47,7 @@ use Rattle.points.proofs.points_hold.Tie as tie
 returns : tie.Need-returns
 unfolding firstBelow allBelow anyBelow foldBelow precedes onesBelow overlay putAt noKeys noSub noEntry countOk tableOk restOk
     houseOk evenTable isSite homeOf isKey txOf coordinatorOf serialOf isTx maskOf inMask isMask participants repliesWanted wholeHouse
-    isDesk writeLimit entryOffset messageWords
+    isDesk writeLimit valueWords valueAt putValue fits valuesFit entryOffset messageWords
     entryCount messageHead messageEntries toCoordinator coordinatorEnd carriesClock argumentOk mostEntries endsOk headOk entryBefore
     entryOk messageShape messageOk writeOffset recordWords recordHead recordWrites pairOk partHeadOk stateHeadOk mergedHeadOk keyAscends
     partWriteOk mergedWriteOk recordShape partOk stateOk mergedOk keyPlace wroteKey readKey wroteValue withRead withWrite commonKey
@@ -56,8 +57,9 @@ unfolding firstBelow allBelow anyBelow foldBelow precedes onesBelow overlay putA
     siteOk valids.slotOk takenOf turnAt settle saidOf newSub raise headOf channelSpent sendTo sendAll quietly withParticipant enlistStep
     isOutstanding withReply abortStep withDecision commitStep decideStep withQueueMark castStep withRequest prepareStep voteDecides
     voteStep withStage preparedStep certifiedStep nextTx beginCode begun beginOf keyCode accessCode readCode readVersion readAt readOf
-    writeCode writeCodeAt written writeAt writeOf searchOf installCode entryOf partHead partWords baseAfter installedAt installOf
-    reportCode stateWords reportOf freshSite startCode startOf startTable mergerOutOf placeWords queuedPart queuedOk sourceOk mergerOk
+    longCode writeCode writeCodeAt lateCode written writeAt writeOf searchOf installCode entryOf partHead partWords baseAfter
+    installedAt installOf reportCode stateWords reportOf freshSite startCode startOf startTable mergerOutOf placeWords queuedPart
+    queuedOk sourceOk mergerOk
     mergePartCode mergePart mergeStateCode mergeState mergeCode mergeOf headAt headsOf hasHead betterHead leastHead isDueAt hasPart
     isWholeAt isWhole dueCode partWrites joinedWrites mergedWords siteWords popQueue popQueueAt popQueues popMergerAt popMerger emitDue
     emitCode emitOf freshMerger mergerStartCode mergerStartOf mergers.isDue HeadFits HeadsFit isRecipient headTo wordsTo messagesTo

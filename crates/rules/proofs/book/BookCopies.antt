@@ -7,7 +7,7 @@ use mathlib.Core.List.{List}
 use native.Mathlib.Omega.{arith}
 use Rattle.laws.specs.Choice.{unset}
 use Rattle.laws.specs.Pair.{rank, precedes, precedes-rank, not-precedes-rank}
-use Rattle.kinds.specs.State.{Value}
+use Rattle.kinds.specs.declared.Value.{Value}
 use Rattle.kinds.specs.declared.House.{House}
 use Rattle.rules.specs.House.{coordinatorOf, homeOf}
 use Rattle.rules.specs.Keys.{wroteValue}

@@ -6,7 +6,7 @@ use mathlib.Core.List.{List, [], _∷_, _++_, append-assoc}
 use native.Mathlib.Omega.{arith}
 use borrow.Author.Tests.{eq-eqb, ne-eqb}
 use lib.ListN.{length}
-use Rattle.kinds.specs.State.{Value}
+use Rattle.kinds.specs.declared.Value.{Value}
 use Rattle.rules.specs.World.{Member, here, there}
 use Rattle.rules.specs.Book as book
 use Rattle.rules.specs.Book.{Fact}

@@ -14,7 +14,7 @@ use Rattle.kinds.specs.declared.House.{House}
 use Rattle.kinds.specs.Word as word
 use Rattle.kinds.specs.Kind as kind
 use Rattle.kinds.specs.Reason as reason
-use Rattle.kinds.specs.State.{Value}
+use Rattle.kinds.specs.declared.Value.{Value}
 use Rattle.kinds.specs.declared.Answer.{Answer}
 use Rattle.kinds.specs.declared.Answer.the-variants.{Refused, Done, Begun, Found, Searched, Committed, Aborted, Installed}
 use Rattle.kinds.specs.declared.Answer.the-variants.{Reported, Emitted, Replayed, Standing}
@@ -35,14 +35,14 @@ use Rattle.rules.proofs.refine.RefineReplay.{Replays, replay-cases}
 
 -- What holds of the case, and of the rest, holds of an answer.
 module _ {A : Type 0} (P : A → Type 0) {other : A} (o : P other) where
-  on-answer : {done : A} {begun found committed : ℕ → A} {installed replayed : ℕ → ℕ → A}
-      → P done → ((n : ℕ) → P (begun n)) → ((n : ℕ) → P (found n)) → ((n : ℕ) → P (committed n)) → ((n c : ℕ) → P (installed n c))
+  on-answer : {done : A} {begun committed : ℕ → A} {found : Value → A} {installed replayed : ℕ → ℕ → A}
+      → P done → ((n : ℕ) → P (begun n)) → ((v : Value) → P (found v)) → ((n : ℕ) → P (committed n)) → ((n c : ℕ) → P (installed n c))
       → ((n c : ℕ) → P (replayed n c))
       → (a : Answer) → P (onAnswer other done begun found committed installed replayed a)
   on-answer d b f c i r (Refused n) = o
   on-answer d b f c i r Done = d
   on-answer d b f c i r (Begun n) = b n
-  on-answer d b f c i r (Found n) = f n
+  on-answer d b f c i r (Found v) = f v
   on-answer d b f c i r (Searched n m) = o
   on-answer d b f c i r (Committed n) = c n
   on-answer d b f c i r (Aborted n) = o
@@ -58,7 +58,7 @@ module _ {A : Type 0} (P : A → Type 0) {other : A} (o : P other) where
   pub on-begun : {f : ℕ → A} → ((n : ℕ) → P (f n)) → (a : Answer) → P (onBegun other f a)
   on-begun g = on-answer o g (λ n. o) (λ n. o) (λ n c. o) (λ n c. o)
 
-  pub on-found : {f : ℕ → A} → ((n : ℕ) → P (f n)) → (a : Answer) → P (onFound other f a)
+  pub on-found : {f : Value → A} → ((v : Value) → P (f v)) → (a : Answer) → P (onFound other f a)
   on-found g = on-answer o (λ n. o) g (λ n. o) (λ n c. o) (λ n c. o)
 
   pub on-committed : {f : ℕ → A} → ((n : ℕ) → P (f n)) → (a : Answer) → P (onCommitted other f a)

@@ -7,7 +7,7 @@ use mathlib.Core.Logic.{_⊎_}
 use mathlib.Core.List.{List}
 use lib.ListN.{length}
 use Rattle.kinds.specs.declared.House.{House}
-use Rattle.kinds.specs.State.{Value}
+use Rattle.kinds.specs.declared.Value.{Value}
 use Rattle.kinds.specs.declared.Keys.{Keys}
 use Rattle.rules.specs.House.{coordinatorOf, homeOf}
 use Rattle.rules.specs.Keys.{wroteKey, wroteValue, readKey}

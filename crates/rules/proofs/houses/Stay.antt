@@ -11,9 +11,10 @@ use Rattle.kinds.specs.Kind as kind
 use Rattle.kinds.specs.declared.MessageHead.{MessageHead}
 use Rattle.kinds.specs.declared.Merger.{Merger}
 use Rattle.kinds.specs.declared.Site.{Site}
-use Rattle.kinds.specs.State.{Value, subAt}
+use Rattle.kinds.specs.State.{subAt}
+use Rattle.kinds.specs.declared.Value.{Value}
 use Rattle.rules.specs.House.{isSite, inMask}
-use Rattle.rules.specs.Access.{accessCode, readCode, readAt, readVersion, readOf, writeCodeAt, writeAt, written, writeOf}
+use Rattle.rules.specs.Access.{accessCode, readCode, readAt, readVersion, readOf, lateCode, writeAt, written, writeOf}
 use Rattle.rules.specs.Begin.{beginCode, beginOf}
 use Rattle.rules.specs.Commit.{requestCode, commitCode, commitOf, abandonCode, abandonOf}
 use Rattle.rules.specs.Course.{channelSpent, withReply}
@@ -85,9 +86,7 @@ unfolding writeOf writeAt written settle
 write-stays s tx key v =
     let place = placeOf (s .live) tx in
     or-refused (accessCode (siteOk s) sizes.base (s .house) (s .counters .own) key place (stageAt (s .live) place)) s [] _
-    (by-test (wroteKey (subAt s place .keys) key)
-    (λ t. rw t (kept s _ refl))
-    (λ t. rw t (or-refused (writeCodeAt s place key) s [] _ (kept s _ refl))))
+    (or-refused (lateCode s place key v) s [] _ (kept s _ refl))
 
 commit-stays : (s : Site) (room : ℕ) (lists : List ℕ) (tx : ℕ) → Stays s (commitOf s room lists tx)
 unfolding commitOf settle

@@ -8,7 +8,8 @@ use lib.ListN.{length}
 use Rattle.laws.specs.Choice.{by-test, set-not}
 use Rattle.kinds.specs.Sizes as sizes
 use Rattle.kinds.specs.Reason as reason
-use Rattle.kinds.specs.State.{Value, subAt}
+use Rattle.kinds.specs.State.{subAt}
+use Rattle.kinds.specs.declared.Value.{Value}
 use Rattle.kinds.specs.declared.Site.{Site}
 use Rattle.kinds.specs.declared.Answer.the-variants.{Refused}
 use Rattle.rules.specs.JoinLaws.{join-whole}
@@ -26,7 +27,7 @@ use Rattle.rules.specs.Answers.{isRefused}
 use Rattle.rules.specs.Effect.{Change, Effect, turnAt, changed, unless}
 use Rattle.rules.specs.Course.{quietly, channelSpent}
 use Rattle.rules.specs.Begin.{beginCode, begun, beginOf}
-use Rattle.rules.specs.Access.{accessCode, readCode, readVersion, readAt, readOf, writeCodeAt, written, writeAt, writeOf}
+use Rattle.rules.specs.Access.{accessCode, readCode, readVersion, readAt, readOf, lateCode, written, writeAt, writeOf}
 use Rattle.rules.specs.Enlist.{enlistCode, joinerCode, enlistAt, enlistOf, isMine}
 use Rattle.rules.specs.Commit.{requestCode, commitCode, abandonCode, isFull, isLost, requestChange, commitChange, commitLists}
 use Rattle.rules.specs.Commit.{commitOf, abandonOf}
@@ -85,10 +86,7 @@ read-writes s base tx key =
 
 write-at : (s : Site) (place key : ℕ) (v : Value) → Writes s [] (writeAt s place key v)
 unfolding writeAt written quietly
-write-at s place key v =
-    by-test (wroteKey (subAt s place .keys) key)
-    (λ e. rw e (nothing s [] _ refl refl))
-    (λ e. rw e (or-refused (writeCodeAt s place key) s [] _ (nothing s [] _ refl refl)))
+write-at s place key v = or-refused (lateCode s place key v) s [] _ (nothing s [] _ refl refl)
 
 pub write-writes : (s : Site) (tx key : ℕ) (v : Value) → Writes s [] (writeOf s tx key v)
 unfolding writeOf

@@ -6,7 +6,6 @@ use mathlib.Core.List.{List}
 use lib.ListN.{length, getD}
 use Rattle.kinds.specs.declared.House.{House}
 use Rattle.kinds.specs.Reason as reason
-use Rattle.kinds.specs.State.{Value}
 use Rattle.kinds.specs.declared.MessageHead.{MessageHead}
 use Rattle.kinds.specs.declared.Site.{Site}
 use Rattle.rules.specs.Message.{messageHead, messageEntries, messageOk}

@@ -1,21 +1,25 @@
 -- The calls of a site that are no messages leave it possible, and write messages that pass the check.
 use Prim.Native.Nat.{ℕ, _+_, _≤_, _<_}
-use mathlib.Core.Path.{_≡_, refl}
+use mathlib.Core.Path.{_≡_, refl, sym}
 use mathlib.Core.Bool.{true, false}
 use mathlib.Core.List.{List, []}
 use native.Mathlib.Omega.{arith}
 use borrow.Author.Tests.{le-leb}
 use lib.ListN.{length, getD, set}
 use lib.Seq.{getD-set-same, getD-set-other}
-use Rattle.laws.specs.Choice.{by-test, by-same, set-not}
+use Rattle.laws.specs.Choice.{by-test, by-same}
+use Rattle.laws.specs.Scan.{all-below}
 use Rattle.kinds.specs.Sizes as sizes
-use Rattle.kinds.specs.State.{Value, subAt, withKeys, withSerial}
+use Rattle.kinds.specs.State.{fresh, subAt, withKeys, withSerial}
+use Rattle.kinds.specs.declared.Value.{Value}
 use Rattle.kinds.specs.declared.House.{House}
 use Rattle.kinds.specs.declared.Keys.{Keys}
 use Rattle.kinds.specs.declared.Counters.{Counters}
 use Rattle.kinds.specs.declared.Site.{Site}
 use Rattle.rules.specs.House.{isSite, isTx, isMask, maskOf, homeOf}
 use Rattle.rules.specs.Desk.{isDesk, writeLimit, limit-most}
+use Rattle.rules.specs.Value.{fits, valuesFit}
+use Rattle.rules.specs.ValueLaws.{each-fits}
 use Rattle.rules.specs.Keys.{keysOk, wroteKey, readKey, withRead, withWrite}
 use Rattle.rules.specs.KeysLaws.{wrote-read, wrote-again, wrote-first}
 use Rattle.rules.specs.Live.{placeOf, freePlace, stageAt}
@@ -25,11 +29,12 @@ use Rattle.rules.specs.ValidLaws.{ValidKeys, ValidSite, counters-own, co
 use Rattle.rules.specs.Effect.{turnAt}
 use Rattle.rules.specs.Course.{newSub, withSubOf}
 use Rattle.rules.specs.Begin.{nextTx, beginCode, begun, beginOf, begin-clear}
-use Rattle.rules.specs.Access.{accessCode, readCode, readVersion, readAt, readOf, writeCodeAt, written, writeAt, writeOf}
-use Rattle.rules.specs.CallLaws.{access-clear, read-clear, write-clear}
+use Rattle.rules.specs.Access.{accessCode, readCode, readVersion, readAt, readOf, lateCode, written, writeAt, writeOf}
+use Rattle.rules.specs.CallLaws.{access-clear, read-clear, late-clear}
 use Rattle.rules.specs.MergerWords.{above}
 use Rattle.rules.proofs.protocol.Frames.{tx-coordinator, tx-serial}
 use Rattle.rules.proofs.refine.Refines.{Sized}
+use Rattle.rules.proofs.refine.KeysTold.{place-low}
 use Rattle.rules.proofs.refine.RefineLive.{place-held}
 use Rattle.rules.proofs.refine.RefineMail.{none}
 use Rattle.rules.proofs.possible.ValidMade.{site-mask, keys-made, keys-back, no-keys, desk-made, new-desk, site-tests}
@@ -77,6 +82,25 @@ key-more o own k n keys low e old j h =
     (λ z. rw (z, getD-set-same keys n k 0 low) e)
     (λ z. rw (getD-set-other keys n j k 0 z) (old j (above j n (omega arith) z)))
 
+-- values with one set among them, or behind them
+value-over : (values : List Value) (n i : ℕ) (v : Value) → i < length values → fits v ≡ true → valuesFit values n ≡ true
+    → valuesFit (set values i v) n ≡ true
+unfolding valuesFit
+value-over values n i v low e old =
+    sym (all-below (λ j. fits (getD (set values i v) j fresh)) n (λ j h.
+    by-same j i
+    (λ z. rw (z, getD-set-same values i v fresh low) e)
+    (λ z. rw (getD-set-other values i j v fresh z) (each-fits values n j old h))))
+
+value-behind : (values : List Value) (n : ℕ) (v : Value) → n < length values → fits v ≡ true → valuesFit values n ≡ true
+    → valuesFit (set values n v) (n + 1) ≡ true
+unfolding valuesFit
+value-behind values n v low e old =
+    sym (all-below (λ j. fits (getD (set values n v) j fresh)) (n + 1) (λ j h.
+    by-same j n
+    (λ z. rw (z, getD-set-same values n v fresh low) e)
+    (λ z. rw (getD-set-other values n j v fresh z) (each-fits values n j old (above j n (omega arith) z)))))
+
 module _ (o : House) (own k : ℕ) (b : Keys) (v : ValidKeys o own b) (z : Sized b) (here : homeOf o k ≡ own) where
   read-keys : (readKey b k ≡ false → b .read < sizes.reads) → keysOk o own (withRead b k) ≡ true
   unfolding withRead
@@ -85,16 +109,18 @@ module _ (o : House) (own k : ℕ) (b : Keys) (v : ValidKeys o own b) (z : Sized
       (λ t. rw t (keys-back o own b v))
       (λ t. rw t
       (let more = key-more o own k (b .read) (b .reads) (omega (arith, room t, z .reads-size)) here (v .read-here) in
-      keys-made o own _ (omega (arith, room t)) (v .few-wrote) more (v .wrote-here)))
+      keys-made o own _ (omega (arith, room t)) (v .few-wrote) more (v .wrote-here) (v .values-fit)))
 
-  write-keys : (w : Value) → (wroteKey b k ≡ false → b .wrote < sizes.writes) → keysOk o own (withWrite b k w) ≡ true
+  write-keys : (w : Value) → fits w ≡ true → (wroteKey b k ≡ false → b .wrote < sizes.writes) → keysOk o own (withWrite b k w) ≡ true
   unfolding withWrite
-  write-keys w room =
+  write-keys w short room =
       by-test (wroteKey b k)
-      (λ t. rw t (keys-made o own _ (v .few-read) (v .few-wrote) (v .read-here) (v .wrote-here)))
+      (λ t. rw t (keys-made o own _ (v .few-read) (v .few-wrote) (v .read-here) (v .wrote-here)
+      (value-over (b .values) (b .wrote) _ w (omega (arith, place-low b k t, z .values-size, v .few-wrote)) short (v .values-fit))))
       (λ t. rw t
       (let more = key-more o own k (b .wrote) (b .writes) (omega (arith, room t, z .writes-size)) here (v .wrote-here) in
-      keys-made o own _ (v .few-read) (omega (arith, room t)) (v .read-here) more))
+      keys-made o own _ (v .few-read) (omega (arith, room t)) (v .read-here) more
+      (value-behind (b .values) (b .wrote) w (omega (arith, room t, z .values-size)) short (v .values-fit))))
 
 module _ {s : Site} {lists : List ℕ} (y : Sound s lists) where
   abbrev o : House
@@ -155,14 +181,14 @@ module _ {s : Site} {lists : List ℕ} (y : Sound s lists) where
         changed-fits y place low _ []
         (record { turn = keys-turn (withRead b k) more (rw (wrote-read b k) (part-at y place low .few)); words = none })
 
-    written-fits : (k : ℕ) (v : Value) → homeOf o k ≡ own
+    written-fits : (k : ℕ) (v : Value) → homeOf o k ≡ own → fits v ≡ true
         → (wroteKey (subAt s place .keys) k ≡ false → subAt s place .keys .wrote < writeLimit (subAt s place .desk))
         → EffectFits s (written s place k v) lists
     unfolding written
-    written-fits k v here room =
+    written-fits k v here short room =
         let b = subAt s place .keys in
         let d = subAt s place .desk in
-        let more = write-keys o own k b (part-at y place low .keys) keys-sized here v (λ f. omega (arith, room f, limit-most d)) in
+        let more = write-keys o own k b (part-at y place low .keys) keys-sized here v short (λ f. omega (arith, room f, limit-most d)) in
         let limit : withWrite b k v .wrote ≤ writeLimit d =
         by-test (wroteKey b k)
         (λ e. rw (wrote-again b k v e) (part-at y place low .few))
@@ -184,14 +210,12 @@ module _ {s : Site} {lists : List ℕ} (y : Sound s lists) where
       (λ r. version-fits t (c .held) base k (c .key .here) (read-clear _ _ _ r .room)))))
 
   pub write-fits : (t k : ℕ) (v : Value) → EffectFits s (writeOf s t k v) lists
-  unfolding writeOf writeAt writeCodeAt
+  unfolding writeOf writeAt
   write-fits t k v =
       let place = placeOf (s .live) t in
       unless-fits y (accessCode (siteOk s) sizes.base o own k place (stageAt (s .live) place)) [] _
       (λ z.
       let c = access-clear _ _ _ _ _ _ _ z in
-      by-test (wroteKey (subAt s place .keys) k)
-      (λ e. rw e (written-fits t (c .held) k v (c .key .here) (λ f. absurd (set-not _ e f))))
-      (λ e. rw e
-      (unless-fits y (writeCodeAt s place k) [] _
-      (λ r. written-fits t (c .held) k v (c .key .here) (λ f. write-clear _ _ _ _ _ r .room)))))
+      unless-fits y (lateCode s place k v) [] _
+      (λ r. let l = late-clear s place k v r in
+      written-fits t (c .held) k v (c .key .here) (l .short) (λ f. l .new f .room)))

@@ -10,7 +10,8 @@ use lib.ListN.{length, replicate, length-replicate, getD-replicate}
 use Rattle.laws.specs.Choice.{by-test, set-not}
 use Rattle.kinds.specs.Sizes as sizes
 use Rattle.kinds.specs.Desk as desk
-use Rattle.kinds.specs.State.{Value, subAt, noSub, pastSub, noEntry, pastEntry}
+use Rattle.kinds.specs.State.{subAt, noSub, pastSub, noEntry, pastEntry}
+use Rattle.kinds.specs.declared.Value.{Value}
 use Rattle.kinds.specs.declared.House.{House}
 use Rattle.kinds.specs.declared.Site.{Site}
 use Rattle.rules.specs.House.{houseOk, isSite, inMask, coordinatorOf, GoodHouse}

@@ -13,7 +13,7 @@ use Rattle.laws.specs.Choice.{by-test, by-same}
 use Rattle.laws.specs.Overlay.{putAt}
 use Rattle.kinds.specs.Sizes as sizes
 use Rattle.kinds.specs.Reason as reason
-use Rattle.kinds.specs.State.{Value, subAt, entryAt, pastEntry, noSub, withInstalls}
+use Rattle.kinds.specs.State.{subAt, entryAt, pastEntry, noSub, withInstalls}
 use Rattle.kinds.specs.declared.House.{House}
 use Rattle.kinds.specs.declared.Course.{Course}
 use Rattle.kinds.specs.declared.Entry.{Entry}

@@ -10,7 +10,7 @@ use lib.Dec.{ltb, leb, eqb}
 use lib.ListN.{length, getD}
 use lib.Pow.{pow-pos, pow-lt}
 use Rattle.laws.specs.Choice.{by-test, every-at}
-use Rattle.laws.specs.Scan.{all-below, split-last}
+use Rattle.laws.specs.Scan.{allBelow, all-below, split-last}
 use Rattle.laws.specs.Digits.{digit, onesBelow, digit-or}
 use Rattle.kinds.specs.Sizes as sizes
 use Rattle.kinds.specs.Stage as stage
@@ -25,6 +25,7 @@ use Rattle.kinds.specs.declared.Site.{Site}
 use Rattle.rules.specs.House.{houseOk, isSite, isTx, homeOf, maskOf, isMask, inMask, participants, participants-sites}
 use Rattle.rules.specs.Desk.{isDesk, writeLimit}
 use Rattle.rules.specs.Message.{entryPossible}
+use Rattle.rules.specs.Value.{valuesFit}
 use Rattle.rules.specs.Keys.{keysAt, keysOk}
 use Rattle.rules.specs.History.{remembered}
 use Rattle.rules.specs.Valid.{courseOk, deskOk, heldOk, subOk, slotOk, countersOk, liveOk, historyOk, siteOk, listAt, gatheredOk}
@@ -93,20 +94,21 @@ keys-at o own keys n f = sym (all-below (λ i. eqb (homeOf o (getD keys i 0)) ow
 
 pub keys-made : (o : House) (own : ℕ) (b : Keys) → b .read ≤ sizes.reads → b .wrote ≤ sizes.writes
     → ((j : ℕ) → j < b .read → homeOf o (getD (b .reads) j 0) ≡ own) → ((j : ℕ) → j < b .wrote → homeOf o (getD (b .writes) j 0) ≡ own)
-    → keysOk o own b ≡ true
+    → valuesFit (b .values) (b .wrote) ≡ true → keysOk o own b ≡ true
 unfolding keysOk
-keys-made o own b r w f g =
+keys-made o own b r w f g h =
     let reads = keys-at o own (b .reads) (b .read) f in
     let writes = keys-at o own (b .writes) (b .wrote) g in
-    rw (le-leb (b .read) sizes.reads r, le-leb (b .wrote) sizes.writes w, reads, writes)
+    rw (le-leb (b .read) sizes.reads r, le-leb (b .wrote) sizes.writes w, reads, writes, h)
 
 pub keys-back : (o : House) (own : ℕ) (b : Keys) → ValidKeys o own b → keysOk o own b ≡ true
-keys-back o own b v = keys-made o own b (v .few-read) (v .few-wrote) (v .read-here) (v .wrote-here)
+keys-back o own b v = keys-made o own b (v .few-read) (v .few-wrote) (v .read-here) (v .wrote-here) (v .values-fit)
 
 -- none read or written
 pub no-keys : (o : House) (own : ℕ) → keysOk o own noKeys ≡ true
-unfolding noKeys
-no-keys o own = keys-made o own noKeys (omega arith) (omega arith) (λ j h. absurd (omega arith)) (λ j h. absurd (omega arith))
+unfolding noKeys valuesFit allBelow
+no-keys o own =
+    keys-made o own noKeys (omega arith) (omega arith) (λ j h. absurd (omega arith)) (λ j h. absurd (omega arith)) refl
 
 -- A course, and a part with it.
 pub course-made : (o : House) (own : ℕ) (c : Course) → c .stage ≤ stage.rejected → isMask o (c .mask) ≡ true → isMask o (c .heard) ≡ true

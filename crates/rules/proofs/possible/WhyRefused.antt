@@ -12,7 +12,8 @@ use Rattle.laws.specs.Cause.{Cause, codeOf, holdsAt, code-holds}
 use Rattle.kinds.specs.Sizes as sizes
 use Rattle.kinds.specs.Reason as reason
 use Rattle.kinds.specs.Kind as kind
-use Rattle.kinds.specs.State.{Value, subAt}
+use Rattle.kinds.specs.State.{subAt}
+use Rattle.kinds.specs.declared.Value.{Value}
 use Rattle.kinds.specs.declared.Site.{Site}
 use Rattle.kinds.specs.declared.Snapshot.{Snapshot}
 use Rattle.kinds.specs.declared.Merger.{Merger}
@@ -32,7 +33,8 @@ use Rattle.rules.specs.Effect.{Effect, turnAt, unless}
 use Rattle.rules.specs.Course.{quietly, channelSpent}
 use Rattle.rules.specs.Begin.{beginCauses, beginCode, begun, beginOf}
 use Rattle.rules.specs.Access.{keyCauses, keyCode, accessCauses, accessCode, readCauses, readCode, readVersion, readAt, readOf}
-use Rattle.rules.specs.Access.{writeCauses, writeCode, writeCodeAt, written, writeAt, writeOf, searchOf}
+use Rattle.rules.specs.Access.{longCauses, longCode, writeCauses, writeCode, writeCodeAt, lateCode}
+use Rattle.rules.specs.Access.{written, writeAt, writeOf, searchOf}
 use Rattle.rules.specs.Enlist.{isMine, enlistCauses, enlistCode, joinerCauses, joinerCode, enlistAt, enlistOf}
 use Rattle.rules.specs.Commit.{requestCauses, requestCode, commitCauses, commitCode, abandonCauses, abandonCode, commitOf, abandonOf}
 use Rattle.rules.specs.Install.{installCauses, installCode, installedAt, installOf, reportCauses, reportCode, reportOf}
@@ -134,7 +136,7 @@ module _ (s : Site) (ok : siteOk s ≡ true) where
       (refused-refuses P (codeOf causes) (λ e. fails _ (rw (ok, eq-eqb (length base) sizes.base size) at (caused causes e)))))
 
   pub write-why : (t k : ℕ) (v : Value) → Refuses (Only (isKey k ≡ false)) (writeOf s t k v .answer)
-  unfolding writeOf writeAt writeCodeAt writeCode written quietly
+  unfolding writeOf writeAt lateCode longCode writeCodeAt writeCode written quietly
   write-why t k v =
       let place = placeOf (s .live) t in
       let b = subAt s place in
@@ -143,13 +145,13 @@ module _ (s : Site) (ok : siteOk s ≡ true) where
       let X = isKey k ≡ false in
       unless-refuses (Only X) (accessCode (siteOk s) sizes.base (s .house) (s .counters .own) k place (stageAt (s .live) place)) s [] _
       (λ z. access-why sizes.base k place (stageAt (s .live) place) refl)
-      (λ z. by-test (wroteKey (b .keys) k)
-      (λ e. rw e (accepted-refuses (Only X) _ refl))
+      (λ z. unless-refuses (Only X) (lateCode s place k v) s [] _
+      (λ y. by-test (wroteKey (b .keys) k)
+      (λ e. rw e (other-cause (longCauses v) refl))
       (λ e. rw e
-      (unless-refuses (Only X) (writeCodeAt s place k) s [] _
-      (λ y. other-cause (writeCauses lost (keyHeld (s .live) place k) (isNewer (s .history) n (b .snapshot) k) (writeLimit (b .desk))
-      (b .keys .wrote)) refl)
-      (λ y. accepted-refuses (Only X) _ refl))))
+      (other-cause (writeCauses lost (keyHeld (s .live) place k) (isNewer (s .history) n (b .snapshot) k) (writeLimit (b .desk))
+      (b .keys .wrote) v) refl)))
+      (λ y. accepted-refuses (Only X) _ refl))
 
   request-why : (given : Bool) (room place : ℕ) (mine : Bool) → given ≡ true → Only ⊥ (requestCode given room place mine)
   unfolding requestCode

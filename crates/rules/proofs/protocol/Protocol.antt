@@ -15,7 +15,8 @@ use Rattle.kinds.specs.Stage as stage
 use Rattle.kinds.specs.declared.Keys.{Keys}
 use Rattle.kinds.specs.declared.Course.{Course}
 use Rattle.kinds.specs.declared.Sub.{Sub}
-use Rattle.kinds.specs.State.{noSub, noKeys, pastEntry, withCourse, withKeys, Value}
+use Rattle.kinds.specs.State.{noSub, noKeys, pastEntry, withCourse, withKeys}
+use Rattle.kinds.specs.declared.Value.{Value}
 use Rattle.rules.specs.House.{coordinatorOf, homeOf, txOf, inMask, maskOf}
 use Rattle.rules.specs.Desk.{writeLimit}
 use Rattle.rules.specs.Message.{entryTx, entryMask, entryMark, entryCount}

@@ -11,7 +11,7 @@ use Rattle.kinds.specs.Sizes as sizes
 use Rattle.kinds.specs.declared.House.{House}
 use Rattle.kinds.specs.declared.Entry.{Entry}
 use Rattle.kinds.specs.declared.Site.{Site}
-use Rattle.kinds.specs.State.{Value, fresh, pastEntry, entryAt}
+use Rattle.kinds.specs.State.{pastEntry, entryAt}
 use Rattle.rules.specs.Value.{baseValue}
 use Rattle.rules.specs.Keys.{wroteKey}
 use Rattle.rules.specs.KeysLaws.{by-order}
@@ -44,7 +44,8 @@ unfolding forgotten remembered
 forgotten-low n h = (omega arith, omega arith, omega arith)
 
 -- The values after a forgotten entry.
-forgets : (f : ℕ → Entry) (k n : ℕ) (base : List ℕ) → EachOnce (f n .keys) → sizes.value * k + sizes.value ≤ length base → baseValue base k ≡ leftBelow f k n
+forgets : (f : ℕ → Entry) (k n : ℕ) (base : List ℕ) → EachOnce (f n .keys) → sizes.value * k + sizes.value ≤ length base
+    → baseValue base k ≡ leftBelow f k n
     → baseValue (forgetInto base (f n .keys)) k ≡ leftBelow f k (suc n)
 forgets f k n base o low b =
     by-test (wroteKey (f n .keys) k)

@@ -14,7 +14,7 @@ use Rattle.kinds.specs.declared.House.{House}
 use Rattle.kinds.specs.Kind as kind
 use Rattle.kinds.specs.Word as word
 use Rattle.kinds.specs.Reason as reason
-use Rattle.kinds.specs.State.{Value}
+use Rattle.kinds.specs.declared.Value.{Value}
 use Rattle.kinds.specs.declared.Answer.{Answer}
 use Rattle.kinds.specs.declared.Site.{Site}
 use Rattle.rules.specs.Message.{messageHead}

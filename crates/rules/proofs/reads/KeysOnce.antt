@@ -10,7 +10,8 @@ use Rattle.laws.specs.Choice.{by-test, set-not}
 use Rattle.laws.specs.Scan.{split-last, foldBelow}
 use Rattle.kinds.specs.Sizes as sizes
 use Rattle.kinds.specs.declared.Keys.{Keys}
-use Rattle.kinds.specs.State.{Value, fresh, noKeys}
+use Rattle.kinds.specs.State.{fresh, noKeys}
+use Rattle.kinds.specs.declared.Value.{Value}
 use Rattle.rules.specs.Value.{putValue, baseValue}
 use Rattle.rules.specs.ValueLaws.{put-same, base-other}
 use Rattle.rules.specs.Keys.{keyPlace, wroteKey, wroteValue, readKey, withRead, withWrite}
@@ -77,13 +78,15 @@ module _ (b : Keys) (k : ℕ) (base : List ℕ) where
       base-other (forgets n) (getD (b .writes) n 0) k (getD (b .values) n fresh) (h n (omega arith))
       ∙ keeps n (λ i l. h i (omega arith))
 
-  leaves : (n i : ℕ) → sizes.value * k + sizes.value ≤ length base → i < n → getD (b .writes) i 0 ≡ k → ((j : ℕ) → i < j → j < n → getD (b .writes) j 0 ≡ k → ⊥)
+  leaves : (n i : ℕ) → sizes.value * k + sizes.value ≤ length base → i < n → getD (b .writes) i 0 ≡ k
+      → ((j : ℕ) → i < j → j < n → getD (b .writes) j 0 ≡ k → ⊥)
       → baseValue (forgets n) k ≡ getD (b .values) i fresh
   unfolding foldBelow
   leaves zero i low h e last = absurd (omega arith)
   leaves (suc n) i low h e last =
       split-last h
-      (λ (q : i ≡ n). rw (← q, e) (put-same (forgets i) (sizes.value * k) (getD (b .values) i fresh) (omega (arith, forget-length b i base))))
+      (λ (q : i ≡ n). rw (← q, e)
+      (put-same (forgets i) (sizes.value * k) (getD (b .values) i fresh) (omega (arith, forget-length b i base))))
       (λ (l : i < n).
       base-other (forgets n) (getD (b .writes) n 0) k (getD (b .values) n fresh) (last n l (omega arith))
       ∙ leaves n i low l e (λ j x y. last j x (omega arith)))
@@ -92,7 +95,8 @@ module _ (b : Keys) (k : ℕ) (base : List ℕ) where
   unfolding forgetInto
   forget-other e = keeps (b .wrote) (λ i h q. set-not _ (among-wrote b k (i, h, q)) e)
 
-  pub forget-wrote : EachOnce b → sizes.value * k + sizes.value ≤ length base → wroteKey b k ≡ true → baseValue (forgetInto base b) k ≡ wroteValue b k
+  pub forget-wrote : EachOnce b → sizes.value * k + sizes.value ≤ length base → wroteKey b k ≡ true
+      → baseValue (forgetInto base b) k ≡ wroteValue b k
   unfolding forgetInto wroteValue
   forget-wrote o low e =
       let i = keyPlace (b .writes) (b .wrote) k in

@@ -9,7 +9,7 @@ use native.Mathlib.Nat.{eq-or-lt-of-le}
 use lib.ListN.{length}
 use Rattle.kinds.specs.declared.House.{House}
 use Rattle.laws.specs.Choice.{set-not}
-use Rattle.kinds.specs.State.{Value}
+use Rattle.kinds.specs.declared.Value.{Value}
 use Rattle.rules.specs.House.{coordinatorOf}
 use Rattle.rules.specs.Keys.{wroteKey, wroteValue}
 use Rattle.rules.specs.KeysLaws.{by-order}

@@ -12,16 +12,17 @@ use Rattle.kinds.specs.declared.House.{House}
 use Rattle.kinds.specs.declared.Keys.{Keys}
 use Rattle.kinds.specs.declared.Sub.{Sub}
 use Rattle.kinds.specs.declared.Site.{Site}
-use Rattle.kinds.specs.State.{Value, subAt, pastSub, withKeys}
+use Rattle.kinds.specs.State.{subAt, pastSub, withKeys}
+use Rattle.kinds.specs.declared.Value.{Value}
 use Rattle.rules.specs.Keys.{wroteKey, readKey, withRead, withWrite}
-use Rattle.rules.specs.Live.{partAt, stageAt, placeOf, keyHeld}
-use Rattle.rules.specs.History.{isForgotten, isNewer}
+use Rattle.rules.specs.Live.{partAt, stageAt, placeOf}
+use Rattle.rules.specs.History.{isForgotten}
 use Rattle.rules.specs.Desk.{writeLimit, limit-most}
 use Rattle.rules.specs.Valid.{siteOk}
 use Rattle.rules.specs.Effect.{Effect, turnAt, settle}
 use Rattle.rules.specs.Course.{quietly}
-use Rattle.rules.specs.Access.{accessCode, readCode, readVersion, readAt, readOf, writeCodeAt, written, writeAt, writeOf}
-use Rattle.rules.specs.CallLaws.{write-clear}
+use Rattle.rules.specs.Access.{accessCode, readCode, readVersion, readAt, readOf, lateCode, written, writeAt, writeOf}
+use Rattle.rules.specs.CallLaws.{LateClear, late-clear}
 use Rattle.rules.specs.World.{World, step, siteStep}
 use Rattle.rules.specs.World as world
 use Rattle.rules.proofs.lists.Tables.{upd-cases}
@@ -108,15 +109,10 @@ module _ {house : House} {w : World} {p : Protocol} (r : Refines house w p) (i :
   again : (v : Value) → Reaches r s t k → wroteKey (subAt site spot .keys) k ≡ true → Goal (written site spot k v)
   again v a f = writes v a (once-again (p .live s t .keys) k v (rw (a .part) at f) (own a))
 
-  first : (v : Value) → Reaches r s t k → wroteKey (subAt site spot .keys) k ≡ false → writeCodeAt site spot k ≡ 0
+  first : (v : Value) → Reaches r s t k → wroteKey (subAt site spot .keys) k ≡ false → LateClear site spot k v
       → Goal (written site spot k v)
-  unfolding writeCodeAt
   first v a f c =
-      let d = subAt site spot in
-      let below : p .live s t .keys .wrote < writeLimit (p .live s t .desk) =
-      rw (a .part) at
-      (write-clear (isForgotten (site .counters .installs) (d .snapshot)) (keyHeld (site .live) spot k)
-      (isNewer (site .history) (site .counters .installs) (d .snapshot) k) (writeLimit (d .desk)) (d .keys .wrote) c .room) in
+      let below : p .live s t .keys .wrote < writeLimit (p .live s t .desk) = rw (a .part) at (c .new f .room) in
       let room : p .live s t .keys .wrote < sizes.writes = omega (arith, limit-most (p .live s t .desk)) in
       writes v a (once-first (p .live s t .keys) k (a .sized) room (rw (a .part) at f) v (own a))
 
@@ -124,12 +120,11 @@ module _ {house : House} {w : World} {p : Protocol} (r : Refines house w p) (i :
   unfolding step siteStep writeOf writeAt
   write-once v =
       let code = accessCode (siteOk site) sizes.base (site .house) (site .counters .own) k spot (stageAt (site .live) spot) in
-      let late = writeCodeAt site spot k in
+      let late = lateCode site spot k v in
       upd-cases (λ j x. 1 ≤ j → j ≤ house .sites → LiveOnce (x .live)) (w .site) s (writeOf site t k v .site)
       (by-code Goal code site [] (writeAt site spot k v)
       (λ e. let a = reaches r s t k sizes.base e in
-      by-test (wroteKey (subAt site spot .keys) k)
-      (λ f. rw f (again v a f))
-      (λ f. rw f (by-code Goal late site [] (written site spot k v) (first v a f) (old s))))
+      by-code Goal late site [] (written site spot k v)
+      (λ c. by-test (wroteKey (subAt site spot .keys) k) (again v a) (λ f. first v a f (late-clear site spot k v c))) (old s))
       (old s))
       (λ j n. old j)

@@ -12,7 +12,8 @@ use Rattle.kinds.specs.declared.House.{House}
 use Rattle.kinds.specs.declared.Sub.{Sub}
 use Rattle.kinds.specs.declared.Site.{Site}
 use Rattle.kinds.specs.declared.Answer.the-variants.{Refused, Found}
-use Rattle.kinds.specs.State.{Value, subAt}
+use Rattle.kinds.specs.State.{subAt}
+use Rattle.kinds.specs.declared.Value.{Value}
 use Rattle.rules.specs.HouseLaws.{key-low}
 use Rattle.rules.specs.Keys.{wroteKey, wroteValue, readKey}
 use Rattle.rules.specs.Live.{stageAt, placeOf}
@@ -46,10 +47,10 @@ pub record ReadIs (house : House) (p : Protocol) (s t k : ℕ) (v : Value) : Typ
 
 -- The call.
 pub found : (a v : Value) → Found a ≡ Found v → a ≡ v
-found a v e = ap (onFound 0 (λ n. n)) e
+found a v e = ap (onFound a (λ u. u)) e
 
 pub not-found : (n : ℕ) (v : Value) → Refused n ≡ Found v → ⊥
-not-found n v e = let z : _≡_ {A = ℕ} 0 1 = ap (onFound 0 (λ n. 1)) e in omega arith
+not-found n v e = let z : _≡_ {A = ℕ} 0 1 = ap (onFound 0 (λ u. 1)) e in omega arith
 
 module _ {house : House} {w : World} {p : Protocol} (r : Refines house w p) (i : Invariant house p) (b : BasesAre house w p) (s t k : ℕ)
     (v : Value) where

@@ -1,6 +1,6 @@
 -- Reads, proved: after any lawful list each key of a part stands once among its writes, and each site's base values are what its forgotten
 -- installs left. So a read finds its version in the history, or below it.
-use Prim.Native.Nat.{ℕ, _*_, _≤_}
+use Prim.Native.Nat.{_*_, _≤_}
 use mathlib.Core.Path.{sym, _∙_}
 use mathlib.Core.Logic.{inl, inr}
 use native.Mathlib.Omega.{arith}

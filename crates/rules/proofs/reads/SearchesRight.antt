@@ -12,7 +12,7 @@ use Rattle.kinds.specs.declared.Answer.the-variants.{Found, Searched}
 use Rattle.kinds.specs.declared.Entry.{Entry}
 use Rattle.kinds.specs.declared.Search.{Search}
 use Rattle.kinds.specs.declared.Snapshot.{Snapshot}
-use Rattle.kinds.specs.State.{Value, subAt}
+use Rattle.kinds.specs.State.{subAt}
 use Rattle.rules.specs.Keys.{wroteKey, readKey}
 use Rattle.rules.specs.KeysLaws.{by-order}
 use Rattle.rules.specs.Live.{placeOf, stageAt}

@@ -14,7 +14,7 @@ use Rattle.kinds.specs.declared.House.{House}
 use Rattle.kinds.specs.declared.Site.{Site}
 use Rattle.kinds.specs.declared.Snapshot.{Snapshot}
 use Rattle.kinds.specs.declared.Answer.the-variants.{Refused, Searched}
-use Rattle.kinds.specs.State.{Value}
+use Rattle.kinds.specs.declared.Value.{Value}
 use Rattle.rules.specs.House.{homeOf}
 use Rattle.rules.specs.HouseLaws.{key-low}
 use Rattle.rules.specs.KeysLaws.{by-order}
@@ -44,10 +44,10 @@ use Rattle.rules.proofs.reads.LeftInstalls.{Counted, left-of}
 use Rattle.rules.proofs.reads.ReadsRight.{Reads, call-reads, fresh-reads}
 
 -- The call.
-searched : (a v : Value) (n m : ℕ) → Searched a n ≡ Searched v m → a ≡ v
+pub searched : (a v : Value) (n m : ℕ) → Searched a n ≡ Searched v m → a ≡ v
 searched a v n m e = cc
 
-not-searched : (n m : ℕ) (v : Value) → Refused n ≡ Searched v m → ⊥
+pub not-searched : (n m : ℕ) (v : Value) → Refused n ≡ Searched v m → ⊥
 not-searched n m v e = let z : _≡_ {A = ℕ} 0 1 = cc in omega arith
 
 record SearchIs (house : House) (p : Protocol) (s n k : ℕ) (v : Value) : Type 0 where

@@ -13,7 +13,8 @@ use Rattle.laws.specs.Scan.{split-last}
 use Rattle.kinds.specs.Sizes as sizes
 use Rattle.kinds.specs.declared.Entry.{Entry}
 use Rattle.kinds.specs.declared.Snapshot.{Snapshot}
-use Rattle.kinds.specs.State.{Value, fresh, pastEntry}
+use Rattle.kinds.specs.State.{fresh, pastEntry}
+use Rattle.kinds.specs.declared.Value.{Value}
 use Rattle.rules.specs.Value.{baseValue}
 use Rattle.rules.specs.Keys.{wroteKey, wroteValue}
 use Rattle.rules.specs.KeysLaws.{by-order}

@@ -13,7 +13,8 @@ use Rattle.laws.specs.Choice.{by-test, set-not}
 use Rattle.laws.specs.Scan.{firstBelow, first-below, before-first, at-first}
 use Rattle.kinds.specs.Sizes as sizes
 use Rattle.kinds.specs.declared.Keys.{Keys}
-use Rattle.kinds.specs.State.{Value, fresh}
+use Rattle.kinds.specs.State.{fresh}
+use Rattle.kinds.specs.declared.Value.{Value}
 use Rattle.rules.specs.Keys.{keyPlace, wroteKey, wroteValue, readKey, withRead, withWrite}
 use Rattle.rules.specs.KeysLaws.{by-order, wrote-among, among-wrote, read-among, among-read}
 use Rattle.rules.proofs.refine.Refines.{Sized}

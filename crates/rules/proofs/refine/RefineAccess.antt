@@ -21,7 +21,8 @@ use Rattle.kinds.specs.declared.Site.{Site}
 use Rattle.kinds.specs.declared.Snapshot.{Snapshot}
 use Rattle.kinds.specs.declared.Answer.{Answer}
 use Rattle.kinds.specs.declared.Answer.the-variants.{Found}
-use Rattle.kinds.specs.State.{Value, subAt, pastSub, pastEntry, withKeys, withSub}
+use Rattle.kinds.specs.State.{subAt, pastSub, pastEntry, withKeys, withSub}
+use Rattle.kinds.specs.declared.Value.{Value}
 use Rattle.rules.specs.House.{homeOf}
 use Rattle.rules.specs.Desk.{writeLimit, limit-most}
 use Rattle.rules.specs.Keys.{wroteKey, wroteValue, readKey, withRead, withWrite}
@@ -32,8 +33,8 @@ use Rattle.rules.specs.Valid.{siteOk}
 use Rattle.rules.specs.ValidLaws.{live-wrote, live-few}
 use Rattle.rules.specs.Effect.{Effect, refused, turnAt, settle}
 use Rattle.rules.specs.Course.{quietly}
-use Rattle.rules.specs.Access.{accessCode, readCode, readVersion, readAt, readOf, writeCodeAt, written, writeAt, writeOf}
-use Rattle.rules.specs.CallLaws.{access-clear, read-clear, write-clear}
+use Rattle.rules.specs.Access.{accessCode, readCode, readVersion, readAt, readOf, lateCode, written, writeAt, writeOf}
+use Rattle.rules.specs.CallLaws.{LateClear, access-clear, read-clear, late-clear}
 use Rattle.rules.specs.World.{World, step, siteStep, messagesIn, splitWords}
 use Rattle.rules.specs.World as world
 use Rattle.rules.specs.Book as book
@@ -233,14 +234,11 @@ module _ {house : House} {w : World} {p : Protocol} (r : Refines house w p) (s t
       writes v a (again-sets (p .live s t .keys) k v f′ (a .sized) (a .few)) (λ j e. same j ∙ e)
       (λ j e g. absurd (set-not _ e (same j ∙ g))) (rw (wrote-again (p .live s t .keys) k v f′) (a .limit))
 
-  first : (v : Value) → Reaches → wroteKey (subAt here spot .keys) k ≡ false → writeCodeAt here spot k ≡ 0
+  first : (v : Value) → Reaches → wroteKey (subAt here spot .keys) k ≡ false → LateClear here spot k v
       → Goal (book.writes t k v) (written here spot k v)
-  unfolding writeCodeAt
   first v a f c =
-      let b = subAt here spot in
       let own = p .live s t .keys in
-      let d = write-clear (isForgotten (here .counters .installs) (b .snapshot)) (keyHeld (here .live) spot k)
-      (isNewer (here .history) (here .counters .installs) (b .snapshot) k) (writeLimit (b .desk)) (b .keys .wrote) c in
+      let d = c .new f in
       let f′ : wroteKey own k ≡ false = sym (ap (λ (b : Sub). wroteKey (b .keys) k) (a .part)) ∙ f in
       let below : own .wrote < writeLimit (p .live s t .desk) = rw (a .part) at (d .room) in
       let room : own .wrote < sizes.writes = omega (arith, limit-most (p .live s t .desk)) in
@@ -258,11 +256,10 @@ module _ {house : House} {w : World} {p : Protocol} (r : Refines house w p) (s t
   unfolding step siteStep writeOf writeAt
   write-moves v =
       let code = accessCode (siteOk here) sizes.base (here .house) (here .counters .own) k spot (stageAt (here .live) spot) in
-      let late = writeCodeAt here spot k in
+      let late = lateCode here spot k v in
       by-code (Goal (book.writes t k v)) code here [] (writeAt here spot k v)
       (λ e. let a = reaches sizes.base e in
-      by-test (wroteKey (subAt here spot .keys) k)
-      (λ f. rw f (rewrites v a f))
-      (λ f. rw f (by-code (Goal (book.writes t k v)) late here [] (written here spot k v) (first v a f)
-      (stays r s (refused late here []) refl refl))))
+      by-code (Goal (book.writes t k v)) late here [] (written here spot k v)
+      (λ c. by-test (wroteKey (subAt here spot .keys) k) (rewrites v a) (λ f. first v a f (late-clear here spot k v c)))
+      (stays r s (refused late here []) refl refl))
       (stays r s (refused code here []) refl refl)

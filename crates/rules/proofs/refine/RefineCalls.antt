@@ -4,7 +4,6 @@ use Prim.Native.Nat.{ℕ}
 use mathlib.Core.Path.{refl}
 use mathlib.Core.List.{List}
 use Rattle.kinds.specs.declared.House.{House}
-use Rattle.kinds.specs.State.{Value}
 use Rattle.rules.specs.Effect.{Effect}
 use Rattle.rules.specs.World.{World, Call, Handed, step, siteStep, logStep}
 use Rattle.rules.specs.World as world

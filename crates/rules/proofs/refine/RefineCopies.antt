@@ -12,7 +12,7 @@ use Rattle.kinds.specs.Sizes as sizes
 use Rattle.rules.specs.ValueLaws.{value-zeros}
 use Rattle.kinds.specs.declared.House.{House}
 use Rattle.kinds.specs.Word as word
-use Rattle.kinds.specs.State.{Value}
+use Rattle.kinds.specs.declared.Value.{Value}
 use Rattle.kinds.specs.declared.Answer.the-variants.{Standing}
 use Rattle.rules.specs.House.{coordinatorOf, GoodHouse}
 use Rattle.rules.specs.HouseLaws.{good-passes}

@@ -1,5 +1,5 @@
 -- Emit, as a step: the least head is the machine's, and what is written are the words of its item.
-use Prim.Native.Nat.{ℕ, zero, suc, _+_, _-_, _*_, _≤_, _<_}
+use Prim.Native.Nat.{ℕ, zero, suc, _+_, _-_, _≤_, _<_}
 use mathlib.Core.Path.{_≡_, refl, sym, ap, _∙_}
 use mathlib.Core.Bool.{true, false}
 use mathlib.Core.Logic.{_⊎_, inl, inr}
@@ -20,8 +20,10 @@ use Rattle.kinds.specs.declared.Merger.{Merger}
 use Rattle.kinds.specs.declared.Answer.the-variants.{Emitted}
 use Rattle.rules.specs.House.{inMask, homeOf}
 use Rattle.rules.specs.Keys.{sortedKey, sortedCount}
+use Rattle.rules.specs.Value.{fits}
 use Rattle.rules.specs.KeysLaws.{word-key}
-use Rattle.rules.specs.Record.{recordWords, recordHead, recordWrites, writeKey, keyAscends, partWriteOk, mergedTests, mergedOk}
+use Rattle.rules.specs.Record.{recordWords, recordHead, recordWrites, writeKey, writeValue, keyAscends, partWriteOk}
+use Rattle.rules.specs.Record.{mergedTests, mergedOk}
 use Rattle.rules.specs.RecordLaws.{writes-back, part-passed-good, merged-clear, merged-passed-good, merged-passed-words}
 use Rattle.rules.specs.Merger.{Merging, refusedMerger, sourceAt, popSource, queuedPart, headsOf, hasPart, dueHead, leastSite, dueCode}
 use Rattle.rules.specs.Merger.{partWrites, joinedWrites, writesIn, mergedHead, popMerger, popQueues, emitDue, emitCode, emitOf}
@@ -265,7 +267,8 @@ module _ {house : House} {w : World} {v : Stream} (x : StreamIs house w v) (z : 
         let a = rw (r, s) at (part-passed-good (g .house) M (c .part) .writes) in
         let o = all-below-at (partWriteOk (g .house) (i + 1) (keyWords (e .keys))) (sortedCount (e .keys)) j a b in
         let n = eqb-true _ _
-        (every-at (keyAscends (keyWords (e .keys)) j ∷ eqb (homeOf (g .house) (writeKey (keyWords (e .keys)) j)) (i + 1) ∷ []) 1 o) in
+        (every-at (keyAscends (keyWords (e .keys)) j ∷ eqb (homeOf (g .house) (writeKey (keyWords (e .keys)) j)) (i + 1)
+        ∷ fits (writeValue (keyWords (e .keys)) j) ∷ []) 1 o) in
         let v = word-key (e .keys) (sortedCount (e .keys)) j b in
         ap (λ (h : House). homeOf h (sortedKey (e .keys) j)) (sym (x .merger .house-is)) ∙ ap (homeOf (g .house)) (sym v) ∙ n))
 

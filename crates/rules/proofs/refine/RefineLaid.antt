@@ -12,7 +12,7 @@ use Rattle.laws.specs.Choice.{pick, by-test, set-not, unset}
 use Rattle.laws.specs.Scan.{foldBelow, split-last}
 use Rattle.kinds.specs.Sizes as sizes
 use Rattle.kinds.specs.Word as word
-use Rattle.kinds.specs.State.{Value}
+use Rattle.kinds.specs.declared.Value.{Value}
 use Rattle.kinds.specs.declared.House.{House}
 use Rattle.kinds.specs.declared.Keys.{Keys}
 use Rattle.rules.specs.MergerJoin.{halved}

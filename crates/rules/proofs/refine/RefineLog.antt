@@ -20,7 +20,7 @@ use Rattle.kinds.specs.declared.Sub.{Sub}
 use Rattle.kinds.specs.declared.Entry.{Entry}
 use Rattle.kinds.specs.declared.Site.{Site}
 use Rattle.kinds.specs.declared.Answer.the-variants.{Reported}
-use Rattle.kinds.specs.State.{Value, fresh, noSub, pastEntry, subAt, entryAt}
+use Rattle.kinds.specs.State.{fresh, noSub, pastEntry, subAt, entryAt}
 use Rattle.rules.specs.House.{coordinatorOf}
 use Rattle.rules.specs.Record.{recordWords}
 use Rattle.rules.specs.Value.{putValue}

@@ -18,7 +18,8 @@ use Rattle.kinds.specs.declared.MessageHead.{MessageHead}
 use Rattle.kinds.specs.declared.Merger.{Merger}
 use Rattle.kinds.specs.declared.Site.{Site}
 use Rattle.kinds.specs.declared.Snapshot.{Snapshot}
-use Rattle.kinds.specs.State.{Value, subAt}
+use Rattle.kinds.specs.State.{subAt}
+use Rattle.kinds.specs.declared.Value.{Value}
 use Rattle.rules.specs.House.{isSite, inMask}
 use Rattle.rules.specs.Desk.{writeLimit}
 use Rattle.rules.specs.Record.{recordHead}
@@ -33,8 +34,8 @@ use Rattle.rules.specs.CertifyLaws.{concurrent-whole}
 use Rattle.rules.specs.Effect.{Effect, Change, turnAt, changed, unless}
 use Rattle.rules.specs.Course.{withReply, sendTo, quietly, raise, channelSpent, enlistStep, abortStep}
 use Rattle.rules.specs.Begin.{beginCode, beginOf, begun}
-use Rattle.rules.specs.Access.{readCauses, writeCauses, keyCode, accessCode, readCode, writeCode, writeCodeAt, readAt, readVersion}
-use Rattle.rules.specs.Access.{readOf, writeAt, written, writeOf, searchOf}
+use Rattle.rules.specs.Access.{readCauses, longCauses, writeCauses, keyCode, accessCode, readCode, longCode, writeCode, writeCodeAt}
+use Rattle.rules.specs.Access.{lateCode, readAt, readVersion, readOf, writeAt, written, writeOf, searchOf}
 use Rattle.rules.specs.Enlist.{isMine, enlistCauses, joinerCauses, enlistCode, joinerCode, enlistAt, enlistOf}
 use Rattle.rules.specs.Commit.{requestCauses, commitCauses, abandonCauses, commitChange, requestCode, commitCode, abandonCode}
 use Rattle.rules.specs.Commit.{commitLists, commitOf, abandonOf}
@@ -123,17 +124,17 @@ read-by s base tx k =
     (λ t. rw t (by-first _ (accessHas s (length base) tx k ++ more) refl
     (unless-by (accessHas s (length base) tx k) more s [] _ refl (only-by more s [] (readVersion s base place k) refl))))
 
-pub write-by : (s : Site) (tx k : ℕ) (v : Value) → ByFirst (writeOf s tx k v .answer) (writeHas s tx k)
-unfolding writeOf accessCode writeAt written quietly writeCodeAt writeCode writeHas accessHas order
+pub write-by : (s : Site) (tx k : ℕ) (v : Value) → ByFirst (writeOf s tx k v .answer) (writeHas s tx k v)
+unfolding writeOf accessCode writeAt written quietly lateCode longCode writeCodeAt writeCode writeHas accessHas order
 write-by s tx k v =
     let place = placeOf (s .live) tx in
     let b = subAt s place in
     let n = s .counters .installs in
     let more = writeCauses (isForgotten n (b .snapshot)) (keyHeld (s .live) place k) (isNewer (s .history) n (b .snapshot) k)
-    (writeLimit (b .desk)) (b .keys .wrote) in
+    (writeLimit (b .desk)) (b .keys .wrote) v in
     by-test (wroteKey (b .keys) k)
-    (λ t. rw t (by-first _ (accessHas s sizes.base tx k ++ []) refl
-    (unless-by (accessHas s sizes.base tx k) [] s [] _ refl (accepted _ [] refl refl))))
+    (λ t. rw t (by-first _ (accessHas s sizes.base tx k ++ longCauses v) refl
+    (unless-by (accessHas s sizes.base tx k) (longCauses v) s [] _ refl (only-by (longCauses v) s [] (written s place k v) refl))))
     (λ t. rw t (by-first _ (accessHas s sizes.base tx k ++ more) refl
     (unless-by (accessHas s sizes.base tx k) more s [] _ refl (only-by more s [] (written s place k v) refl))))
 

@@ -10,7 +10,8 @@ use lib.ListN.{length, drop}
 use Rattle.laws.specs.Choice.{pick, pick-self, by-test}
 use Rattle.laws.specs.Cause.{Cause, holdsAt, firstIn, lacks}
 use Rattle.kinds.specs.Sizes as sizes
-use Rattle.kinds.specs.State.{Value, subAt}
+use Rattle.kinds.specs.State.{subAt}
+use Rattle.kinds.specs.declared.Value.{Value}
 use Rattle.kinds.specs.declared.Answer.{Answer}
 use Rattle.kinds.specs.declared.Answer.the-variants.{Refused}
 use Rattle.kinds.specs.declared.Site.{Site}
@@ -107,9 +108,9 @@ module _ (w : World) (s tx key : ℕ) where
       let here = eq-eqb _ _ (x .here) in
       let held = lt-leb _ _ (x .held) in
       by-test written
-      (λ t. by-moment _ (writeHas asked tx key) true past (first-cause .call w (world.write s tx key v))
+      (λ t. by-moment _ (writeHas asked tx key v) true past (first-cause .call w (world.write s tx key v))
       (rw (t, x .is-possible, x .known, here, held)) (rw t refl) (rw t (pick-self past)))
-      (λ t. by-moment _ (writeHas asked tx key) true past (first-cause .call w (world.write s tx key v))
+      (λ t. by-moment _ (writeHas asked tx key v) true past (first-cause .call w (world.write s tx key v))
       (rw (t, x .is-possible, x .known, here, held)) (rw t refl) (rw t (pick-self past)))
 
 message-moment : (w : World) (s : ℕ) (out m : List ℕ) → AtMessage (w .site s) (w .lists s) out m

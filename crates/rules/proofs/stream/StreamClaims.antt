@@ -13,7 +13,8 @@ use lib.ListN.{length, take}
 use lib.Seq.{take-suc}
 use Rattle.laws.specs.Choice.{pick, by-test, picked-left, picked-right, set-not}
 use Rattle.laws.specs.Pair.{rank}
-use Rattle.kinds.specs.State.{Value, fresh}
+use Rattle.kinds.specs.State.{fresh}
+use Rattle.kinds.specs.declared.Value.{Value}
 use Rattle.kinds.specs.declared.House.{House}
 use Rattle.kinds.specs.declared.Keys.{Keys}
 use Rattle.rules.specs.House.{coordinatorOf, inMask, homeOf}

@@ -14,23 +14,35 @@ abbrev μ-loop : tie.MeasureT-loop
 loop-holds : tie.Need-loop-holds Inv-loop μ-loop
 loop-holds c = search needs
 
-mul-more : tie.Need-mul-more Inv-loop μ-loop
-mul-more c = search needs
+mul-at : tie.Need-mul-at Inv-loop μ-loop
+mul-at c = search needs
 
-shared-slice-read-more : tie.Need-shared-slice-read-more Inv-loop μ-loop
-shared-slice-read-more c = search needs
+add-start : tie.Need-add-start Inv-loop μ-loop
+add-start c = search needs
 
-more-requires : tie.Need-more-requires Inv-loop μ-loop
-more-requires c κs = search needs
+mul-start : tie.Need-mul-start Inv-loop μ-loop
+mul-start c = search needs
 
-mul-more-2 : tie.Need-mul-more-2 Inv-loop μ-loop
-mul-more-2 c = search needs
+shared-slice-read-start : tie.Need-shared-slice-read-start Inv-loop μ-loop
+shared-slice-read-start c = search needs
 
-shared-slice-read-more-2 : tie.Need-shared-slice-read-more-2 Inv-loop μ-loop
-shared-slice-read-more-2 c = search needs
+add-length : tie.Need-add-length Inv-loop μ-loop
+add-length c = search needs
 
-more-requires-2 : tie.Need-more-requires-2 Inv-loop μ-loop
-more-requires-2 c κs = search needs
+mul-length : tie.Need-mul-length Inv-loop μ-loop
+mul-length c = search needs
+
+shared-slice-read-length : tie.Need-shared-slice-read-length Inv-loop μ-loop
+shared-slice-read-length c = search needs
+
+mul-three-more : tie.Need-mul-three-more Inv-loop μ-loop
+mul-three-more c = search needs
+
+shared-slice-read-three-more : tie.Need-shared-slice-read-three-more Inv-loop μ-loop
+shared-slice-read-three-more c = search needs
+
+three-more-requires : tie.Need-three-more-requires Inv-loop μ-loop
+three-more-requires c κs = search needs
 
 together-requires : tie.Need-together-requires Inv-loop μ-loop
 together-requires c κs = search needs
@@ -60,12 +72,16 @@ of-writes-spec =
     Inv-loop
     μ-loop
     loop-holds
-    mul-more
-    shared-slice-read-more
-    more-requires
-    mul-more-2
-    shared-slice-read-more-2
-    more-requires-2
+    mul-at
+    add-start
+    mul-start
+    shared-slice-read-start
+    add-length
+    mul-length
+    shared-slice-read-length
+    mul-three-more
+    shared-slice-read-three-more
+    three-more-requires
     together-requires
     add-i
     loop-less

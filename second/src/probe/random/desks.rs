@@ -52,14 +52,14 @@ impl Maker {
         let first = self.random.below(count);
         let key = |place: u64| range.start + (first + place) % count;
         for place in 0..=limit {
-            self.say(format!("write {site} {transaction} {} {place}", key(place)));
+            self.write(site, transaction, key(place));
         }
         for _ in 0..self.random.between(1, 4) {
             let known = key(self.random.below(limit));
-            self.say(format!("write {site} {transaction} {known} 9"));
+            self.write_long(site, transaction, known);
             self.say(format!("read {site} {transaction} {known}"));
         }
-        self.say(format!("write {site} {transaction} {} 9", key(limit + 1)));
+        self.write_long(site, transaction, key(limit + 1));
         if self.random.chance(30) {
             for place in 0..=SET_KEYS as u64 {
                 self.say(format!("read {site} {transaction} {}", key(limit + place)));

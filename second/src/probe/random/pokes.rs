@@ -14,13 +14,16 @@ const ENTRIES: u64 = 4;
 impl Maker {
     pub(super) fn poke(&mut self) {
         let Some((site, part)) = self.held() else { return self.poke_source() };
-        match self.random.below(12) {
+        match self.random.below(17) {
             0 | 8 => self.replies(site, part.transaction),
             1 | 2 | 9 => self.course(site, part.transaction),
             3 => self.number(site, &part),
             4 => self.past_number(site),
             5 | 6 => self.bad_list(site, &part),
             10 | 11 => self.desk(site, &part),
+            12..=14 => self.value_of(site, &part),
+            15 => self.queued_value(),
+            16 => self.copied(),
             _ => self.poke_source(),
         }
         if self.random.chance(50) {

@@ -1,7 +1,7 @@
 //! Random tables: first keys lent at starts, good and bad and at other lengths, and first
 //! keys of states poked. A bad poke is set back after some calls.
 
-use super::super::{KEYS, LISTS, QUEUES};
+use super::super::lent::{BASE, LISTS, QUEUES};
 use super::Maker;
 use crate::site::Site;
 use crate::sizes::*;
@@ -79,7 +79,7 @@ impl Maker {
         };
         self.say(format!("tables {length}"));
         let (verb, size) =
-            [("base", KEYS), ("lists", LISTS), ("queues", QUEUES)][self.random.below(3) as usize];
+            [("base", BASE), ("lists", LISTS), ("queues", QUEUES)][self.random.below(3) as usize];
         let short = self.random.chance(15);
         if short {
             self.say(format!("{verb} {}", size - 1));
@@ -170,7 +170,7 @@ impl Maker {
         self.say(format!("site {site} {field} {value}"));
         let (_, transaction) = self.any_part();
         for edge in [keys.start.wrapping_sub(1), keys.start, keys.end - 1, keys.end, value] {
-            self.say(format!("write {site} {transaction} {edge} 7"));
+            self.write(site, transaction, edge);
             self.say(format!("search {site} 0 {edge}"));
         }
     }

@@ -6,7 +6,8 @@ use Prim.Native.Nat.{ℕ, _<_}
 use borrow.Author.Needs.{needs}
 use borrow.Author.Tests.{ne-eqb}
 use Rattle.kinds.specs.Sizes as sizes
-use Rattle.kinds.specs.State.{Value, withKeys}
+use Rattle.kinds.specs.State.{withKeys}
+use Rattle.kinds.specs.declared.Value.{Value}
 use Rattle.kinds.specs.declared.Keys.{Keys}
 use Rattle.kinds.specs.declared.Search.{Search}
 use Rattle.kinds.specs.declared.Site.{Site}

@@ -1,6 +1,7 @@
 -- An index stays below a head.
 use Prim.Native.Nat.{_-_}
 use borrow.Author.Needs.{needs}
+use Rattle.kinds.specs.Sizes as sizes
 use Rattle.timing.proofs.again.keep_ahead.Statement.{statement}
 use Rattle.timing.proofs.again.keep_ahead.Tie as tie
 
@@ -8,7 +9,7 @@ abbrev Inv-loop : tie.InvT-loop
 Inv-loop ahead₀ queues copy i₀ ahead i = Unit {0}
 
 abbrev μ-loop : tie.MeasureT-loop
-μ-loop ahead₀ queues copy i₀ ahead i = 41 - i
+μ-loop ahead₀ queues copy i₀ ahead i = sizes.part - i
 
 loop-holds : tie.Need-loop-holds Inv-loop μ-loop
 loop-holds c = search needs

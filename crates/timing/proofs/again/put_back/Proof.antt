@@ -1,6 +1,7 @@
 -- An index stays below a head.
 use Prim.Native.Nat.{_-_}
 use borrow.Author.Needs.{needs}
+use Rattle.kinds.specs.Sizes as sizes
 use Rattle.timing.proofs.again.put_back.Statement.{statement}
 use Rattle.timing.proofs.again.put_back.Tie as tie
 
@@ -8,7 +9,7 @@ abbrev Inv-loop : tie.InvT-loop
 Inv-loop ahead queues₀ copy i₀ queues i = Unit {0}
 
 abbrev μ-loop : tie.MeasureT-loop
-μ-loop ahead queues₀ copy i₀ queues i = 41 - i
+μ-loop ahead queues₀ copy i₀ queues i = sizes.part - i
 
 loop-holds : tie.Need-loop-holds Inv-loop μ-loop
 loop-holds c = search needs
