@@ -21,6 +21,10 @@ abbrev μ-loop : tie.MeasureT-loop
 abbrev start : tie.At-loop Inv-loop μ-loop → tie.Start Inv-loop μ-loop
 start c = c .before .before
 
+-- the turn of the loop that a value is put in
+abbrev turn : tie.After-put-value-arg Inv-loop μ-loop → tie.In-loop Inv-loop μ-loop
+turn c = c .before .before
+
 -- the words are as many as before
 long : (c : tie.At-loop Inv-loop μ-loop) → length (c .loop .out) ≡ length (start c .args .out .now)
 long c =
@@ -36,8 +40,8 @@ loop-holds c = (omega arith, laid-none _ _)
 mul-v : tie.Need-mul-v Inv-loop μ-loop
 mul-v c = search needs
 
-array-read-v : tie.Need-array-read-v Inv-loop μ-loop
-array-read-v c = search needs
+array-copy-out-v : tie.Need-array-copy-out-v Inv-loop μ-loop
+array-copy-out-v c = search needs
 
 mul-put-value : tie.Need-mul-put-value Inv-loop μ-loop
 mul-put-value c = search needs
@@ -47,9 +51,9 @@ add-put-value c = search needs
 
 put-value-requires : tie.Need-put-value-requires Inv-loop μ-loop
 put-value-requires c κs =
-    let l = c .before .before in
-    let room = start l .pre in
-    omega (arith, long l, c .before .loop-test .taken)
+    let t = turn c in
+    let room = start (t .before) .pre in
+    omega (arith, long (t .before), t .loop-test .taken)
 
 add-i : tie.Need-add-i Inv-loop μ-loop
 add-i c = search needs
@@ -60,11 +64,11 @@ loop-less c = search needs
 loop-again : tie.Need-loop-again Inv-loop μ-loop
 loop-again c =
     let put = c .before .before in
-    let turn = put .before .before in
-    let l = turn .before in
+    let t = turn (put .before) in
+    let l = t .before in
     let a = start l .args in
     let room = start l .pre in
-    let low = turn .loop-test .taken in
+    let low = t .loop-test .taken in
     let more = laid-values (a .out .now) (a .at) (l .loop .i) (a .t3) (l .loop .out) (omega arith) (omega arith) (l .loop .inv .1) in
     (omega arith, rw (put .put-value .ensures) more)
 
@@ -87,7 +91,7 @@ lay-values-spec =
     μ-loop
     loop-holds
     mul-v
-    array-read-v
+    array-copy-out-v
     mul-put-value
     add-put-value
     put-value-requires

@@ -1,10 +1,15 @@
 -- Each return is the test that failed, or the last.
+use mathlib.Core.Path.{_≡_, sym, _∙_}
+use mathlib.Core.Bool.{true}
 use borrow.Author.Needs.{needs}
-use borrow.Author.Tests.{not-true, not-false}
+use borrow.Author.Tests.{not-true, not-false, le-ltb, lt-ltb}
 use Rattle.laws.specs.Choice.{pick-self}
-use Rattle.rules.specs.Record.{mergedWriteOk}
+use Rattle.rules.specs.Record.{keyAscends, mergedWriteOk}
 use Rattle.records.proofs.writes.merged_write_ok.Statement.{statement}
 use Rattle.records.proofs.writes.merged_write_ok.Tie as tie
+
+abbrev start : tie.After-key-ascends → tie.Start
+start c = c .before .before
 
 key-ascends-requires : tie.Need-key-ascends-requires
 key-ascends-requires c κs = search needs
@@ -25,15 +30,22 @@ mul-key-2 c = search needs
 shared-slice-read-key : tie.Need-shared-slice-read-key
 shared-slice-read-key c = search needs
 
+-- the keys ascend at the write that is looked at
+ascends : (c : tie.Else1) → keyAscends (start (c .before) .args .ws .now) (start (c .before) .args .i) ≡ true
+ascends c = sym (c .before .key-ascends .ensures) ∙ not-false _ (c .if1 .left)
+
 returns-2 : tie.Need-returns-2
 unfolding mergedWriteOk
-returns-2 c =
-    search (
-      ← c .before .before .key-ascends .ensures,
-      not-false (c .before .before .key-ascends .result) (c .before .if1 .left),
-      pick-self,
-      needs,
-    )
+returns-2 c = simp (ascends (c .before .before), le-ltb _ _ (c .if2 .taken))
+
+value-fits-requires : tie.Need-value-fits-requires
+value-fits-requires c κs = search needs
+
+returns-3 : tie.Need-returns-3
+unfolding mergedWriteOk
+returns-3 c =
+    let below = c .before in
+    simp (ascends (below .before .before), lt-ltb _ _ (below .if2 .left), ← c .value-fits .ensures, pick-self)
 
 pub merged-write-ok-spec : {M : Type 1} → statement M
 merged-write-ok-spec =
@@ -45,4 +57,6 @@ merged-write-ok-spec =
     add-key
     mul-key-2
     shared-slice-read-key
-    returns-2)
+    returns-2
+    value-fits-requires
+    returns-3)

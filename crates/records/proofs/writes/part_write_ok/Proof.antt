@@ -1,9 +1,15 @@
 -- Each return is the test that failed, or the last.
+use mathlib.Core.Path.{_≡_, sym, _∙_}
+use mathlib.Core.Bool.{true}
 use borrow.Author.Needs.{needs}
-use borrow.Author.Tests.{not-true, not-false, le-leb, lt-leb}
+use borrow.Author.Tests.{not-true, not-false, le-leb, lt-leb, le-ltb, lt-ltb}
 use Rattle.laws.specs.Choice.{pick-self}
+use Rattle.rules.specs.Record.{keyAscends}
 use Rattle.records.proofs.writes.part_write_ok.Statement.{statement}
 use Rattle.records.proofs.writes.part_write_ok.Tie as tie
+
+abbrev start : tie.After-key-ascends → tie.Start
+start c = c .before .before
 
 key-ascends-requires : tie.Need-key-ascends-requires
 key-ascends-requires c κs = search needs
@@ -23,17 +29,32 @@ mul-key-2 c = search needs
 shared-slice-read-key : tie.Need-shared-slice-read-key
 shared-slice-read-key c = search needs
 
+-- the keys ascend at the write that is looked at
+ascends : (c : tie.Else1) → keyAscends (start (c .before) .args .ws .now) (start (c .before) .args .i) ≡ true
+ascends c = sym (c .before .key-ascends .ensures) ∙ not-false _ (c .if1 .left)
+
 returns-2 : tie.Need-returns-2
-returns-2 c =
-    let ascends = c .before .before .before .key-ascends in
-    let if1 = c .before .before .if1 in
-    search (← ascends .ensures, not-false (ascends .result) (if1 .left), lt-leb _ _ (c .if2 .taken), needs)
+returns-2 c = simp (ascends (c .before .before), lt-leb _ _ (c .if2 .taken))
 
 returns-3 : tie.Need-returns-3
 returns-3 c =
-    let ascends = c .before .before .before .key-ascends in
-    let if1 = c .before .before .if1 in
-    search (← ascends .ensures, not-false (ascends .result) (if1 .left), le-leb _ _ (c .if2 .left), pick-self, needs)
+    let from = c .before in
+    simp (ascends (from .before .before), le-leb _ _ (from .if2 .left), le-ltb _ _ (c .if3 .taken))
+
+value-fits-requires : tie.Need-value-fits-requires
+value-fits-requires c κs = search needs
+
+returns-4 : tie.Need-returns-4
+returns-4 c =
+    let below = c .before in
+    let from = below .before in
+    simp (
+      ascends (from .before .before),
+      le-leb _ _ (from .if2 .left),
+      lt-ltb _ _ (below .if3 .left),
+      ← c .value-fits .ensures,
+      pick-self,
+    )
 
 pub part-write-ok-spec : {M : Type 1} → statement M
 part-write-ok-spec =
@@ -46,4 +67,6 @@ part-write-ok-spec =
     mul-key-2
     shared-slice-read-key
     returns-2
-    returns-3)
+    returns-3
+    value-fits-requires
+    returns-4)
