@@ -5,6 +5,8 @@ use kinds::sizes::WRITE;
 use kinds::word;
 use numbers::end_key;
 use numbers::first_key;
+use values::fits;
+use values::value_at;
 ghost use mathlib.Core.Path.{_≡_};
 ghost use Prim.Native.Nat.{_+_, _*_, _≤_, _<_};
 ghost use mathlib.Core.List.{[], _∷_};
@@ -13,7 +15,8 @@ ghost use Rattle.laws.specs.Choice.{every};
 ghost use Rattle.laws.specs.Scan.{allBelow};
 ghost use Rattle.kinds.specs.Sizes as sizes;
 ghost use Rattle.rules.specs.House.{within};
-ghost use Rattle.rules.specs.Record.{writeKey, keyAscends, partWriteOk, mergedWriteOk};
+ghost use Rattle.rules.specs.Value.{fits as fitsOf};
+ghost use Rattle.rules.specs.Record.{writeKey, writeValue, keyAscends, partWriteOk, mergedWriteOk};
 ghost use Rattle.rules.specs.ValidLaws.{ValidHouse};
 
 // Whether the write's key is above that of the one before.
@@ -27,10 +30,20 @@ fn key_ascends(ws: &[u64], i: usize) -> bool
     ws[WRITE * (i - 1) + word::WRITE_KEY] < ws[WRITE * i + word::WRITE_KEY]
 }
 
-// Whether it is, and the key is from `first` on and below `end`.
+// Whether the write's value fits (Q12.6).
+fn write_fits(ws: &[u64], i: usize) -> bool
+    requires { ⌜ (i < sizes.mergedWrites) × (sizes.write * i + sizes.write ≤ length (now ws)) ⌝ }
+    ensures { λ r. ⌜ r ≡ fitsOf (writeValue (now (ws .entry)) i) ⌝ }
+{
+    let v = value_at(ws, WRITE * i + word::WRITE_VALUE);
+    fits(v)
+}
+
+// Whether the key is above that of the write before, from `first` on and below `end`, and the value fits.
 fn part_write_ok(first: u64, end: u64, ws: &[u64], i: usize) -> bool
     requires { ⌜ (i < sizes.mergedWrites) × (sizes.write * i + sizes.write ≤ length (now ws)) ⌝ }
-    ensures { λ r. ⌜ r ≡ every (keyAscends (now (ws .entry)) i ∷ within first end (writeKey (now (ws .entry)) i) ∷ []) ⌝ }
+    ensures { λ r. ⌜ r ≡ every (keyAscends (now (ws .entry)) i ∷ within first end (writeKey (now (ws .entry)) i)
+        ∷ fitsOf (writeValue (now (ws .entry)) i) ∷ []) ⌝ }
 {
     if !key_ascends(ws, i) {
         return false;
@@ -39,7 +52,10 @@ fn part_write_ok(first: u64, end: u64, ws: &[u64], i: usize) -> bool
     if key < first {
         return false;
     }
-    key < end
+    if end <= key {
+        return false;
+    }
+    write_fits(ws, i)
 }
 
 fn merged_write_ok(ws: &[u64], i: usize) -> bool
@@ -50,7 +66,10 @@ fn merged_write_ok(ws: &[u64], i: usize) -> bool
         return false;
     }
     let key = ws[WRITE * i + word::WRITE_KEY];
-    key < KEYS as u64
+    if KEYS as u64 <= key {
+        return false;
+    }
+    write_fits(ws, i)
 }
 
 // The keys of a site are those of its range (Q3.1), which is asked for once.

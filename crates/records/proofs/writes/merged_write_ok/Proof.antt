@@ -1,6 +1,6 @@
 -- Each return is the test that failed, or the last.
 use borrow.Author.Needs.{needs}
-use borrow.Author.Tests.{not-true, not-false}
+use borrow.Author.Tests.{not-true, not-false, le-ltb, lt-ltb}
 use Rattle.laws.specs.Choice.{pick-self}
 use Rattle.rules.specs.Record.{mergedWriteOk}
 use Rattle.records.proofs.writes.merged_write_ok.Statement.{statement}
@@ -28,9 +28,24 @@ shared-slice-read-key c = search needs
 returns-2 : tie.Need-returns-2
 unfolding mergedWriteOk
 returns-2 c =
+    let first = c .before .before in
+    let ascends = first .before .key-ascends in
+    search (← ascends .ensures, not-false (ascends .result) (first .if1 .left), le-ltb _ _ (c .if2 .taken), needs)
+
+write-fits-requires : tie.Need-write-fits-requires
+write-fits-requires c κs = search needs
+
+returns-3 : tie.Need-returns-3
+unfolding mergedWriteOk
+returns-3 c =
+    let second = c .before in
+    let first = second .before .before in
+    let ascends = first .before .key-ascends in
     search (
-      ← c .before .before .key-ascends .ensures,
-      not-false (c .before .before .key-ascends .result) (c .before .if1 .left),
+      ← ascends .ensures,
+      not-false (ascends .result) (first .if1 .left),
+      lt-ltb _ _ (second .if2 .left),
+      ← c .write-fits .ensures,
       pick-self,
       needs,
     )
@@ -45,4 +60,6 @@ merged-write-ok-spec =
     add-key
     mul-key-2
     shared-slice-read-key
-    returns-2)
+    returns-2
+    write-fits-requires
+    returns-3)

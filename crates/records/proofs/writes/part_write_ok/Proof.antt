@@ -1,6 +1,6 @@
 -- Each return is the test that failed, or the last.
 use borrow.Author.Needs.{needs}
-use borrow.Author.Tests.{not-true, not-false, le-leb, lt-leb}
+use borrow.Author.Tests.{not-true, not-false, le-leb, lt-leb, le-ltb, lt-ltb}
 use Rattle.laws.specs.Choice.{pick-self}
 use Rattle.records.proofs.writes.part_write_ok.Statement.{statement}
 use Rattle.records.proofs.writes.part_write_ok.Tie as tie
@@ -25,15 +25,41 @@ shared-slice-read-key c = search needs
 
 returns-2 : tie.Need-returns-2
 returns-2 c =
-    let ascends = c .before .before .before .key-ascends in
-    let if1 = c .before .before .if1 in
-    search (← ascends .ensures, not-false (ascends .result) (if1 .left), lt-leb _ _ (c .if2 .taken), needs)
+    let first = c .before .before in
+    let ascends = first .before .key-ascends in
+    search (← ascends .ensures, not-false (ascends .result) (first .if1 .left), lt-leb _ _ (c .if2 .taken), needs)
 
 returns-3 : tie.Need-returns-3
 returns-3 c =
-    let ascends = c .before .before .before .key-ascends in
-    let if1 = c .before .before .if1 in
-    search (← ascends .ensures, not-false (ascends .result) (if1 .left), le-leb _ _ (c .if2 .left), pick-self, needs)
+    let second = c .before in
+    let first = second .before .before in
+    let ascends = first .before .key-ascends in
+    search (
+      ← ascends .ensures,
+      not-false (ascends .result) (first .if1 .left),
+      le-leb _ _ (second .if2 .left),
+      le-ltb _ _ (c .if3 .taken),
+      needs,
+    )
+
+write-fits-requires : tie.Need-write-fits-requires
+write-fits-requires c κs = search needs
+
+returns-4 : tie.Need-returns-4
+returns-4 c =
+    let third = c .before in
+    let second = third .before in
+    let first = second .before .before in
+    let ascends = first .before .key-ascends in
+    search (
+      ← ascends .ensures,
+      not-false (ascends .result) (first .if1 .left),
+      le-leb _ _ (second .if2 .left),
+      lt-ltb _ _ (third .if3 .left),
+      ← c .write-fits .ensures,
+      pick-self,
+      needs,
+    )
 
 pub part-write-ok-spec : {M : Type 1} → statement M
 part-write-ok-spec =
@@ -46,4 +72,6 @@ part-write-ok-spec =
     mul-key-2
     shared-slice-read-key
     returns-2
-    returns-3)
+    returns-3
+    write-fits-requires
+    returns-4)

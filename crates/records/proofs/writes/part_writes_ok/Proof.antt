@@ -12,12 +12,13 @@ use Rattle.laws.specs.Choice.{every}
 use Rattle.kinds.specs.declared.House.{House}
 use Rattle.rules.specs.House.{firstKey, endKey, within, inRange}
 use Rattle.rules.specs.ValidLaws.{ValidHouse}
-use Rattle.rules.specs.Record.{writeKey, keyAscends, partWriteOk}
+use Rattle.rules.specs.Value.{fits}
+use Rattle.rules.specs.Record.{writeKey, writeValue, keyAscends, partWriteOk}
 use Rattle.records.proofs.writes.part_writes_ok.Statement.{statement}
 use Rattle.records.proofs.writes.part_writes_ok.Tie as tie
 
 abbrev writeIn : ℕ → ℕ → List ℕ → ℕ → Bool
-writeIn first end ws i = every (keyAscends ws i ∷ within first end (writeKey ws i) ∷ [])
+writeIn first end ws i = every (keyAscends ws i ∷ within first end (writeKey ws i) ∷ fits (writeValue ws i) ∷ [])
 
 abbrev Inv-loop : tie.InvT-loop
 Inv-loop site ws n first end i₀ i = (i ≤ n) × EachBelow (writeIn first end ws) i
