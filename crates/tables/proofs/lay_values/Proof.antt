@@ -36,8 +36,8 @@ loop-holds c = (omega arith, laid-none _ _)
 mul-v : tie.Need-mul-v Inv-loop μ-loop
 mul-v c = search needs
 
-array-read-v : tie.Need-array-read-v Inv-loop μ-loop
-array-read-v c = search needs
+array-copy-out-v : tie.Need-array-copy-out-v Inv-loop μ-loop
+array-copy-out-v c = search needs
 
 mul-put-value : tie.Need-mul-put-value Inv-loop μ-loop
 mul-put-value c = search needs
@@ -47,9 +47,10 @@ add-put-value c = search needs
 
 put-value-requires : tie.Need-put-value-requires Inv-loop μ-loop
 put-value-requires c κs =
-    let l = c .before .before in
+    let turn = c .before .before in
+    let l = turn .before in
     let room = start l .pre in
-    omega (arith, long l, c .before .loop-test .taken)
+    omega (arith, long l, turn .loop-test .taken)
 
 add-i : tie.Need-add-i Inv-loop μ-loop
 add-i c = search needs
@@ -60,7 +61,7 @@ loop-less c = search needs
 loop-again : tie.Need-loop-again Inv-loop μ-loop
 loop-again c =
     let put = c .before .before in
-    let turn = put .before .before in
+    let turn = put .before .before .before in
     let l = turn .before in
     let a = start l .args in
     let room = start l .pre in
@@ -87,7 +88,7 @@ lay-values-spec =
     μ-loop
     loop-holds
     mul-v
-    array-read-v
+    array-copy-out-v
     mul-put-value
     add-put-value
     put-value-requires

@@ -36,8 +36,8 @@ value-at-requires c κs = search needs
 mul-r : tie.Need-mul-r Inv-loop μ-loop
 mul-r c = search needs
 
-array-write-r : tie.Need-array-write-r Inv-loop μ-loop
-array-write-r c = search needs
+array-set-from-r : tie.Need-array-set-from-r Inv-loop μ-loop
+array-set-from-r c = search needs
 
 add-i : tie.Need-add-i Inv-loop μ-loop
 add-i c = search needs
@@ -74,7 +74,7 @@ sixteen-values-spec =
     add-value-at
     value-at-requires
     mul-r
-    array-write-r
+    array-set-from-r
     add-i
     loop-less
     loop-again
