@@ -6,14 +6,16 @@ use kinds::sizes::VALUE;
 use kinds::sizes::WRITES;
 use kinds::word;
 use std::num::wrapping_sub_u64;
+use values::fits;
 use values::value_at;
 ghost use mathlib.Core.Path.{_≡_};
-ghost use Prim.Native.Nat.{ℕ, _+_, _≤_};
+ghost use Prim.Native.Nat.{ℕ, _+_, _*_, _≤_};
 ghost use lib.ListN.{length};
 ghost use Rattle.kinds.specs.Sizes as sizes;
 ghost use Rattle.kinds.specs.declared.House.{House};
+ghost use Rattle.rules.specs.Value.{valuesFit};
 ghost use Rattle.rules.specs.Keys.{keyPlace, wroteKey, wroteValue, keysAt, keysOk};
-ghost use Rattle.lent.specs.Layout.{wordsFrom, keysFrom};
+ghost use Rattle.lent.specs.Layout.{wordsFrom, valuesFrom, keysFrom};
 ghost use Rattle.lent.specs.Read.{Wrote};
 ghost use Rattle.keys.specs.Range.{RangeOf};
 
@@ -69,7 +71,23 @@ fn keys_at_in(first: Key, count: u64, w: &[u64], at: usize, n: usize) -> bool
     true
 }
 
-// Whether the counts are within the sizes, and the keys are of the site whose range is the `count` keys from `first` on.
+// Whether the first `n` values from word `at` on fit (Q12.5).
+fn values_fit_in(w: &[u64], at: usize, n: usize) -> bool
+    requires { ⌜ (n ≤ sizes.writes) × (at + sizes.value * sizes.writes ≤ length (now w)) ⌝ }
+    ensures { λ r. ⌜ r ≡ valuesFit (valuesFrom (now (w .entry)) at sizes.writes) n ⌝ }
+{
+    let mut i: usize = 0;
+    while i < n {
+        if !fits(value_at(w, at + VALUE * i)) {
+            return false;
+        }
+        i += 1;
+    }
+    true
+}
+
+// Whether the counts are within the sizes, the keys are of the site whose range is the `count` keys from `first` on, and the values
+// written fit.
 pub fn keys_ok_in(first: Key, count: u64, w: &[u64], at: usize) -> bool
     requires { ⌜ (at + sizes.keyset ≤ length (now w)) × (first + count ≤ sizes.keys) ⌝ }
     ensures { λ r. ⌜ ((o : House) (own : ℕ) → RangeOf o own first count → r ≡ keysOk o own (keysFrom (now (w .entry)) at)) ⌝ }
@@ -85,5 +103,8 @@ pub fn keys_ok_in(first: Key, count: u64, w: &[u64], at: usize) -> bool
     if !keys_at_in(first, count, w, at + word::KEYS_READS, read) {
         return false;
     }
-    keys_at_in(first, count, w, at + word::KEYS_WRITES, wrote)
+    if !keys_at_in(first, count, w, at + word::KEYS_WRITES, wrote) {
+        return false;
+    }
+    values_fit_in(w, at + word::KEYS_VALUES, wrote)
 }

@@ -28,11 +28,11 @@ room c = start (c .before .before) .pre .1 (new _ _ _ (c .before .key-place .ens
 key-place-requires : tie.Need-key-place-requires
 key-place-requires c κs = search needs
 
-mul-c : tie.Need-mul-c
-mul-c c = search needs
+mul-v : tie.Need-mul-v
+mul-v c = search needs
 
-element-write-c : tie.Need-element-write-c
-element-write-c c = search needs
+element-set-from-v : tie.Need-element-set-from-v
+element-set-from-v c = search needs
 
 returns : tie.Need-returns
 unfolding withWrite
@@ -41,17 +41,17 @@ returns c =
     let a = start (c .before .before) .args in
     simp (old (a .t1) (a .k) _ (place .ensures) (c .if1 .taken), ← place .ensures)
 
-mul-c-2 : tie.Need-mul-c-2
-mul-c-2 c = let h = room c in omega arith
+mul-c : tie.Need-mul-c
+mul-c c = let h = room c in omega arith
 
-element-write-c-2 : tie.Need-element-write-c-2
-element-write-c-2 c = room c
+element-write-c : tie.Need-element-write-c
+element-write-c c = room c
 
-mul-c-3 : tie.Need-mul-c-3
-mul-c-3 c = let h = room c in omega arith
+mul-v-2 : tie.Need-mul-v-2
+mul-v-2 c = let h = room c in omega arith
 
-element-write-c-3 : tie.Need-element-write-c-3
-element-write-c-3 c = room c
+element-set-from-v-2 : tie.Need-element-set-from-v-2
+element-set-from-v-2 c = room c
 
 add-c : tie.Need-add-c
 add-c c = let h = room c in omega arith
@@ -67,12 +67,12 @@ with-write-spec =
     tie.close
     (tie.spec
     key-place-requires
+    mul-v
+    element-set-from-v
+    returns
     mul-c
     element-write-c
-    returns
-    mul-c-2
-    element-write-c-2
-    mul-c-3
-    element-write-c-3
+    mul-v-2
+    element-set-from-v-2
     add-c
     returns-2)

@@ -1,4 +1,4 @@
--- Each return is the first of the four tests that fails, or the last one's answer.
+-- Each return is the first of the five tests that fails, or the last one's answer.
 use Prim.Native.Nat.{ℕ, _+_}
 use mathlib.Core.Path.{_≡_, sym, _∙_}
 use mathlib.Core.Bool.{true}
@@ -35,6 +35,16 @@ reads-here : (c : tie.Else3) (o : House) (own : ℕ) →
     RangeOf o own (a .first) (a .count)
     → keysAt o own (wordsFrom w (a .at + word.keysReads) sizes.reads) (getD w (a .at + word.keysRead) 0) ≡ true)
 reads-here c o own range = sym (c .before .keys-at-in .ensures o own range) ∙ not-false _ (c .if3 .left)
+
+-- the counts and the keys read, seen from the test of the keys written
+abbrev passed : tie.Else3 → tie.Else2
+passed c = c .before .before
+
+writes-here : (c : tie.Else4) (o : House) (own : ℕ) →
+    (let a = start (counts (passed (c .before .before))) .args in let w = a .w .now in
+    RangeOf o own (a .first) (a .count)
+    → keysAt o own (wordsFrom w (a .at + word.keysWrites) sizes.writes) (getD w (a .at + word.keysWrote) 0) ≡ true)
+writes-here c o own range = sym (c .before .keys-at-in2 .ensures o own range) ∙ not-false _ (c .if4 .left)
 
 add-read : tie.Need-add-read
 add-read c = search needs
@@ -84,9 +94,37 @@ keys-at-in-requires-2 c κs = search needs
 returns-4 : tie.Need-returns-4
 unfolding keysOk keysFrom
 returns-4 c =
-    let passed = c .before .before .before in
+    let read = c .before .before in
+    let counted = passed read in
     λ o own range.
-    simp (few-read (passed .before), few-wrote passed, reads-here (c .before) o own range, ← c .keys-at-in2 .ensures o own range, pick-self)
+    simp (
+      few-read (counted .before),
+      few-wrote counted,
+      reads-here read o own range,
+      sym (c .before .keys-at-in2 .ensures o own range) ∙ not-true _ (c .if4 .taken),
+    )
+
+add-values-fit-in : tie.Need-add-values-fit-in
+add-values-fit-in c = search needs
+
+values-fit-in-requires : tie.Need-values-fit-in-requires
+values-fit-in-requires c κs = search needs
+
+returns-5 : tie.Need-returns-5
+unfolding keysOk keysFrom
+returns-5 c =
+    let wrote = c .before in
+    let read = wrote .before .before in
+    let counted = passed read in
+    λ o own range.
+    simp (
+      few-read (counted .before),
+      few-wrote counted,
+      reads-here read o own range,
+      writes-here wrote o own range,
+      ← c .values-fit-in .ensures,
+      pick-self,
+    )
 
 pub keys-ok-in-spec : {M : Type 1} → statement M
 keys-ok-in-spec =
@@ -105,4 +143,7 @@ keys-ok-in-spec =
     returns-3
     add-keys-at-in-2
     keys-at-in-requires-2
-    returns-4)
+    returns-4
+    add-values-fit-in
+    values-fit-in-requires
+    returns-5)
