@@ -84,7 +84,7 @@ fn assert_both_desks(tally: &Tally) {
 #[test]
 fn random_lists_keep_the_book_and_tell_the_wrong_site_from_the_wrong_stage() {
     let mut tally = Tally::default();
-    for seed in 1..=40 {
+    for seed in 1..=80 {
         tally.add(&fuzz::run(seed, 600, false));
     }
     let mut elsewhere = 0;

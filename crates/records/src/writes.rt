@@ -31,14 +31,15 @@ fn key_ascends(ws: &[u64], i: usize) -> bool
 }
 
 // Whether the write's value fits (Q12.6).
-fn value_fits(ws: &[u64], i: usize) -> bool
+fn write_fits(ws: &[u64], i: usize) -> bool
     requires { ⌜ (i < sizes.mergedWrites) × (sizes.write * i + sizes.write ≤ length (now ws)) ⌝ }
     ensures { λ r. ⌜ r ≡ fitsOf (writeValue (now (ws .entry)) i) ⌝ }
 {
-    fits(value_at(ws, WRITE * i + word::WRITE_VALUE))
+    let v = value_at(ws, WRITE * i + word::WRITE_VALUE);
+    fits(v)
 }
 
-// Whether the key is, and is from `first` on and below `end`, and the value fits.
+// Whether the key is above that of the write before, from `first` on and below `end`, and the value fits.
 fn part_write_ok(first: u64, end: u64, ws: &[u64], i: usize) -> bool
     requires { ⌜ (i < sizes.mergedWrites) × (sizes.write * i + sizes.write ≤ length (now ws)) ⌝ }
     ensures { λ r. ⌜ r ≡ every (keyAscends (now (ws .entry)) i ∷ within first end (writeKey (now (ws .entry)) i)
@@ -54,7 +55,7 @@ fn part_write_ok(first: u64, end: u64, ws: &[u64], i: usize) -> bool
     if end <= key {
         return false;
     }
-    value_fits(ws, i)
+    write_fits(ws, i)
 }
 
 fn merged_write_ok(ws: &[u64], i: usize) -> bool
@@ -68,7 +69,7 @@ fn merged_write_ok(ws: &[u64], i: usize) -> bool
     if KEYS as u64 <= key {
         return false;
     }
-    value_fits(ws, i)
+    write_fits(ws, i)
 }
 
 // The keys of a site are those of its range (Q3.1), which is asked for once.

@@ -15,6 +15,7 @@ use kinds::reason::HELD;
 use kinds::reason::MALFORMED;
 use kinds::reason::NEWER;
 use kinds::reason::STAGE;
+use kinds::reason::TOO_LONG;
 use kinds::reason::TOO_MANY;
 use kinds::reason::UNKNOWN;
 use kinds::sizes::BASE;
@@ -32,7 +33,7 @@ ghost use Rattle.rules.specs.Effect.{takenOf, turnAt};
 ghost use Rattle.rules.specs.Course.{withSubOf};
 ghost use Rattle.site.specs.Accessed.{Accessed, Writable};
 ghost use Rattle.rules.specs.Live.{stageAt};
-ghost use Rattle.rules.specs.Access.{keyCode, accessCode, readCode, writeCode, writeCodeAt, written as writtenOf};
+ghost use Rattle.rules.specs.Access.{keyCode, accessCode, readCode, longCode, writeCode, writeCodeAt, lateCode, written as writtenOf};
 ghost use Rattle.rules.specs.Access.{readAt, writeAt, readOf, writeOf, searchOf};
 ghost use Rattle.lent.specs.Layout.{liveOf};
 ghost use Rattle.lent.specs.Lent.{siteOf, Replied};
@@ -89,9 +90,26 @@ fn read_code(lost: bool, has: bool, read: usize) -> u64
     0
 }
 
+// The last cause of a write: the value does not fit (Q12.5).
+fn long_code(value: Value) -> u64
+    ensures { λ r. ⌜ r ≡ longCode value ⌝ }
+{
+    if !values::fits(value) {
+        return TOO_LONG;
+    }
+    0
+}
+
 // `most` is how many keys the part's desk lets it write (Q10.4).
-fn write_code(lost: bool, held: bool, newer: bool, most: usize, wrote: usize) -> u64
-    ensures { λ r. ⌜ r ≡ writeCode lost held newer most wrote ⌝ }
+fn write_code(
+    lost: bool,
+    held: bool,
+    newer: bool,
+    most: usize,
+    wrote: usize,
+    value: Value,
+) -> u64
+    ensures { λ r. ⌜ r ≡ writeCode lost held newer most wrote value ⌝ }
 {
     if lost {
         return FORGOTTEN;
@@ -105,7 +123,7 @@ fn write_code(lost: bool, held: bool, newer: bool, most: usize, wrote: usize) ->
     if most <= wrote {
         return TOO_MANY;
     }
-    0
+    long_code(value)
 }
 
 fn stage_at(seats: [Seat; LIVE], place: usize) -> u64
@@ -210,9 +228,17 @@ pub fn search(
 }
 
 // The first cause against a key that the part has not written.
-fn fresh_code(p: Core, live: &[u64], history: &[u64], place: usize, t: Turn, key: u64) -> u64
+fn fresh_code(
+    p: Core,
+    live: &[u64],
+    history: &[u64],
+    place: usize,
+    t: Turn,
+    key: u64,
+    value: Value,
+) -> u64
     requires { ⌜ Accessed p (now live) (now history) place × (t ≡ turnAt (siteOf p (now live) (now history)) place) ⌝ }
-    ensures { λ r. ⌜ r ≡ writeCodeAt (siteOf p (now (live .entry)) (now (history .entry))) place key ⌝ }
+    ensures { λ r. ⌜ r ≡ writeCodeAt (siteOf p (now (live .entry)) (now (history .entry))) place key value ⌝ }
 {
     let installs = p.counters.installs;
     let snapshot = t.sub.snapshot;
@@ -221,7 +247,27 @@ fn fresh_code(p: Core, live: &[u64], history: &[u64], place: usize, t: Turn, key
     let held = live::key_held(seats, live, place, key);
     let newer = history::is_newer(history, installs, snapshot, key);
     let most = numbers::write_limit(t.sub.desk);
-    write_code(lost, held, newer, most, t.sub.keys.wrote)
+    write_code(lost, held, newer, most, t.sub.keys.wrote, value)
+}
+
+// The first cause against a write of the part: causes 8 to 11 never arise for a key that it wrote before.
+fn late_code(
+    p: Core,
+    live: &[u64],
+    history: &[u64],
+    place: usize,
+    t: Turn,
+    key: u64,
+    value: Value,
+) -> u64
+    requires { ⌜ Accessed p (now live) (now history) place × (t ≡ turnAt (siteOf p (now live) (now history)) place) ⌝ }
+    ensures { λ r. ⌜ r ≡ lateCode (siteOf p (now (live .entry)) (now (history .entry))) place key value ⌝ }
+{
+    let keys = t.sub.keys;
+    if keys::wrote_key(keys, key) {
+        return long_code(value);
+    }
+    fresh_code(p, live, history, place, t, key, value)
 }
 
 // The part with the key written.
@@ -237,7 +283,7 @@ fn written(p: Core, live: &mut [u64], place: usize, t: Turn, key: u64, value: Va
     shell::settled(p, live, place, a)
 }
 
-// What a part writes: causes 8 to 11 never arise for a key that it wrote before.
+// What a part writes.
 fn write_at(
     p: Core,
     live: &mut [u64],
@@ -251,11 +297,7 @@ fn write_at(
         (writeAt (siteOf p (now (live .entry)) (now (history .entry))) place key value) ⌝ }
 {
     let t = shell::turn_at(p, live, place);
-    let keys = t.sub.keys;
-    if keys::wrote_key(keys, key) {
-        return written(p, live, place, t, key, value);
-    }
-    let code = fresh_code(p, live, history, place, t, key);
+    let code = late_code(p, live, history, place, t, key, value);
     if code != 0 {
         return shell::refused(p, code);
     }

@@ -112,20 +112,8 @@ impl Fuzz {
     }
 
     fn step(&mut self) -> Result<(), String> {
-        if self.random.chance(3) {
-            return self.forged_words();
-        }
-        if self.random.chance(1) {
-            return self.forged_join();
-        }
-        if self.random.chance(1) {
-            return self.forged_start();
-        }
-        if self.random.chance(1) {
-            return self.forged_value();
-        }
-        if self.random.chance(1) {
-            return self.handed_value();
+        if let Some(checked) = self.aside() {
+            return checked;
         }
         let (handed, source) = self.choose();
         let call = source.call(&handed);
@@ -154,6 +142,18 @@ impl Fuzz {
         self.book.enter(&call, &answer, written, &self.world.copies)?;
         self.keep(&call, &answer, written);
         Ok(())
+    }
+
+    /// Now and then something on states set aside.
+    fn aside(&mut self) -> Option<Result<(), String>> {
+        Some(match self.random.below(100) {
+            0..=2 => self.forged_words(),
+            3 => self.forged_join(),
+            4 => self.forged_start(),
+            5 => self.forged_value(),
+            6 => self.handed_value(),
+            _ => return None,
+        })
     }
 
     /// Beyond demand 3: a channel's next message is in turn, a log's next

@@ -21,10 +21,6 @@ abbrev μ-loop : tie.MeasureT-loop
 abbrev start : tie.At-loop Inv-loop μ-loop → tie.Start Inv-loop μ-loop
 start c = c .before .before
 
--- the turn of the loop that a value is put in
-abbrev turn : tie.After-put-value-arg Inv-loop μ-loop → tie.In-loop Inv-loop μ-loop
-turn c = c .before .before
-
 -- the words are as many as before
 long : (c : tie.At-loop Inv-loop μ-loop) → length (c .loop .out) ≡ length (start c .args .out .now)
 long c =
@@ -51,9 +47,10 @@ add-put-value c = search needs
 
 put-value-requires : tie.Need-put-value-requires Inv-loop μ-loop
 put-value-requires c κs =
-    let t = turn c in
-    let room = start (t .before) .pre in
-    omega (arith, long (t .before), t .loop-test .taken)
+    let turn = c .before .before in
+    let l = turn .before in
+    let room = start l .pre in
+    omega (arith, long l, turn .loop-test .taken)
 
 add-i : tie.Need-add-i Inv-loop μ-loop
 add-i c = search needs
@@ -64,11 +61,11 @@ loop-less c = search needs
 loop-again : tie.Need-loop-again Inv-loop μ-loop
 loop-again c =
     let put = c .before .before in
-    let t = turn (put .before) in
-    let l = t .before in
+    let turn = put .before .before .before in
+    let l = turn .before in
     let a = start l .args in
     let room = start l .pre in
-    let low = t .loop-test .taken in
+    let low = turn .loop-test .taken in
     let more = laid-values (a .out .now) (a .at) (l .loop .i) (a .t3) (l .loop .out) (omega arith) (omega arith) (l .loop .inv .1) in
     (omega arith, rw (put .put-value .ensures) more)
 

@@ -1,15 +1,9 @@
 -- Each return is the test that failed, or the last.
-use mathlib.Core.Path.{_≡_, sym, _∙_}
-use mathlib.Core.Bool.{true}
 use borrow.Author.Needs.{needs}
 use borrow.Author.Tests.{not-true, not-false, le-leb, lt-leb, le-ltb, lt-ltb}
 use Rattle.laws.specs.Choice.{pick-self}
-use Rattle.rules.specs.Record.{keyAscends}
 use Rattle.records.proofs.writes.part_write_ok.Statement.{statement}
 use Rattle.records.proofs.writes.part_write_ok.Tie as tie
-
-abbrev start : tie.After-key-ascends → tie.Start
-start c = c .before .before
 
 key-ascends-requires : tie.Need-key-ascends-requires
 key-ascends-requires c κs = search needs
@@ -29,31 +23,42 @@ mul-key-2 c = search needs
 shared-slice-read-key : tie.Need-shared-slice-read-key
 shared-slice-read-key c = search needs
 
--- the keys ascend at the write that is looked at
-ascends : (c : tie.Else1) → keyAscends (start (c .before) .args .ws .now) (start (c .before) .args .i) ≡ true
-ascends c = sym (c .before .key-ascends .ensures) ∙ not-false _ (c .if1 .left)
-
 returns-2 : tie.Need-returns-2
-returns-2 c = simp (ascends (c .before .before), lt-leb _ _ (c .if2 .taken))
+returns-2 c =
+    let first = c .before .before in
+    let ascends = first .before .key-ascends in
+    search (← ascends .ensures, not-false (ascends .result) (first .if1 .left), lt-leb _ _ (c .if2 .taken), needs)
 
 returns-3 : tie.Need-returns-3
 returns-3 c =
-    let from = c .before in
-    simp (ascends (from .before .before), le-leb _ _ (from .if2 .left), le-ltb _ _ (c .if3 .taken))
+    let second = c .before in
+    let first = second .before .before in
+    let ascends = first .before .key-ascends in
+    search (
+      ← ascends .ensures,
+      not-false (ascends .result) (first .if1 .left),
+      le-leb _ _ (second .if2 .left),
+      le-ltb _ _ (c .if3 .taken),
+      needs,
+    )
 
-value-fits-requires : tie.Need-value-fits-requires
-value-fits-requires c κs = search needs
+write-fits-requires : tie.Need-write-fits-requires
+write-fits-requires c κs = search needs
 
 returns-4 : tie.Need-returns-4
 returns-4 c =
-    let below = c .before in
-    let from = below .before in
-    simp (
-      ascends (from .before .before),
-      le-leb _ _ (from .if2 .left),
-      lt-ltb _ _ (below .if3 .left),
-      ← c .value-fits .ensures,
+    let third = c .before in
+    let second = third .before in
+    let first = second .before .before in
+    let ascends = first .before .key-ascends in
+    search (
+      ← ascends .ensures,
+      not-false (ascends .result) (first .if1 .left),
+      le-leb _ _ (second .if2 .left),
+      lt-ltb _ _ (third .if3 .left),
+      ← c .write-fits .ensures,
       pick-self,
+      needs,
     )
 
 pub part-write-ok-spec : {M : Type 1} → statement M
@@ -68,5 +73,5 @@ part-write-ok-spec =
     shared-slice-read-key
     returns-2
     returns-3
-    value-fits-requires
+    write-fits-requires
     returns-4)

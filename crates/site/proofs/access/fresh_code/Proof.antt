@@ -5,6 +5,7 @@ use mathlib.Core.Bool.{Bool}
 use borrow.Author.Needs.{needs}
 use Rattle.kinds.specs.declared.Site.{Site}
 use Rattle.kinds.specs.declared.Turn.{Turn}
+use Rattle.kinds.specs.declared.Value.{Value}
 use Rattle.rules.specs.Access.{writeCode, writeCodeAt}
 use Rattle.rules.specs.Desk.{writeLimit}
 use Rattle.rules.specs.Effect.{turnAt}
@@ -36,9 +37,9 @@ long c = lent-lengths (c .args .p) (c .args .live .now) (c .args .history .now) 
 code-at : (s : Site) (place key : ℕ) (t : Turn) (lost held newer : Bool) (most : ℕ) → t ≡ turnAt s place
     → lost ≡ isForgotten (s .counters .installs) (t .sub .snapshot) → held ≡ keyHeld (s .live) place key
     → newer ≡ isNewer (s .history) (s .counters .installs) (t .sub .snapshot) key
-    → most ≡ writeLimit (t .sub .desk) → writeCode lost held newer most (t .sub .keys .wrote) ≡ writeCodeAt s place key
+    → most ≡ writeLimit (t .sub .desk) → (v : Value) → writeCode lost held newer most (t .sub .keys .wrote) v ≡ writeCodeAt s place key v
 unfolding writeCodeAt turnAt
-code-at s place key t lost held newer most e f g h l = rw (f, g, h, l, e)
+code-at s place key t lost held newer most e f g h l v = rw (f, g, h, l, e)
 
 is-forgotten-requires : tie.Need-is-forgotten-requires
 is-forgotten-requires c κs = search needs
@@ -63,7 +64,7 @@ returns c =
     let s = start (held .before) in
     c .write-code .ensures
     ∙ code-at (handed s) (s .args .place) (s .args .key) (s .args .t) _ _ _ _ (s .pre .1) (held .before .is-forgotten .ensures)
-    (held .key-held .ensures) (c .before .before .is-newer .ensures) (c .before .write-limit .ensures)
+    (held .key-held .ensures) (c .before .before .is-newer .ensures) (c .before .write-limit .ensures) (s .args .value)
 
 pub fresh-code-spec : {M : Type 1} → statement M
 fresh-code-spec =

@@ -1,9 +1,9 @@
--- The value is read where the layout has it.
-use mathlib.Core.Path.{ap, _∙_}
+-- The value of the write is asked.
+use mathlib.Core.Path.{_∙_, ap}
 use borrow.Author.Needs.{needs}
 use Rattle.rules.specs.Value.{fits}
-use Rattle.records.proofs.writes.value_fits.Statement.{statement}
-use Rattle.records.proofs.writes.value_fits.Tie as tie
+use Rattle.records.proofs.writes.write_fits.Statement.{statement}
+use Rattle.records.proofs.writes.write_fits.Tie as tie
 
 mul-value-at : tie.Need-mul-value-at
 mul-value-at c = search needs
@@ -20,5 +20,5 @@ fits-requires c κs = search needs
 returns : tie.Need-returns
 returns c = c .fits2 .ensures ∙ ap fits (c .before .value-at .ensures)
 
-pub value-fits-spec : {M : Type 1} → statement M
-value-fits-spec = tie.close (tie.spec mul-value-at add-value-at value-at-requires fits-requires returns)
+pub write-fits-spec : {M : Type 1} → statement M
+write-fits-spec = tie.close (tie.spec mul-value-at add-value-at value-at-requires fits-requires returns)
