@@ -101,14 +101,7 @@ fn long_code(value: Value) -> u64
 }
 
 // `most` is how many keys the part's desk lets it write (Q10.4).
-fn write_code(
-    lost: bool,
-    held: bool,
-    newer: bool,
-    most: usize,
-    wrote: usize,
-    value: Value,
-) -> u64
+fn write_code(lost: bool, held: bool, newer: bool, most: usize, wrote: usize, value: Value) -> u64
     ensures { λ r. ⌜ r ≡ writeCode lost held newer most wrote value ⌝ }
 {
     if lost {
@@ -221,8 +214,9 @@ pub fn search(
     }
     let seen = Snapshot { installs: snapshot };
     let found = history::search(history, p.counters.installs, base, seen, key);
+    let value = found.value;
     Answer::Searched {
-        value: found.value,
+        value,
         looked: found.looked,
     }
 }

@@ -160,7 +160,7 @@ search-requires c κs =
 
 with-read-requires : tie.Need-with-read-requires
 with-read-requires c κs =
-    let past = c .before in
+    let past = c .before .before in
     let code = past .before in
     let k = kept (turn (tested (asked code) .before)) in
     (k .few-read, λ f. read-clear _ _ _ (sym (first code) ∙ past .if2 .left) .room f)
@@ -168,8 +168,11 @@ with-read-requires c κs =
 with-keys-requires : tie.Need-with-keys-requires
 with-keys-requires c κs = search needs
 
+abbrev searched : tie.After-with-keys → tie.After-search
+searched c = c .before .before .before
+
 abbrev past : tie.After-with-keys → tie.Else2
-past c = c .before .before .before
+past c = searched c .before
 
 settled-requires : tie.Need-settled-requires
 settled-requires c κs =
@@ -191,7 +194,7 @@ returns-3 c =
     let a = s .args in
     rw (reads (handed s) (a .base .now) (a .place) (a .key) _ _ _ (turned (turn wrote)) (lacked test)
     (sym (first code) ∙ past keys .if2 .left)
-    (ap (λ (f : Search). f .value) (read .before .search .ensures)) (read .with-read .ensures))
+    (ap (λ (f : Search). f .value) (searched keys .search .ensures)) (read .with-read .ensures))
     (end .settled .ensures _ (keys .with-keys .ensures) (a .history .now) [])
 
 pub read-at-spec : {M : Type 1} → statement M

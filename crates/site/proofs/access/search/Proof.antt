@@ -66,9 +66,10 @@ search-requires c κs =
 returns-2 : tie.Need-returns-2
 unfolding searchOf
 returns-2 c =
-    let past = c .before in
+    let found = c .before in
+    let past = found .before in
     let code = past .before in
-    rw (← first code, eq-eqb (code .key-code .result) 0 (past .if1 .left), c .search .ensures)
+    rw (← first code, eq-eqb (code .key-code .result) 0 (past .if1 .left), found .search .ensures)
 
 pub search-spec : {M : Type 1} → statement M
 search-spec =
