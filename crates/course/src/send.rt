@@ -6,7 +6,7 @@ use kinds::Taken;
 use kinds::Turn;
 use kinds::sizes::ENTRY;
 ghost use mathlib.Core.Path.{_≡_};
-ghost use Prim.Native.Nat.{_+_, _-_, _*_, _≤_, _<_};
+ghost use Prim.Native.Nat.{_+_, _-_, _≤_, _<_};
 ghost use lib.ListN.{length, getD};
 ghost use Rattle.laws.specs.Overlay.{overlay};
 ghost use Rattle.kinds.specs.Sizes as sizes;

@@ -1,6 +1,5 @@
 -- The value's words are stored where they stand.
 use mathlib.Core.Path.{refl}
-use native.Mathlib.Omega.{arith}
 use borrow.Author.Needs.{needs}
 use lib.ListN.{length-set}
 use Rattle.rules.specs.Value.{putValue}

@@ -1,8 +1,7 @@
 -- Refused by the first of the late causes, or written.
 use mathlib.Core.Path.{_≡_, sym, _∙_}
-use mathlib.Core.Bool.{false}
 use mathlib.Core.List.{[]}
-use Prim.Native.Nat.{ℕ, _≤_, _<_}
+use Prim.Native.Nat.{ℕ, _<_}
 use native.Mathlib.Omega.{arith}
 use borrow.Author.Needs.{needs}
 use borrow.Author.Tests.{ne-eqb}
@@ -15,7 +14,6 @@ use Rattle.rules.specs.Access.{writeAt, lateCode, written}
 use Rattle.rules.specs.CallLaws.{late-clear}
 use Rattle.rules.specs.Desk.{limit-most}
 use Rattle.rules.specs.Effect.{refused, turnAt}
-use Rattle.rules.specs.Keys.{wroteKey}
 use Rattle.rules.specs.ValidLaws.{ValidSite, valid-site}
 use Rattle.lent.specs.Laws.{Lengths, lent-lengths}
 use Rattle.lent.specs.Lent.{siteOf}
