@@ -92,9 +92,12 @@ pub fn value(copy: &[u64], key: u64) -> Answer
         return Answer::Refused(code);
     }
     let at = COPY_HEADER + VALUE * key as usize;
+    let value = value_at(copy, at);
+    let number = copy[word::LAST_NUMBER];
+    let coordinator = copy[word::LAST_COORDINATOR];
     Answer::Standing {
-        value: value_at(copy, at),
-        number: copy[word::LAST_NUMBER],
-        coordinator: copy[word::LAST_COORDINATOR],
+        value,
+        number,
+        coordinator,
     }
 }

@@ -31,11 +31,11 @@ add-at c = let r = ready c in omega arith
 value-at-requires : tie.Need-value-at-requires
 value-at-requires c κs = let r = ready c in omega arith
 
-shared-slice-read-t10 : tie.Need-shared-slice-read-t10
-shared-slice-read-t10 c = omega (arith, ready (c .before .before) .size)
+shared-slice-read-number : tie.Need-shared-slice-read-number
+shared-slice-read-number c = omega (arith, ready (c .before .before) .size)
 
-shared-slice-read-t12 : tie.Need-shared-slice-read-t12
-shared-slice-read-t12 c = omega (arith, ready (c .before .before .before) .size)
+shared-slice-read-coordinator : tie.Need-shared-slice-read-coordinator
+shared-slice-read-coordinator c = omega (arith, ready (c .before .before .before) .size)
 
 returns-2 : tie.Need-returns-2
 unfolding valueOf
@@ -54,6 +54,6 @@ value-spec =
     mul-at
     add-at
     value-at-requires
-    shared-slice-read-t10
-    shared-slice-read-t12
+    shared-slice-read-number
+    shared-slice-read-coordinator
     returns-2)
