@@ -21,6 +21,12 @@ put-requires-2 c κs = search needs
 loop-holds : tie.Need-loop-holds Inv-loop μ-loop
 loop-holds c = search needs
 
+mul-value : tie.Need-mul-value Inv-loop μ-loop
+mul-value c = search needs
+
+add-value : tie.Need-add-value Inv-loop μ-loop
+add-value c = search needs
+
 add-put : tie.Need-add-put Inv-loop μ-loop
 add-put c = search needs
 
@@ -41,6 +47,24 @@ add-put-5 c = search needs
 
 put-requires-4 : tie.Need-put-requires-4 Inv-loop μ-loop
 put-requires-4 c κs = search needs
+
+add-put-6 : tie.Need-add-put-6 Inv-loop μ-loop
+add-put-6 c = search needs
+
+add-put-7 : tie.Need-add-put-7 Inv-loop μ-loop
+add-put-7 c = search needs
+
+put-requires-5 : tie.Need-put-requires-5 Inv-loop μ-loop
+put-requires-5 c κs = search needs
+
+add-put-8 : tie.Need-add-put-8 Inv-loop μ-loop
+add-put-8 c = search needs
+
+add-put-9 : tie.Need-add-put-9 Inv-loop μ-loop
+add-put-9 c = search needs
+
+put-requires-6 : tie.Need-put-requires-6 Inv-loop μ-loop
+put-requires-6 c κs = search needs
 
 add-i : tie.Need-add-i Inv-loop μ-loop
 add-i c = search needs
@@ -66,6 +90,8 @@ put-keys-spec =
     put-requires
     put-requires-2
     loop-holds
+    mul-value
+    add-value
     add-put
     add-put-2
     put-requires-3
@@ -73,6 +99,12 @@ put-keys-spec =
     add-put-4
     add-put-5
     put-requires-4
+    add-put-6
+    add-put-7
+    put-requires-5
+    add-put-8
+    add-put-9
+    put-requires-6
     add-i
     loop-less
     loop-again
