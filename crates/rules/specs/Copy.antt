@@ -1,4 +1,4 @@
--- G5 and G6: a copy is words: its last number, its last coordinator, then the value of each key.
+-- G5, G6 and Q12.4: a copy is words: its last number, its last coordinator, then the value of each key.
 use Prim.Native.Nat.{ℕ, _+_, _*_}
 use mathlib.Core.List.{List, [], _∷_}
 use mathlib.Core.Bool.{not}

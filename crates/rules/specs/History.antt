@@ -1,4 +1,4 @@
--- S9, C9, C23, C29, C37, C39, C54, Q5.1 and Q5.2: the history of the 32 last installed parts, what is forgotten, the version that a
+-- S9, C9, C23, C29, C37, C39, C54, Q5.1, Q5.2 and Q12.4: the history of the 32 last installed parts, what is forgotten, the version that a
 -- snapshot sees, and the search for it.
 use Prim.Native.Nat.{ℕ, zero, suc, _+_, _-_, _*_, _%_, min}
 use mathlib.Core.List.{List}

@@ -52,7 +52,7 @@ sourceAt g i = getD (g .sources) i pastSource
 abbrev pub withSource : Merger → ℕ → Source → Merger
 withSource g i c = record { house = g .house; sources = set (g .sources) i c }
 
--- The queued parts: for each site 16 places of 41 words, the head first.
+-- The queued parts: for each site 16 places of 57 words, the head first.
 abbrev pub placeAt : ℕ → ℕ → ℕ
 placeAt i j = sizes.siteQueue * i + sizes.part * j
 

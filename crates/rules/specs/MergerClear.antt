@@ -133,7 +133,7 @@ pub record PartReady (queues m : List ℕ) : Type 0 where
   pub short : length m ≤ sizes.part
   pub state : StateReady m
 
--- the words of a part: at most 41
+-- the words of a part: at most 57
 pub part-short : (o : House) (m : List ℕ) → partOk o m ≡ true → length m ≤ sizes.part
 part-short o m e =
     let p = part-passed-good o m e in

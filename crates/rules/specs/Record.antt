@@ -1,4 +1,4 @@
--- R1 to R6: records. Part and state records are the sites' logs, merged ones the stream.
+-- R1 to R6, Q12.3 and Q12.6: records. Part and state records are the sites' logs, merged ones the stream.
 use Prim.Native.Nat.{ℕ, _+_, _-_, _*_}
 use mathlib.Core.Path.{_≡_}
 use mathlib.Core.List.{List, [], _∷_, _++_}

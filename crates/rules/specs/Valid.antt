@@ -1,6 +1,6 @@
--- S19 and Q10.6: a handed state whose counts, keys or masks are past these sizes gives 2, and so does one with a desk that is none, or with
--- more writes than the desk allows. A number that is no transaction of the house counts with them: it goes out in messages that every
--- receiver refuses 2.
+-- S19, Q10.6 and Q12.7: a handed state whose counts, keys or masks are past these sizes gives 2, and so does one with a desk that is none,
+-- with more writes than the desk allows, or with a written value that does not fit. A number that is no transaction of the house counts
+-- with them: it goes out in messages that every receiver refuses 2.
 use Prim.Native.Nat.{ℕ, _+_, _*_}
 use mathlib.Core.List.{List, [], _∷_}
 use mathlib.Core.Bool.{Bool, true, not}

@@ -1,4 +1,4 @@
--- S19 and Q10.6: what a state that is not refused 2 satisfies, by name.
+-- S19, Q10.6 and Q12.7: what a state that is not refused 2 satisfies, by name.
 use Prim.Native.Nat.{ℕ, zero, suc, _+_, _-_, _*_, _^_, _≤_, _<_}
 use mathlib.Core.Path.{_≡_}
 use mathlib.Core.List.{List, [], _∷_}
