@@ -90,14 +90,15 @@ searchOf s base p k =
     let found = searchIn (s .history) (s .counters .installs) base p k in
     pick (eqb code 0) (Searched (found .value) (found .looked)) (Refused code)
 
--- Write: kept privately; the key is held until install or abort. The last cause of any write is a value that does not fit,
+-- Write: kept privately; the key is held until install or abort. A value that does not fit is the last cause of any write, and the only
+-- one of a key that the part already wrote (N4).
 abbrev pub longCauses : Value → List Cause
 longCauses v = cause (not (fits v)) reason.tooLong ∷ []
 
 unfoldable pub longCode : Value → ℕ
 longCode v = codeOf (longCauses v)
 
--- and the only one of a key already written (N4). `most` is how many keys the part's desk lets it write.
+-- Another key has causes 8 to 11 before it. `most` is how many keys the part's desk lets it write.
 abbrev pub writeCauses : Bool → Bool → Bool → ℕ → ℕ → Value → List Cause
 writeCauses lost held newer most wrote v =
     cause lost reason.forgotten
