@@ -1,7 +1,9 @@
-// A probe's lines as calls of a site, the merger or a copy, and what each call leaves.
+// A probe's lines as calls of a site, the merger or a copy, or as conversions, and what each call leaves.
+mod bookmarks;
 mod sites;
 mod streams;
 
+pub use bookmarks::at_bookmarks;
 use kinds::Answer;
 use kinds::Key;
 use kinds::reason::MALFORMED;
@@ -87,6 +89,7 @@ fn may_write(v: u64) -> bool {
         verb::COMMIT => true,
         verb::ABANDON => true,
         verb::MESSAGE => true,
+        verb::RUN => true,
         _ => is_logged(v),
     }
 }

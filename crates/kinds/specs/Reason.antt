@@ -61,6 +61,10 @@ notWhole = 16
 abbrev pub nothing : ℕ
 nothing = 17
 
+-- no place in that order
+abbrev pub noPage : ℕ
+noPage = 28
+
 abbrev pub conflict : ℕ
 conflict = 18
 

@@ -144,6 +144,7 @@ pub struct Search {
 }
 
 // What a call answers. `Refused` has the cause's number and `Aborted` the reason's; a pair is a commit number and its coordinator.
+// `rest` is the bytes into a page.
 pub enum Answer {
     Refused(u64),
     Done,
@@ -183,6 +184,13 @@ pub enum Answer {
         value: Value,
         number: u64,
         coordinator: u64,
+    },
+    Paged {
+        page: u64,
+        rest: u64,
+    },
+    Offset {
+        offset: u64,
     },
 }
 

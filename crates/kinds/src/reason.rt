@@ -59,6 +59,9 @@ pub const NOT_WHOLE: u64 = 16;
 // There is nothing to install, merge, emit or replay.
 pub const NOTHING: u64 = 17;
 
+// The page length is 0. It has no place in that order: it stands behind 2 in a run, and before 2 on the way back (Q8.6).
+pub const NO_PAGE: u64 = 28;
+
 // Reason: a listed transaction is installed within the snapshot, and is marked or dependent (C37).
 pub const CONFLICT: u64 = 18;
 

@@ -1,10 +1,12 @@
-// The lines of a probe that no site obeys: those of the merger and the copies, of the words in hand and of the lengths lent.
+// The lines of a probe that no site obeys: those of the merger and the copies, the conversions, those of the words in hand and of the
+// lengths lent.
 use effects::COPIES;
 use effects::COPY_PLACE;
 use effects::Done;
 use effects::Lent;
 use effects::SiteDone;
 use effects::absent;
+use effects::at_bookmarks;
 use effects::at_copy;
 use effects::at_merger;
 use effects::first_keys;
@@ -30,6 +32,7 @@ use outcomes::lent_anew;
 use outcomes::lent_at_start;
 use outcomes::place_of;
 use outcomes::read_line;
+use outcomes::room_of;
 use outcomes::told_of;
 use pages::PAGE;
 use pieces::front;
@@ -124,6 +127,13 @@ fn to_copy(w: Work, hand: &[u64], copies: &mut [u64], page: &mut [u8; PAGE]) -> 
     told_of(w, page, d)
 }
 
+// A run is lent as many words as its line says, of those that the outgoing buffer has.
+fn to_bookmarks(w: Work, hand: &[u64], out: &mut [u64], page: &mut [u8; PAGE]) -> Work {
+    let l = w.line;
+    let d = at_bookmarks(l, front(hand, w.held), front_mut(out, room_of(l)));
+    told_of(w, page, d)
+}
+
 fn to_hand(w: Work, hand: &mut [u64], store: &[u64; STORE], page: &mut [u8; PAGE]) -> Work {
     let l = w.line;
     let h = shaped(l, hand, w.held, store, w.kept);
@@ -173,6 +183,10 @@ fn turn(
         ),
         verbs::COPY => Waiting {
             work: to_copy(w, hand, copies, page),
+            merger: g,
+        },
+        verbs::BOOKMARK => Waiting {
+            work: to_bookmarks(w, hand, out, page),
             merger: g,
         },
         verbs::HAND => Waiting {

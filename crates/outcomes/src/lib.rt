@@ -240,6 +240,14 @@ fn least(n: u64, most: usize) -> usize {
     most
 }
 
+// The words that a run is lent: as many as its line says, at most all of the outgoing buffer. Other conversions are lent none.
+pub fn room_of(l: Line) -> usize {
+    if l.verb == verb::RUN {
+        return least(l.b, ROOM);
+    }
+    0
+}
+
 // A length lent from now on, at most one more than it should be.
 fn lend(lent: Lent, verb: u64, n: u64) -> Lent {
     let mut t = lent;

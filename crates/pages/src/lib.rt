@@ -79,6 +79,8 @@ fn outcome(page: &mut [u8], used: usize, a: Answer) -> usize
             number,
             coordinator,
         ),
+        Answer::Paged { page: n, rest } => told_two(page, used, n, rest),
+        Answer::Offset { offset } => told(page, used, b" ok", offset),
     }
 }
 

@@ -19,6 +19,7 @@ use Rattle.rules.specs.Begin.{beginOf}
 use Rattle.rules.specs.Access.{readOf, writeOf, searchOf}
 use Rattle.rules.specs.Install.{freshSite, installOf, reportOf}
 use Rattle.rules.specs.Merger.{emitOf}
+use Rattle.rules.specs.Page.{pageOf, offsetOf, pagesOf}
 use Rattle.said.specs.Said.{Said, ok, abort, no, saidOf}
 use Rattle.points.specs.States.{evenHouse, value, queued, queueOf, queueing, wrote, read, versions, merging, headWords}
 
@@ -68,6 +69,14 @@ points =
     ∷ point (said (emitOf (merging 5) sizes.merged (headWords ++ replicate (sizes.queues - length headWords) 0) .answer))
     (0 ∷ 5 ∷ 1 ∷ 4294967297 ∷ [])
     ∷ point (yes (dependent (read 5) (read 5)) ++ yes (dependent (wrote 5 (value 1 0)) (read 5))) (0 ∷ 1 ∷ [])
+    ∷ point (said (pageOf 1800 5000)) (0 ∷ 2 ∷ 1400 ∷ [])
+    ∷ point (said (offsetOf 1800 2 1400)) (0 ∷ 5000 ∷ [])
+    ∷ point (said (offsetOf 4294967296 4294967295 4294967295)) (0 ∷ sizes.last ∷ [])
+    ∷ point (said (offsetOf 4294967296 4294967296 0)) (2 ∷ 2 ∷ [])
+    ∷ point (said (offsetOf 1800 2 1800)) (2 ∷ 2 ∷ [])
+    ∷ point (said (offsetOf 0 0 5)) (2 ∷ 28 ∷ [])
+    ∷ point (said (pagesOf 0 (5000 ∷ []) (7 ∷ []) .answer)) (2 ∷ 2 ∷ [])
+    ∷ point (pagesOf 1800 (5000 ∷ 1799 ∷ []) (7 ∷ 7 ∷ 7 ∷ 7 ∷ []) .out) (2 ∷ 1400 ∷ 0 ∷ 1799 ∷ [])
     ∷ []
 
 unfoldable pub PointsHold : Type 0

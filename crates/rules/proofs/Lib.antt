@@ -14,3 +14,4 @@ pub mod possible
 pub mod refusals
 pub mod houses
 pub mod lengths
+pub mod pages

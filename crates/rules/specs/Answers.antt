@@ -4,9 +4,9 @@ use mathlib.Core.Bool.{Bool, true, false}
 use Rattle.kinds.specs.declared.Value.{Value}
 use Rattle.kinds.specs.declared.Answer.{Answer}
 use Rattle.kinds.specs.declared.Answer.the-variants.{Refused, Done, Begun, Found, Searched, Committed, Aborted, Installed}
-use Rattle.kinds.specs.declared.Answer.the-variants.{Reported, Emitted, Replayed, Standing}
+use Rattle.kinds.specs.declared.Answer.the-variants.{Reported, Emitted, Replayed, Standing, Paged, Offset}
 
--- by cases; a refusal, an abort, and what search, report, emit and value answer are `other`
+-- by cases; a refusal, an abort, and what search, report, emit, value and the conversions answer are `other`
 abbrev pub onAnswer : {A : Type 0} → A → A → (ℕ → A) → (Value → A) → (ℕ → A) → (ℕ → ℕ → A) → (ℕ → ℕ → A) → Answer → A
 onAnswer other done begun found committed installed replayed (Refused n) = other
 onAnswer other done begun found committed installed replayed Done = done
@@ -20,6 +20,8 @@ onAnswer other done begun found committed installed replayed (Reported n) = othe
 onAnswer other done begun found committed installed replayed (Emitted n c tx) = other
 onAnswer other done begun found committed installed replayed (Replayed n c) = replayed n c
 onAnswer other done begun found committed installed replayed (Standing v n c) = other
+onAnswer other done begun found committed installed replayed (Paged p r) = other
+onAnswer other done begun found committed installed replayed (Offset o) = other
 
 abbrev pub onDone : {A : Type 0} → A → A → Answer → A
 onDone other f = onAnswer other f (λ tx. other) (λ v. other) (λ n. other) (λ n c. other) (λ n c. other)
@@ -52,3 +54,5 @@ isRefused (Reported n) = false
 isRefused (Emitted n c tx) = false
 isRefused (Replayed n c) = false
 isRefused (Standing v n c) = false
+isRefused (Paged p r) = false
+isRefused (Offset o) = false

@@ -25,6 +25,7 @@ pub mod Deliver
 pub mod Install
 pub mod Merger
 pub mod Copy
+pub mod Page
 -- The list of calls, the book, and what is claimed.
 pub mod Answers
 pub mod World
@@ -36,6 +37,7 @@ pub mod Searches
 pub mod Snapshots
 pub mod Desks
 pub mod Lengths
+pub mod Pages
 pub mod Progress
 pub mod Possible
 pub mod Refusals
@@ -68,4 +70,5 @@ pub mod MergerLaws
 pub mod MergerJoin
 pub mod MergerKept
 pub mod CopyLaws
+pub mod PageLaws
 pub mod Tables

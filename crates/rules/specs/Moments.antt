@@ -24,6 +24,7 @@ use Rattle.rules.specs.Enlist.{isMine}
 use Rattle.rules.specs.Install.{startOf}
 use Rattle.rules.specs.Merger.{mergerStartOf}
 use Rattle.rules.specs.Copy.{copyStartOf}
+use Rattle.rules.specs.Page.{pageOf, offsetOf, pagesOf}
 use Rattle.rules.specs.Refusals.{isInTurn}
 use Rattle.rules.specs.World as world
 use Rattle.rules.specs.World.{World, Call, step}
@@ -83,6 +84,9 @@ pub record Never (n : ℕ) : Type 0 where
   pub start : (sites : ℕ) (table : List ℕ) (own base lists : ℕ) → startOf sites table own base lists .answer ≡ Refused n → ⊥
   pub merger-start : (sites : ℕ) (table queues : List ℕ) → mergerStartOf sites table queues .answer ≡ Refused n → ⊥
   pub copy-start : (copy : List ℕ) → copyStartOf copy .answer ≡ Refused n → ⊥
+  pub page : (size offset : ℕ) → pageOf size offset ≡ Refused n → ⊥
+  pub offset : (size page rest : ℕ) → offsetOf size page rest ≡ Refused n → ⊥
+  pub pages : (size : ℕ) (offsets out : List ℕ) → pagesOf size offsets out .answer ≡ Refused n → ⊥
 
 -- the claim; a read, a write and a message belong to no coordinator, so they are never 26
 pub record WrongMoments : Type 0 where

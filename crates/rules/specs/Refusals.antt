@@ -40,6 +40,7 @@ use Rattle.rules.specs.Install.{installCauses, reportCauses, startCauses
 use Rattle.rules.specs.Merger.{sourceAt, headsOf, leastSite, mergerStartCauses, mergeCauses, mergePartCauses, mergeStateCauses}
 use Rattle.rules.specs.Merger.{emitCauses, dueCauses, mergerStartOf}
 use Rattle.rules.specs.Copy.{replayCauses, valueCauses, copyStartCauses, copyStartOf}
+use Rattle.rules.specs.Page.{pageCauses, pageOf, offsetCauses, offsetOf, pagesCauses, pagesOf}
 use Rattle.rules.specs.Answers.{isRefused}
 use Rattle.rules.specs.World as world
 use Rattle.rules.specs.World.{World, Call, step}
@@ -48,12 +49,12 @@ use Rattle.rules.specs.World.{World, Call, step}
 unfoldable pub RefusedLeaves : Type 0
 RefusedLeaves = (w : World) (c : Call) (n : ℕ) → step w c .answer ≡ Refused n → (step w c .words ≡ []) × (step w c .world ≡ w)
 
--- The order of the table's causes. It keeps places for 29, 21, 23 and 24, which no call is refused with (numbersOf).
+-- The order of the table's causes. It keeps places for 21, 23 and 24, which no call is refused with (numbersOf).
 unfoldable pub order : List ℕ
 order =
     reason.short
     ∷ reason.malformed
-    ∷ 22
+    ∷ reason.badTable
     ∷ reason.elsewhere
     ∷ reason.notNext
     ∷ reason.unknown
@@ -196,12 +197,27 @@ causesOf w (world.emit out) = emitHas (w .merger) (length out) (w .queues)
 causesOf w (world.replay c m) = replayCauses (w .copy c) m
 causesOf w (world.value c key) = valueCauses (w .copy c) key
 
--- The first cause that holds, in the order of the table, is the number returned; a call of which none holds is not refused.
-pub record ByFirst (a : Answer) (l : List Cause) : Type 0 where
-  pub refused : (firstIn order l ≡ 0 → ⊥) → a ≡ Refused (firstIn order l)
-  pub taken : firstIn order l ≡ 0 → isRefused a ≡ false
+-- The first cause that holds, in an order, is the number returned; a call of which none holds is not refused.
+pub record ByFirstIn (own : List ℕ) (a : Answer) (l : List Cause) : Type 0 where
+  pub refused : (firstIn own l ≡ 0 → ⊥) → a ≡ Refused (firstIn own l)
+  pub taken : firstIn own l ≡ 0 → isRefused a ≡ false
 
--- the claim: in any state, of the fourteen calls and the three starts
+-- the order of the table
+abbrev pub ByFirst : Answer → List Cause → Type 0
+ByFirst = ByFirstIn order
+
+-- The conversions have orders of their own (Q8.6): 2 stands before 28 in a run and behind it on the way back. They are refused with these
+-- numbers only.
+abbrev pub pageNumbers : List ℕ
+pageNumbers = reason.noPage ∷ []
+
+abbrev pub offsetNumbers : List ℕ
+offsetNumbers = reason.noPage ∷ reason.malformed ∷ []
+
+abbrev pub pagesNumbers : List ℕ
+pagesNumbers = reason.malformed ∷ reason.noPage ∷ []
+
+-- the claim: in any state, of the fourteen calls, the three starts and the three conversions
 pub record FirstCause : Type 0 where
   pub call : (w : World) (c : Call) → ByFirst (step w c .answer) (causesOf w c)
   pub start : (sites : ℕ) (table : List ℕ) (own base lists : ℕ)
@@ -209,6 +225,10 @@ pub record FirstCause : Type 0 where
   pub merger-start : (sites : ℕ) (table queues : List ℕ)
       → ByFirst (mergerStartOf sites table queues .answer) (mergerStartCauses sites table (length queues))
   pub copy-start : (copy : List ℕ) → ByFirst (copyStartOf copy .answer) (copyStartCauses copy)
+  pub page : (size offset : ℕ) → ByFirstIn pageNumbers (pageOf size offset) (pageCauses size)
+  pub offset : (size page rest : ℕ) → ByFirstIn offsetNumbers (offsetOf size page rest) (offsetCauses size page rest)
+  pub pages : (size : ℕ) (offsets out : List ℕ)
+      → ByFirstIn pagesNumbers (pagesOf size offsets out .answer) (pagesCauses size (length offsets) (length out))
 
 -- The numbers that each call is ever refused with; a start of a site or of the merger is refused 2 or 22, one of a copy 2 only.
 abbrev pub numbersOf : Call → List ℕ
@@ -227,7 +247,7 @@ numbersOf (world.emit out) = 1 ∷ 2 ∷ 16 ∷ 17 ∷ []
 numbersOf (world.replay c m) = 2 ∷ 14 ∷ []
 numbersOf (world.value c key) = 2 ∷ []
 
--- the claim, of the fourteen calls and the three starts: a number that the list lacks is never answered
+-- the claim, of the fourteen calls, the three starts and the three conversions: a number that the list lacks is never answered
 pub record OwnNumbers : Type 0 where
   pub call : (w : World) (c : Call) (n : ℕ) → lacks n (numbersOf c) ≡ true → step w c .answer ≡ Refused n → ⊥
   pub start : (sites : ℕ) (table : List ℕ) (own base lists n : ℕ) → startOf sites table own base lists .answer ≡ Refused n
@@ -235,3 +255,7 @@ pub record OwnNumbers : Type 0 where
   pub merger-start : (sites : ℕ) (table queues : List ℕ) (n : ℕ) → mergerStartOf sites table queues .answer ≡ Refused n
       → (n ≡ 2) ⊎ (n ≡ 22)
   pub copy-start : (copy : List ℕ) (n : ℕ) → copyStartOf copy .answer ≡ Refused n → n ≡ 2
+  pub page : (size offset n : ℕ) → lacks n pageNumbers ≡ true → pageOf size offset ≡ Refused n → ⊥
+  pub offset : (size page rest n : ℕ) → lacks n offsetNumbers ≡ true → offsetOf size page rest ≡ Refused n → ⊥
+  pub pages : (size : ℕ) (offsets out : List ℕ) (n : ℕ) → lacks n pagesNumbers ≡ true
+      → pagesOf size offsets out .answer ≡ Refused n → ⊥

@@ -10,6 +10,7 @@ ghost use Rattle.rules.specs.Lengths.{WritesMeasured, AnswersFit};
 ghost use Rattle.rules.specs.Tables.{KeysPlaced, TablesRefused, HousesStay};
 ghost use Rattle.rules.specs.Refusals.{RefusedLeaves, FirstCause, OwnNumbers};
 ghost use Rattle.rules.specs.Moments.{WrongMoments};
+ghost use Rattle.rules.specs.Pages.{PagesRight};
 
 // Demand 3: any list of the fourteen calls, from a fresh house.
 pub fn demand3_holds()
@@ -100,4 +101,9 @@ pub fn answers_fit()
 // In any state no call changes a house.
 pub fn houses_stay()
     ensures { λ _. ⌜ HousesStay ⌝ }
+{}
+
+// For every page length above 0 page and offset undo one another, each place has one offset, and a run converts each of its offsets.
+pub fn pages_right()
+    ensures { λ _. ⌜ PagesRight ⌝ }
 {}

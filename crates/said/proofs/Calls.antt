@@ -32,12 +32,15 @@ use Rattle.rules.specs.Install.{installCode, reportCode, installedAt, installOf
 use Rattle.rules.specs.Merger.{sourceAt, headsOf, leastSite, mergeCode, mergePartCode, mergeStateCode, emitCode, dueCode, mergerStartCode}
 use Rattle.rules.specs.Merger.{mergerStartOf, mergePart, mergeState, mergeOf, emitDue, emitOf}
 use Rattle.rules.specs.Copy.{copyStartOf, replayCode, replayOf, valueCode, valueOf}
+use Rattle.rules.specs.Page.{pageCode, pageOf, offsetCode, offsetOf, pagesCode, pagesOf}
 use Rattle.rules.proofs.refusals.FirstCause.{begin-by, read-by, write-by, enlist-by, commit-by, abandon-by, install-by, report-by}
 use Rattle.rules.proofs.refusals.FirstCause.{message-by, search-by}
 use Rattle.rules.proofs.refusals.FirstCause.{merge-by, emit-by, replay-by, value-by, start-by, merger-start-by, copy-start-by}
+use Rattle.rules.proofs.refusals.FirstCause.{page-by, offset-by, pages-by}
 use Rattle.said.specs.Said.{ok, abort, saidOf}
-use Rattle.said.specs.Outcomes.{readSaid, searchSaid, installSaid, reportSaid, emitSaid, replaySaid, valueSaid, Says}
-use Rattle.said.proofs.Taken.{Taken, says, Takes, past, MergerTakes, past-merger}
+use Rattle.said.specs.Outcomes.{readSaid, searchSaid, installSaid, reportSaid, emitSaid, replaySaid, valueSaid, pageSaid, offsetSaid}
+use Rattle.said.specs.Outcomes.{Says}
+use Rattle.said.proofs.Taken.{Taken, says, says-in, Takes, past, MergerTakes, past-merger}
 use Rattle.said.proofs.Decisions.{commit-taken, message-taken}
 
 -- A site.
@@ -142,6 +145,21 @@ value-taken : (copy : List ℕ) (k : ℕ) → Taken (valueOf copy k) (valueSaid 
 unfolding saidOf valueOf valueSaid
 value-taken copy k = by-test (eqb (valueCode copy k) 0) (λ e. rw e (λ f. refl)) (λ e. rw e (λ f. absurd (set-not _ refl f)))
 
+-- The conversions.
+page-taken : (l offset : ℕ) → Taken (pageOf l offset) (pageSaid l offset)
+unfolding saidOf pageOf pageSaid
+page-taken l offset = by-test (eqb (pageCode l) 0) (λ e. rw e (λ f. refl)) (λ e. rw e (λ f. absurd (set-not _ refl f)))
+
+offset-taken : (l page rest : ℕ) → Taken (offsetOf l page rest) (offsetSaid l page rest)
+unfolding saidOf offsetOf offsetSaid
+offset-taken l page rest =
+    by-test (eqb (offsetCode l page rest) 0) (λ e. rw e (λ f. refl)) (λ e. rw e (λ f. absurd (set-not _ refl f)))
+
+pages-taken : (l : ℕ) (offsets out : List ℕ) → Taken (pagesOf l offsets out .answer) (ok [])
+unfolding saidOf pagesOf
+pages-taken l offsets out =
+    by-test (eqb (pagesCode l (length offsets) (length out)) 0) (λ e. rw e (λ f. refl)) (λ e. rw e (λ f. absurd (set-not _ refl f)))
+
 pub calls-say : Says
 calls-say =
     record {
@@ -162,4 +180,7 @@ calls-say =
       copy-starts = λ c. says _ _ _ (copy-start-by c) (copy-start-taken c);
       replays = λ c m. says _ _ _ (replay-by c m) (replay-taken c m);
       values = λ c k. says _ _ _ (value-by c k) (value-taken c k);
+      paged = λ l o. says-in _ _ _ _ (page-by l o) (page-taken l o);
+      offsets = λ l p r. says-in _ _ _ _ (offset-by l p r) (offset-taken l p r);
+      runs = λ l os out. says-in _ _ _ _ (pages-by l os out) (pages-taken l os out);
     }

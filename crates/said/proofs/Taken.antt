@@ -14,19 +14,22 @@ use Rattle.rules.specs.Answers.{isRefused}
 use Rattle.rules.specs.Effect.{Effect, Change, changed, unless}
 use Rattle.rules.specs.Deliver.{replyCode, stepUnless, keeping}
 use Rattle.rules.specs.Merger.{Merging, unlessMerger}
-use Rattle.rules.specs.Refusals.{order, ByFirst}
-use Rattle.said.specs.Said.{Said, saidOf, unlessFirst}
+use Rattle.rules.specs.Refusals.{order, ByFirstIn, ByFirst}
+use Rattle.said.specs.Said.{Said, saidOf, unlessFirst, unlessFirstIn}
 
 -- an answer that is no refusal says o
 abbrev pub Taken : Answer → Said → Type 0
 Taken a o = isRefused a ≡ false → saidOf a ≡ o
 
+pub says-in : (own : List ℕ) (a : Answer) (l : List Cause) (o : Said) → ByFirstIn own a l → Taken a o → saidOf a ≡ unlessFirstIn own l o
+unfolding saidOf unlessFirstIn
+says-in own a l o x f =
+    by-test (eqb (firstIn own l) 0)
+    (λ t. rw t (f (x .taken (eqb-true (firstIn own l) 0 t))))
+    (λ t. rw (t, x .refused (eqb-false (firstIn own l) 0 t)))
+
 pub says : (a : Answer) (l : List Cause) (o : Said) → ByFirst a l → Taken a o → saidOf a ≡ unlessFirst l o
-unfolding saidOf unlessFirst
-says a l o x f =
-    by-test (eqb (firstIn order l) 0)
-    (λ t. rw t (f (x .taken (eqb-true (firstIn order l) 0 t))))
-    (λ t. rw (t, x .refused (eqb-false (firstIn order l) 0 t)))
+says = says-in order
 
 -- the same of a whole call, and past a list of causes
 pub record Takes (e : Effect) (o : Said) : Type 0 where

@@ -1,7 +1,7 @@
--- A5, F20, H5 to H20 and Q5.4: what each of the seventeen calls says, in any state and for any arguments. After `ok`: begin, transaction;
--- commit, number; install and replay, number and coordinator; emit also transaction; value, start, length and pair; read, start and
--- length; search, start, length and how many entries it looked at; report, state.
-use Prim.Native.Nat.{ℕ}
+-- A5, F20, H5 to H20, Q5.4 and Q8.1 to Q8.6: what each of the twenty calls says, in any state and for any arguments. After `ok`: begin,
+-- transaction; commit, number; install and replay, number and coordinator; emit also transaction; value, start, length and pair; read,
+-- start and length; search, start, length and how many entries it looked at; report, state; page, page and rest; offset, the offset.
+use Prim.Native.Nat.{ℕ, _+_, _*_, _/_, _%_}
 use mathlib.Core.Path.{_≡_}
 use mathlib.Core.List.{List, [], _∷_}
 use lib.ListN.{length}
@@ -30,8 +30,9 @@ use Rattle.rules.specs.Merger.{mergerStartCauses, mergerStartOf, mergeOf, dueHe
 use Rattle.rules.specs.Copy.{copyNumber, copyCoordinator, copyValue, copyStartCauses, copyStartOf, replayCauses, replayOf, valueCauses}
 use Rattle.rules.specs.Copy.{valueOf}
 use Rattle.rules.specs.Refusals.{beginHas, readHas, writeHas, searchHas, enlistHas, commitHas, abandonHas, messageHas, installHas}
-use Rattle.rules.specs.Refusals.{mergeHas, emitHas}
-use Rattle.said.specs.Said.{Said, ok, abort, saidOf, unlessFirst}
+use Rattle.rules.specs.Refusals.{mergeHas, emitHas, pageNumbers, offsetNumbers, pagesNumbers}
+use Rattle.rules.specs.Page.{pageCauses, pageOf, offsetCauses, offsetOf, pagesCauses, pagesOf}
+use Rattle.said.specs.Said.{Said, ok, abort, saidOf, unlessFirst, unlessFirstIn}
 use Rattle.said.specs.Decided.{commitSaid, messageSaid}
 
 -- read: the own write, else the newest version within the snapshot
@@ -62,6 +63,13 @@ replaySaid m = let r = recordHead m in ok (r .number ∷ r .coordinator ∷ [])
 unfoldable pub valueSaid : List ℕ → ℕ → Said
 valueSaid copy k = let v = copyValue copy k in ok (v .start ∷ v .length ∷ copyNumber copy ∷ copyCoordinator copy ∷ [])
 
+-- the conversions: quotient and remainder; page times page length, and the rest
+unfoldable pub pageSaid : ℕ → ℕ → Said
+pageSaid size offset = ok (offset / size ∷ offset % size ∷ [])
+
+unfoldable pub offsetSaid : ℕ → ℕ → ℕ → Said
+offsetSaid size page rest = ok ((page * size + rest) ∷ [])
+
 -- Each call's answer, which its contract gives by the rule cited here, says its first cause of refusal, else just that.
 pub record Says : Type 0 where
   pub site-starts : (sites : ℕ) (table : List ℕ) (own base lists : ℕ)
@@ -90,3 +98,8 @@ pub record Says : Type 0 where
   pub copy-starts : (copy : List ℕ) → saidOf (copyStartOf copy .answer) ≡ unlessFirst (copyStartCauses copy) (ok [])
   pub replays : (copy m : List ℕ) → saidOf (replayOf copy m .answer) ≡ unlessFirst (replayCauses copy m) (replaySaid m)
   pub values : (copy : List ℕ) (k : ℕ) → saidOf (valueOf copy k) ≡ unlessFirst (valueCauses copy k) (valueSaid copy k)
+  pub paged : (size offset : ℕ) → saidOf (pageOf size offset) ≡ unlessFirstIn pageNumbers (pageCauses size) (pageSaid size offset)
+  pub offsets : (size page rest : ℕ)
+      → saidOf (offsetOf size page rest) ≡ unlessFirstIn offsetNumbers (offsetCauses size page rest) (offsetSaid size page rest)
+  pub runs : (size : ℕ) (offsets out : List ℕ)
+      → saidOf (pagesOf size offsets out .answer) ≡ unlessFirstIn pagesNumbers (pagesCauses size (length offsets) (length out)) (ok [])

@@ -1,4 +1,7 @@
-// The seventeen calls of the store. A caller uses this crate, and `kinds` for the types and sizes.
+// The twenty calls of the store. A caller uses this crate, and `kinds` for the types and sizes.
+pub use bookmarks::offset;
+pub use bookmarks::page;
+pub use bookmarks::pages;
 pub use copy::replay;
 pub use copy::start as start_copy;
 pub use copy::value;

@@ -19,6 +19,8 @@ pub const LENT: u64 = 5;
 
 pub const HOUSE: u64 = 6;
 
+pub const BOOKMARK: u64 = 7;
+
 pub struct Line {
     pub group: u64,
     pub verb: u64,
@@ -85,6 +87,8 @@ fn two(v: u64) -> u64 {
         verb::VALUE => COPY,
         verb::RECORD => HAND,
         verb::WORD => HAND,
+        verb::PAGE => BOOKMARK,
+        verb::RUN => BOOKMARK,
         _ => NOBODY,
     }
 }
@@ -101,6 +105,7 @@ fn three(v: u64) -> u64 {
         verb::QUEUED => MERGER,
         verb::COPIED => COPY,
         verb::LETTER => HAND,
+        verb::OFFSET => BOOKMARK,
         _ => NOBODY,
     }
 }

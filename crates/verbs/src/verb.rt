@@ -85,3 +85,9 @@ pub const ENTRIES: u64 = 28550419062547827;
 pub const FORM: u64 = 1718579821;
 
 pub const WRITES: u64 = 131333279212915;
+
+pub const PAGE: u64 = 1885431653;
+
+pub const OFFSET: u64 = 122485596185972;
+
+pub const RUN: u64 = 7501166;

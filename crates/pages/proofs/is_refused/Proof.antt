@@ -9,13 +9,13 @@ use types.Run.{OneOf, miss}
 use Rattle.kinds.proofs.Answer.{the-type}
 use Rattle.kinds.specs.declared.Answer.{Answer}
 use Rattle.kinds.specs.declared.Answer.the-variants.{Refused, Done, Begun, Found, Searched, Committed, Aborted, Installed}
-use Rattle.kinds.specs.declared.Answer.the-variants.{Reported, Emitted, Replayed, Standing}
+use Rattle.kinds.specs.declared.Answer.the-variants.{Reported, Emitted, Replayed, Standing, Paged, Offset}
 use Rattle.rules.specs.Answers.{isRefused}
 use Rattle.pages.proofs.is_refused.Statement.{statement}
 use Rattle.pages.proofs.is_refused.Tie as tie
 
 abbrev others : List ℕ
-others = 1 ∷ 2 ∷ 3 ∷ 4 ∷ 5 ∷ 6 ∷ 7 ∷ 8 ∷ 9 ∷ 10 ∷ 11 ∷ []
+others = 1 ∷ 2 ∷ 3 ∷ 4 ∷ 5 ∷ 6 ∷ 7 ∷ 8 ∷ 9 ∷ 10 ∷ 11 ∷ 12 ∷ 13 ∷ []
 
 accepted : (a : Answer) → OneOf others (tagOf the-type a) → false ≡ isRefused a
 accepted (Refused n) h = absurd (miss others 0 tt h)
@@ -30,6 +30,8 @@ accepted (Reported n) h = refl
 accepted (Emitted n c tx) h = refl
 accepted (Replayed n c) h = refl
 accepted (Standing v n c) h = refl
+accepted (Paged p r) h = refl
+accepted (Offset o) h = refl
 
 enum-told : tie.Need-enum-told
 enum-told c = search needs

@@ -98,6 +98,21 @@ slice-aggregate-told-four c = search needs
 told-four-requires : tie.Need-told-four-requires
 told-four-requires c κs = search needs
 
+enum-known-a-12 : tie.Need-enum-known-a-12
+enum-known-a-12 c = search needs
+
+told-two-requires-4 : tie.Need-told-two-requires-4
+told-two-requires-4 c κs = search needs
+
+enum-known-a-13 : tie.Need-enum-known-a-13
+enum-known-a-13 c = search needs
+
+slice-aggregate-told-6 : tie.Need-slice-aggregate-told-6
+slice-aggregate-told-6 c = search needs
+
+told-requires-6 : tie.Need-told-requires-6
+told-requires-6 c κs = search needs
+
 same-length : tie.Need-same-length
 same-length c = search needs
 
@@ -182,6 +197,20 @@ returns-12 : tie.Need-returns-12
 unfolding saidOf outcomeOf
 returns-12 c = let arm = c .before .before .before in rw (arm .before .before .before .a11 .given .1) (search needs)
 
+same-length-13 : tie.Need-same-length-13
+same-length-13 c = search needs
+
+returns-13 : tie.Need-returns-13
+unfolding saidOf outcomeOf
+returns-13 c = let arm = c .before .before .before in rw (arm .before .before .a12 .given .1) (search needs)
+
+same-length-14 : tie.Need-same-length-14
+same-length-14 c = search needs
+
+returns-14 : tie.Need-returns-14
+unfolding saidOf outcomeOf
+returns-14 c = let arm = c .before .before .before in rw (arm .before .before .before .a13 .given .1) (search needs)
+
 pub outcome-spec : {M : Type 1} → statement M
 outcome-spec =
     tie.close
@@ -217,6 +246,11 @@ outcome-spec =
     enum-known-a-11
     slice-aggregate-told-four
     told-four-requires
+    enum-known-a-12
+    told-two-requires-4
+    enum-known-a-13
+    slice-aggregate-told-6
+    told-requires-6
     same-length
     returns
     same-length-2
@@ -240,4 +274,8 @@ outcome-spec =
     same-length-11
     returns-11
     same-length-12
-    returns-12)
+    returns-12
+    same-length-13
+    returns-13
+    same-length-14
+    returns-14)

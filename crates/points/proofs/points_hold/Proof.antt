@@ -36,6 +36,7 @@ use Rattle.rules.specs.Merger.{isWhole, dueCode, partWrites, joinedWrites, merg
 use Rattle.rules.specs.Merger.{popMergerAt, popMerger, emitDue, emitCode, emitOf, freshMerger, mergerStartCode, mergerStartOf}
 use Rattle.rules.specs.Merger as mergers
 use Rattle.rules.specs.MergerWords.{HeadFits, HeadsFit}
+use Rattle.rules.specs.Page.{pageCode, pageOf, offsetCode, offsetOf, pagesCode, placesOf, pagesOf}
 use Rattle.rules.specs.Send.{isRecipient, headTo, wordsTo, messagesTo, stepRecipients, countsLow}
 use Rattle.said.specs.Said.{saidOf}
 use Rattle.points.specs.States.{queued, queueOf, queueing, wrote, read, installed, versions, merging, headWords}
@@ -64,7 +65,7 @@ unfolding firstBelow allBelow anyBelow foldBelow precedes onesBelow overlay putA
     isWholeAt isWhole dueCode partWrites joinedWrites mergedWords siteWords popQueue popQueueAt popQueues popMergerAt popMerger emitDue
     emitCode emitOf freshMerger mergerStartCode mergerStartOf mergers.isDue HeadFits HeadsFit isRecipient headTo wordsTo messagesTo
     stepRecipients countsLow queued queueOf queueing wrote read installed versions merging headWords numbersOf points PointsHold ones
-    onesIn
+    onesIn pageCode pageOf offsetCode offsetOf pagesCode placesOf pagesOf
 returns c = refl
 
 pub points-hold-spec : {M : Type 1} → statement M

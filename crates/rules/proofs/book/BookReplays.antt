@@ -17,7 +17,7 @@ use Rattle.kinds.specs.Reason as reason
 use Rattle.kinds.specs.declared.Value.{Value}
 use Rattle.kinds.specs.declared.Answer.{Answer}
 use Rattle.kinds.specs.declared.Answer.the-variants.{Refused, Done, Begun, Found, Searched, Committed, Aborted, Installed}
-use Rattle.kinds.specs.declared.Answer.the-variants.{Reported, Emitted, Replayed, Standing}
+use Rattle.kinds.specs.declared.Answer.the-variants.{Reported, Emitted, Replayed, Standing, Paged, Offset}
 use Rattle.rules.specs.Answers.{onBegun, onFound, onDone, onCommitted, onInstalled, onReplayed, onAnswer}
 use Rattle.rules.specs.Record.{recordHead, recordWrites}
 use Rattle.rules.specs.Message.{messageHead}
@@ -51,6 +51,8 @@ module _ {A : Type 0} (P : A → Type 0) {other : A} (o : P other) where
   on-answer d b f c i r (Emitted n m t) = o
   on-answer d b f c i r (Replayed n m) = r n m
   on-answer d b f c i r (Standing n m t) = o
+  on-answer d b f c i r (Paged n m) = o
+  on-answer d b f c i r (Offset n) = o
 
   pub on-done : {f : A} → P f → (a : Answer) → P (onDone other f a)
   on-done g = on-answer g (λ n. o) (λ n. o) (λ n. o) (λ n c. o) (λ n c. o)

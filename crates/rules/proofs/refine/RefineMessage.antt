@@ -21,7 +21,7 @@ use Rattle.kinds.specs.declared.Site.{Site}
 use Rattle.kinds.specs.declared.MessageHead.{MessageHead}
 use Rattle.kinds.specs.declared.Answer.{Answer}
 use Rattle.kinds.specs.declared.Answer.the-variants.{Refused, Done, Begun, Found, Searched, Committed, Aborted, Installed}
-use Rattle.kinds.specs.declared.Answer.the-variants.{Reported, Emitted, Replayed, Standing}
+use Rattle.kinds.specs.declared.Answer.the-variants.{Reported, Emitted, Replayed, Standing, Paged, Offset}
 use Rattle.kinds.specs.State.{noSub, subAt}
 use Rattle.rules.specs.House.{isTx, isMask}
 use Rattle.rules.specs.Message.{messageWords, entryTx, entryMask, entryMark, entryBefore, entryCount, entryOk, entryPossible}
@@ -85,6 +85,8 @@ no-join s k t words (Reported n) e = refl
 no-join s k t words (Emitted n c u) e = refl
 no-join s k t words (Replayed n c) e = refl
 no-join s k t words (Standing v n c) e = refl
+no-join s k t words (Paged p r) e = refl
+no-join s k t words (Offset o) e = refl
 
 -- marks of good entries
 good-marks : (o : House) (h : MessageHead) (es : List ℕ) → GoodMessage o h es → Marks es

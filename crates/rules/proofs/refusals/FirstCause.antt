@@ -1,5 +1,6 @@
--- Why the first cause is returned: each call looks at its causes list by list, and one behind the other they stand in the table's order.
-use Prim.Native.Nat.{ℕ, _-_}
+-- Why the first cause is returned: each call looks at its causes list by list, and one behind the other they stand in the table's order,
+-- those of a conversion in its own.
+use Prim.Native.Nat.{ℕ, _+_, _-_, _*_, _/_, _%_}
 use mathlib.Core.Path.{_≡_, refl, sym, ap, _∙_}
 use mathlib.Core.Bool.{Bool, true, false}
 use mathlib.Core.List.{List, [], _∷_, _++_}
@@ -8,12 +9,12 @@ use borrow.Author.Tests.{eqb-true, eqb-false, ne-eqb}
 use lib.Dec.{eqb, ltb, leb}
 use lib.ListN.{length, getD}
 use Rattle.laws.specs.Choice.{pick-self, every, by-test}
-use Rattle.laws.specs.Cause.{Cause, cause, codeOf, numbered, code-append, inOrder, first-in}
+use Rattle.laws.specs.Cause.{Cause, cause, codeOf, numbered, code-append, distinct, inOrder, first-in}
 use Rattle.kinds.specs.Sizes as sizes
 use Rattle.kinds.specs.Reason as reason
 use Rattle.kinds.specs.Kind as kind
 use Rattle.kinds.specs.declared.Answer.{Answer}
-use Rattle.kinds.specs.declared.Answer.the-variants.{Refused, Done, Searched, Emitted, Replayed, Standing}
+use Rattle.kinds.specs.declared.Answer.the-variants.{Refused, Done, Searched, Emitted, Replayed, Standing, Paged, Offset}
 use Rattle.kinds.specs.declared.MessageHead.{MessageHead}
 use Rattle.kinds.specs.declared.Merger.{Merger}
 use Rattle.kinds.specs.declared.Site.{Site}
@@ -50,12 +51,13 @@ use Rattle.rules.specs.Merger.{dueCauses, Merging, unlessMerger, mergePa
 use Rattle.rules.specs.Merger.{mergeOf, dueCode, emitDue, emitCode, emitOf, mergerStartCode, mergerStartCauses, mergerStartOf}
 use Rattle.rules.specs.Copy.{copyValue, copyNumber, copyCoordinator, replayCode, replayCauses, replayOf, valueCode, valueCauses}
 use Rattle.rules.specs.Copy.{valueOf, copyStartCauses, copyStartOf}
+use Rattle.rules.specs.Page.{pageCauses, pageCode, pageOf, offsetCauses, offsetCode, offsetOf, pagesCauses, pagesCode, pagesOf}
 use Rattle.rules.specs.Answers.{isRefused}
 use Rattle.rules.specs.World as world
 use Rattle.rules.specs.World.{World, Call, step, siteStep, logStep, mergerStep, mergeStep, copyStep, replayStep}
 use Rattle.rules.specs.Refusals.{order, beginHas, accessHas, readHas, writeHas, searchHas, enlistHas, commitHas, abandonHas}
 use Rattle.rules.specs.Refusals.{heldInTurn, isInTurn, heldSpent, isSpent, messageHas, installHas, mergeHas, emitHas, causesOf}
-use Rattle.rules.specs.Refusals.{ByFirst, FirstCause}
+use Rattle.rules.specs.Refusals.{ByFirstIn, ByFirst, pageNumbers, offsetNumbers, pagesNumbers, FirstCause}
 use Rattle.rules.proofs.messages.Spoken.{Speaks, enlist-speaks, abort-speaks, quietly-speaks, prepared-speaks, certified-speaks}
 use Rattle.rules.proofs.messages.Spoken.{vote-speaks}
 use Rattle.rules.proofs.messages.Spoken.{vote-known}
@@ -67,12 +69,16 @@ record By (a : Answer) (l : List Cause) : Type 0 where
   refused : (codeOf l ≡ 0 → ⊥) → a ≡ Refused (codeOf l)
   taken : codeOf l ≡ 0 → isRefused a ≡ false
 
--- in the table's order it is the first
+-- where the causes stand in an order it is the first of it
+by-first-in : (own : List ℕ) (a : Answer) (l : List Cause) → distinct own ≡ true → inOrder own l ≡ true → By a l → ByFirstIn own a l
+by-first-in own a l d t x =
+    let e = first-in own l d t in
+    record { refused = λ n. x .refused (λ z. n (sym e ∙ z)) ∙ ap Refused e; taken = λ z. x .taken (e ∙ z) }
+
+-- the table's order
 by-first : (a : Answer) (l : List Cause) → inOrder order l ≡ true → By a l → ByFirst a l
 unfolding order
-by-first a l t x =
-    let e = first-in order l refl t in
-    record { refused = λ n. x .refused (λ z. n (sym e ∙ z)) ∙ ap Refused e; taken = λ z. x .taken (e ∙ z) }
+by-first a l t x = by-first-in order a l refl t x
 
 -- no cause holds
 accepted : (a : Answer) (l : List Cause) → codeOf l ≡ 0 → isRefused a ≡ false → By a l
@@ -340,5 +346,35 @@ copy-start-by copy =
     (alone-by (cause false reason.malformed ∷ []) Done _ refl (λ z. refl) (λ n. absurd (n refl)))))
     (λ t. rw t (by-first _ (cause true reason.malformed ∷ []) refl (record { refused = λ n. refl; taken = λ z. absurd (omega arith) })))
 
+-- The conversions, in their own orders.
+pub page-by : (l offset : ℕ) → ByFirstIn pageNumbers (pageOf l offset) (pageCauses l)
+unfolding pageOf pageCode
+page-by l offset =
+    by-first-in pageNumbers _ (pageCauses l) refl refl
+    (alone-by (pageCauses l) (Paged (offset / l) (offset % l)) _ refl (λ z. rw z) (λ n. rw (ne-eqb _ 0 n)))
+
+pub offset-by : (l page rest : ℕ) → ByFirstIn offsetNumbers (offsetOf l page rest) (offsetCauses l page rest)
+unfolding offsetOf offsetCode
+offset-by l page rest =
+    let causes = offsetCauses l page rest in
+    by-first-in offsetNumbers _ causes refl refl
+    (alone-by causes (Offset (page * l + rest)) _ refl (λ z. rw z) (λ n. rw (ne-eqb _ 0 n)))
+
+pub pages-by : (l : ℕ) (offsets out : List ℕ)
+    → ByFirstIn pagesNumbers (pagesOf l offsets out .answer) (pagesCauses l (length offsets) (length out))
+unfolding pagesOf pagesCode
+pages-by l offsets out =
+    let causes = pagesCauses l (length offsets) (length out) in
+    by-first-in pagesNumbers _ causes refl refl (alone-by causes Done _ refl (λ z. rw z) (λ n. rw (ne-eqb _ 0 n)))
+
 pub first-cause : FirstCause
-first-cause = record { call = call-by; start = start-by; merger-start = merger-start-by; copy-start = copy-start-by }
+first-cause =
+    record {
+      call = call-by;
+      start = start-by;
+      merger-start = merger-start-by;
+      copy-start = copy-start-by;
+      page = page-by;
+      offset = offset-by;
+      pages = pages-by;
+    }

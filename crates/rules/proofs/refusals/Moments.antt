@@ -43,14 +43,14 @@ by-moment a l mine forbidden x e h k = record { elsewhere = f; only-elsewhere = 
     f m = let q : firstIn order l ≡ 26 = e ∙ rw (h, m) in rw q at (x .refused (λ z. omega (arith, q, z)))
 
     g : a ≡ Refused 26 → mine ≡ false
-    g q = not-true mine (sym h ∙ by-cause a l 26 x q)
+    g q = not-true mine (sym h ∙ by-cause order a l 26 x q)
 
     late : mine ≡ true → forbidden ≡ true → a ≡ Refused 27
     late m b = let q : firstIn order l ≡ 27 = e ∙ rw (h, k, m, b) in rw q at (x .refused (λ z. omega (arith, q, z)))
 
     only-late : a ≡ Refused 27 → (mine ≡ true) × (forbidden ≡ true)
     only-late q =
-        (by-test mine (λ m. m) (λ m. absurd (let z = refused-number 27 26 (sym q ∙ f m) in omega arith)), sym k ∙ by-cause a l 27 x q)
+        (by-test mine (λ m. m) (λ m. absurd (let z = refused-number 27 26 (sym q ∙ f m) in omega arith)), sym k ∙ by-cause order a l 27 x q)
 
 module _ (w : World) (s : ℕ) (out : List ℕ) (tx : ℕ) where
   abbrev site : Site
@@ -160,5 +160,8 @@ wrong-moments =
         start = λ sites table own base lists q. not-either (own-numbers .start sites table own base lists 6 q);
         merger-start = λ sites table queues q. not-either (own-numbers .merger-start sites table queues 6 q);
         copy-start = λ copy q. not-two (own-numbers .copy-start copy 6 q);
+        page = λ l o. own-numbers .page l o 6 refl;
+        offset = λ l p r. own-numbers .offset l p r 6 refl;
+        pages = λ l os out. own-numbers .pages l os out 6 refl;
       };
     }

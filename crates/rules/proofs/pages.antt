@@ -1,0 +1,2 @@
+-- Beyond demand 3: what the conversions answer.
+pub mod PagesRight
