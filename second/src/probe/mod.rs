@@ -14,6 +14,7 @@ pub mod random;
 pub mod sums;
 mod tabled;
 mod told;
+pub mod triples;
 mod valued;
 
 use std::fmt::Write;
