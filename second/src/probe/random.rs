@@ -20,9 +20,9 @@ use crate::sizes::*;
 use crate::table::{even, Table};
 
 //                    begin enl read wri com ab take inst rep merge emit repl val room ends past lent search fill table conv
-const SPANNING: [u64; 21] = [8, 10, 8, 14, 12, 1, 70, 18, 4, 14, 8, 8, 2, 2, 1, 2, 1, 8, 2, 2, 4];
+const SPANNING: [u64; 21] = [8, 10, 8, 14, 12, 1, 70, 18, 4, 14, 8, 8, 2, 2, 1, 2, 1, 8, 2, 2, 6];
 /// Few messages, many installs: history is forgotten.
-const LONE: [u64; 21] = [30, 3, 8, 14, 40, 0, 30, 40, 2, 16, 12, 6, 1, 1, 1, 2, 1, 12, 2, 2, 4];
+const LONE: [u64; 21] = [30, 3, 8, 14, 40, 0, 30, 40, 2, 16, 12, 6, 1, 1, 1, 2, 1, 12, 2, 2, 6];
 
 struct Maker {
     random: Random,
