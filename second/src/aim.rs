@@ -1,5 +1,6 @@
 //! Where a random call goes: mostly somewhere possible, now and then not.
 
+mod bookmarks;
 mod tables;
 mod values;
 

@@ -1,7 +1,9 @@
-//! Refusals, reasons of abort and decisions (N1 to N5, Q7.1 to Q7.8, Q3.4, Q12.5).
+//! Refusals, reasons of abort and decisions (N1 to N5, Q7.1 to Q7.8, Q3.4, Q12.5;
+//! request 08).
 
 /// In the order of the causes: where several apply, the first of this list is
-/// returned. The numbers do not ascend along it, and 6 is retired.
+/// returned. The numbers do not ascend along it, and 6 is retired. The last one, 28, has
+/// no place in this order.
 #[derive(Clone, Copy, PartialEq, Eq, Debug)]
 #[repr(u8)]
 pub enum Refusal {
@@ -29,6 +31,9 @@ pub enum Refusal {
     QueueFull = 15,
     PartsDisagree = 16,
     Nothing = 17,
+    /// A page length of 0. Only conversions of bookmarks give 28, and there 2 stands on
+    /// both sides of it: a wrong length of buffer goes before it, a bad way back behind it.
+    NoPageLength = 28,
 }
 
 impl Refusal {

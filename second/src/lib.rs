@@ -4,6 +4,7 @@
 pub mod aim;
 pub mod answer;
 pub mod book;
+pub mod bookmarks;
 pub mod copy;
 pub mod desk;
 pub mod fuzz;

@@ -4,6 +4,7 @@
 //! neither state nor buffer.
 
 mod choose;
+mod conversions;
 mod forge;
 mod starts;
 mod values;
@@ -144,7 +145,7 @@ impl Fuzz {
         Ok(())
     }
 
-    /// Now and then something on states set aside.
+    /// Now and then something on states set aside, or on none.
     fn aside(&mut self) -> Option<Result<(), String>> {
         Some(match self.random.below(100) {
             0..=2 => self.forged_words(),
@@ -152,6 +153,8 @@ impl Fuzz {
             4 => self.forged_start(),
             5 => self.forged_value(),
             6 => self.handed_value(),
+            7 => self.conversion(),
+            8 => self.run_of_conversions(),
             _ => return None,
         })
     }

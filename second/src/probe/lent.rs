@@ -3,11 +3,11 @@
 
 use super::line::Line;
 use super::listed::LIST_WORDS;
-use super::sums::SITE_QUEUE;
+use super::sums::{self, SITE_QUEUE};
 use crate::sizes::*;
 
 /// Words for the outgoing buffer, more than any call wants.
-const ROOM: u64 = 8_192;
+pub const ROOM: u64 = 8_192;
 /// A copy's last number and last coordinator stand before its values.
 pub const COPY_HEADER: usize = 2;
 pub const COPY: u64 = (COPY_HEADER as u64) + BASE;
@@ -20,6 +20,11 @@ pub const PLACES: u64 = (LIVE * (7 + KEY_WORDS)) as u64;
 pub const SLOTS: u64 = (HISTORY * (3 + KEY_WORDS)) as u64;
 pub const LISTS: u64 = (LIVE * LIST_WORDS) as u64;
 pub const QUEUES: u64 = (SITES * SITE_QUEUE) as u64;
+
+/// An outgoing buffer of so many words as a call is lent it, filled with a pattern.
+pub fn buffer(room: u64) -> Vec<u64> {
+    (0..room).map(|place| sums::more(place, 9)).collect()
+}
 
 pub struct Lent {
     pub room: u64,

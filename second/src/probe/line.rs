@@ -7,7 +7,7 @@ pub struct Line {
 }
 
 /// Verbs, each with how many numbers follow it; begin with a desk or without.
-const VERBS: [(&str, usize); 44] = [
+const VERBS: [(&str, usize); 47] = [
     ("house", 1),
     ("room", 1),
     ("places", 1),
@@ -52,6 +52,9 @@ const VERBS: [(&str, usize); 44] = [
     ("entries", 4),
     ("form", 4),
     ("writes", 4),
+    ("page", 2),
+    ("offset", 3),
+    ("run", 2),
 ];
 
 /// `Ok(None)` for a remark: an empty line, or one that begins with `#`.
@@ -62,15 +65,15 @@ pub fn parse(line: &str) -> Result<Option<Line>, String> {
     let mut words = line.split(' ');
     let verb = words.next().unwrap_or_default().to_string();
     let numbers = words.map(number).collect::<Option<Vec<u64>>>().ok_or("not a number")?;
-    // `merger` wants a field and a value; with one number it is a remark.
-    if verb == "merger" && numbers.len() == 1 {
-        return Ok(None);
+    if VERBS.iter().any(|&(name, count)| name == verb && count == numbers.len()) {
+        return Ok(Some(Line { verb, numbers }));
     }
-    let known = VERBS.iter().any(|&(name, count)| name == verb && count == numbers.len());
-    if known {
-        Ok(Some(Line { verb, numbers }))
-    } else {
-        Err(format!("no such probe: {line}"))
+    match (verb.as_str(), numbers.len()) {
+        // `merger` wants a field and a value; with one number it is a remark.
+        ("merger", 1) => Ok(None),
+        // So is a conversion with another number of numbers.
+        ("page" | "offset" | "run", _) => Ok(None),
+        _ => Err(format!("no such probe: {line}")),
     }
 }
 

@@ -3,6 +3,7 @@
 //! what it left. The program `probe` over the proved store obeys the same lines.
 
 mod claimed;
+mod converted;
 mod hand;
 pub(crate) mod handed;
 mod lent;
@@ -13,6 +14,7 @@ pub mod random;
 pub mod sums;
 mod tabled;
 mod told;
+pub mod triples;
 mod valued;
 
 use std::fmt::Write;
@@ -102,6 +104,7 @@ impl Probe {
                     false => writeln!(output, "{event} refused {}", Refusal::Nothing.number()),
                 };
             }
+            "page" | "offset" | "run" => converted::obey(event, line, self.hand.words(), output),
             _ => {
                 let (done, buffer) = self.called(line);
                 tell(output, event, &done.answer);
@@ -151,7 +154,7 @@ impl Probe {
     /// Makes a call, keeps what it wrote, and sums its outgoing buffer, if it has one.
     fn called(&mut self, line: &Line) -> (Done, u64) {
         let verb = line.verb.as_str();
-        let mut buffer: Vec<u64> = (0..self.lent.room).map(|place| sums::more(place, 9)).collect();
+        let mut buffer = lent::buffer(self.lent.room);
         let done = match verb {
             "merge" | "emit" | "open" => self.at_merger(line, &mut buffer),
             "replay" | "value" | "blank" => self.at_copy(line),

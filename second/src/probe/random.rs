@@ -1,8 +1,9 @@
 //! Random probes: calls in turn and out of turn, words forged, buffers shortened,
 //! tables lent at other lengths, counters near their ends, states past the sizes,
 //! fields poked, histories searched, both desks, tables of all kinds, values that do not
-//! fit. The house is run beside, so that the lines lead into deep states.
+//! fit, bookmarks converted. The house is run beside, so that the lines lead into deep states.
 
+mod conversions;
 mod desks;
 mod pokes;
 mod searches;
@@ -18,10 +19,10 @@ use crate::random::Random;
 use crate::sizes::*;
 use crate::table::{even, Table};
 
-//                    begin enl read wri com ab take inst rep merge emit repl val room ends past lent search fill table
-const SPANNING: [u64; 20] = [8, 10, 8, 14, 12, 1, 70, 18, 4, 14, 8, 8, 2, 2, 1, 2, 1, 8, 2, 2];
+//                    begin enl read wri com ab take inst rep merge emit repl val room ends past lent search fill table conv
+const SPANNING: [u64; 21] = [8, 10, 8, 14, 12, 1, 70, 18, 4, 14, 8, 8, 2, 2, 1, 2, 1, 8, 2, 2, 6];
 /// Few messages, many installs: history is forgotten.
-const LONE: [u64; 20] = [30, 3, 8, 14, 40, 0, 30, 40, 2, 16, 12, 6, 1, 1, 1, 2, 1, 12, 2, 2];
+const LONE: [u64; 21] = [30, 3, 8, 14, 40, 0, 30, 40, 2, 16, 12, 6, 1, 1, 1, 2, 1, 12, 2, 2, 6];
 
 struct Maker {
     random: Random,
@@ -133,7 +134,8 @@ impl Maker {
             16 => self.lent(site, transaction),
             17 => self.search(site),
             18 => self.fill(),
-            _ => self.tables(site),
+            19 => self.tables(site),
+            _ => self.convert(),
         }
     }
 
