@@ -1,5 +1,5 @@
-//! Refusals, reasons of abort and decisions (N1 to N5, Q7.1 to Q7.8, Q3.4, Q12.5;
-//! request 08).
+//! Refusals, reasons of abort and decisions (N1 to N5, Q7.1 to Q7.8, Q3.4, Q12.5, Q8.5,
+//! Q8.6).
 
 /// In the order of the causes: where several apply, the first of this list is
 /// returned. The numbers do not ascend along it, and 6 is retired. The last one, 28, has

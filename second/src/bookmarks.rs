@@ -1,4 +1,4 @@
-//! Pages with the bytes left over (request 08): an offset as a page and a rest, the way
+//! Pages with the bytes left over (Q8.1 to Q8.9): an offset as a page and a rest, the way
 //! back, and runs of offsets. These calls have no house, no key and no state.
 
 use crate::answer::{require, Refusal};

@@ -1,4 +1,4 @@
-//! Pages with the bytes left over (request 08): places, ways back and runs.
+//! Pages with the bytes left over (Q8.1 to Q8.9): places, ways back and runs.
 
 mod common;
 

@@ -1,4 +1,4 @@
-//! Random page lengths, offsets, pages and rests (request 08), aimed at the edges: where a
+//! Random page lengths, offsets, pages and rests (Q8.1 to Q8.9), aimed at the edges: where a
 //! page begins and ends, where a way back passes 2^64 − 1, and a rest at the page length.
 
 use crate::random::Random;

@@ -1,4 +1,4 @@
-//! Conversions of bookmarks (request 08): what each gives is fixed. The checks go the
+//! Conversions of bookmarks (Q8.1 to Q8.9): what each gives is fixed. The checks go the
 //! other way than the calls: they multiply where a call divides, and divide where it
 //! multiplies.
 

@@ -1,4 +1,4 @@
-//! Conversions of bookmarks in a probe (request 08). They are no calls of a site, of the
+//! Conversions of bookmarks in a probe (Q8.1 to Q8.9). They are no calls of a site, of the
 //! merger or of a copy, so that no state is there to alter or to sum.
 
 use std::fmt::Write;

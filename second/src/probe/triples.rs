@@ -1,4 +1,4 @@
-//! Random triples of a page length and two numbers, as lines of a probe (request 08). Each
+//! Random triples of a page length and two numbers, as lines of a probe (Q8.1 to Q8.9). Each
 //! triple is tried as an offset and as a way back; now and then a run is tried too.
 
 use std::fmt::Write;

@@ -24,7 +24,9 @@ returns c = simp (eq-eqb _ _ (c .if1 .taken))
 
 returns-2 : tie.Need-returns-2
 unfolding offsetCode
-returns-2 c = simp (ne-eqb _ _ (c .before .if1 .left), le-leb _ _ (c .if2 .taken))
+returns-2 c =
+    let a = c .before .before .args in
+    simp (ne-eqb _ _ (c .before .if1 .left), le-leb (a .size) (a .rest) (omega arith))
 
 sub-if3 : tie.Need-sub-if3
 sub-if3 c = search needs

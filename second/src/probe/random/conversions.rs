@@ -1,4 +1,4 @@
-//! Random conversions of bookmarks (request 08): places and ways back, and runs over the
+//! Random conversions of bookmarks (Q8.1 to Q8.9): places and ways back, and runs over the
 //! words in hand, which are those of some message or record or are set before.
 
 use super::Maker;
