@@ -45,7 +45,7 @@ def crate_names(own):
             d[b.lower()+'.']=(mod,None)
     for m in re.finditer(r'^pub (?:struct|enum) (\w+)',open(f'{ROOT}/crates/kinds/src/lib.rt').read(),re.M):
         d.setdefault(m.group(1),(f'Rattle.kinds.specs.declared.{m.group(1)}',m.group(1)))
-    for v in 'Refused Done Begun Found Committed Aborted Installed Reported Emitted Replayed Standing'.split():
+    for v in 'Refused Done Begun Found Searched Committed Aborted Installed Reported Emitted Replayed Standing Paged Offset'.split():
         d.setdefault(v,('Rattle.kinds.specs.declared.Answer.the-variants',v))
     return d
 def process(f):

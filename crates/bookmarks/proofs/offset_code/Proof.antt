@@ -39,7 +39,7 @@ unfolding offsetCode
 returns-3 c =
     let looked = c .before .before in
     let a = looked .before .args in
-    let p = past (a .size) (a .page) (a .rest) (omega arith) (omega arith) (c .if3 .taken) in
+    let p = past (a .size) (a .page) (a .rest) (omega arith) (omega arith) (omega arith) in
     simp (ne-eqb _ _ (looked .if1 .left), lt-leb _ _ (c .before .if2 .left), lt-ltb _ _ p)
 
 returns-4 : tie.Need-returns-4
@@ -47,7 +47,7 @@ unfolding offsetCode
 returns-4 c =
     let looked = c .before .before in
     let a = looked .before .args in
-    let p = within (a .size) (a .page) (a .rest) (omega arith) (omega arith) (c .if3 .left) in
+    let p = within (a .size) (a .page) (a .rest) (omega arith) (omega arith) (omega arith) in
     simp (ne-eqb _ _ (looked .if1 .left), lt-leb _ _ (c .before .if2 .left), le-ltb _ _ p)
 
 pub offset-code-spec : {M : Type 1} → statement M
