@@ -1,2 +1,3 @@
--- Beyond demand 3: what the conversions answer.
+-- Beyond demand 3: what the conversions answer, and what they refuse.
 pub mod PagesRight
+pub mod PagesRefused

@@ -40,7 +40,8 @@ places-more l offsets i h =
     rw (add-one, take-suc offsets i 0 h, places-append l (take i offsets) (getD offsets i 0 ∷ []), append-assoc)
 
 -- and offset i has words 2 i and 2 i + 1.
-pub places-page : (l : ℕ) (offsets : List ℕ) (i : ℕ) → i < length offsets → getD (placesOf l offsets) (2 * i) 0 ≡ getD offsets i 0 / l
+pub places-page : (l : ℕ) (offsets : List ℕ) (i : ℕ) → i < length offsets
+    → getD (placesOf l offsets) (2 * i) 0 ≡ getD offsets i 0 / l
 unfolding placesOf
 places-page l [] i h = absurd (omega arith)
 places-page l (o ∷ os) zero h = refl
@@ -48,7 +49,8 @@ places-page l (o ∷ os) (suc i) h =
     let e : 2 * suc i ≡ suc (suc (2 * i)) = omega arith in
     rw e (places-page l os i (omega arith))
 
-pub places-rest : (l : ℕ) (offsets : List ℕ) (i : ℕ) → i < length offsets → getD (placesOf l offsets) (2 * i + 1) 0 ≡ getD offsets i 0 % l
+pub places-rest : (l : ℕ) (offsets : List ℕ) (i : ℕ) → i < length offsets
+    → getD (placesOf l offsets) (2 * i + 1) 0 ≡ getD offsets i 0 % l
 unfolding placesOf
 places-rest l [] i h = absurd (omega arith)
 places-rest l (o ∷ os) zero h = refl

@@ -1,4 +1,5 @@
--- Q8.1 to Q8.4 and Q8.8: what the conversions answer, for every page length, offset, page and rest, and for every run.
+-- Q8.1 to Q8.6 and Q8.8: what the conversions answer and refuse, for every page length, offset, page and rest, and for every run. Neither
+-- claim speaks of a quotient or of a list of causes.
 use Prim.Native.Nat.{ℕ, _+_, _*_, _≤_, _<_}
 use mathlib.Core.Path.{_≡_}
 use mathlib.Core.List.{List}
@@ -12,7 +13,7 @@ pub record PlaceByPlace (size : ℕ) (offsets out : List ℕ) : Type 0 where
   pub long : length out ≡ 2 * length offsets
   pub at : (i : ℕ) → i < length offsets → pageOf size (getD offsets i 0) ≡ Paged (getD out (2 * i) 0) (getD out (2 * i + 1) 0)
 
--- the claim
+-- the claim: what is answered
 pub record PagesRight : Type 0 where
   -- whole pages before the offset, and the bytes left over, fewer than a page
   pub exact : (size offset page rest : ℕ) → pageOf size offset ≡ Paged page rest → (page * size + rest ≡ offset) × (rest < size)
@@ -33,3 +34,15 @@ pub record PagesRight : Type 0 where
       → PlaceByPlace size offsets (pagesOf size offsets out .out)
   pub leaves : (size : ℕ) (offsets out : List ℕ) (n : ℕ) → pagesOf size offsets out .answer ≡ Refused n
       → pagesOf size offsets out .out ≡ out
+
+-- the claim: what is refused, and with which number. A run is refused for nothing else; of `page` and `offset` PagesRight says so.
+pub record PagesRefused : Type 0 where
+  pub page-none : (offset : ℕ) → pageOf 0 offset ≡ Refused 28
+  pub offset-none : (page rest : ℕ) → offsetOf 0 page rest ≡ Refused 28
+  pub offset-rest : (size page rest : ℕ) → 0 < size → size ≤ rest → offsetOf size page rest ≡ Refused 2
+  pub offset-past : (size page rest : ℕ) → 0 < size → sizes.last < page * size + rest → offsetOf size page rest ≡ Refused 2
+  pub run-buffer : (size : ℕ) (offsets out : List ℕ) → (length out ≡ 2 * length offsets → ⊥)
+      → pagesOf size offsets out .answer ≡ Refused 2
+  pub run-none : (offsets out : List ℕ) → length out ≡ 2 * length offsets → pagesOf 0 offsets out .answer ≡ Refused 28
+  pub run-taken : (size : ℕ) (offsets out : List ℕ) → 0 < size → length out ≡ 2 * length offsets
+      → pagesOf size offsets out .answer ≡ Done

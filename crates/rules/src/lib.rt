@@ -10,7 +10,7 @@ ghost use Rattle.rules.specs.Lengths.{WritesMeasured, AnswersFit};
 ghost use Rattle.rules.specs.Tables.{KeysPlaced, TablesRefused, HousesStay};
 ghost use Rattle.rules.specs.Refusals.{RefusedLeaves, FirstCause, OwnNumbers};
 ghost use Rattle.rules.specs.Moments.{WrongMoments};
-ghost use Rattle.rules.specs.Pages.{PagesRight};
+ghost use Rattle.rules.specs.Pages.{PagesRight, PagesRefused};
 
 // Demand 3: any list of the fourteen calls, from a fresh house.
 pub fn demand3_holds()
@@ -106,4 +106,9 @@ pub fn houses_stay()
 // For every page length above 0 page and offset undo one another, each place has one offset, and a run converts each of its offsets.
 pub fn pages_right()
     ensures { λ _. ⌜ PagesRight ⌝ }
+{}
+
+// A conversion is refused 28 exactly where the page length is 0, behind 2 for a buffer and before 2 on the way back.
+pub fn pages_refused()
+    ensures { λ _. ⌜ PagesRefused ⌝ }
 {}

@@ -1,7 +1,7 @@
 -- A5, F20, H5 to H20, Q5.4 and Q8.1 to Q8.6: what each of the twenty calls says, in any state and for any arguments. After `ok`: begin,
 -- transaction; commit, number; install and replay, number and coordinator; emit also transaction; value, start, length and pair; read,
 -- start and length; search, start, length and how many entries it looked at; report, state; page, page and rest; offset, the offset.
-use Prim.Native.Nat.{ℕ, _+_, _*_, _/_, _%_}
+use Prim.Native.Nat.{ℕ}
 use mathlib.Core.Path.{_≡_}
 use mathlib.Core.List.{List, [], _∷_}
 use lib.ListN.{length}
@@ -31,7 +31,7 @@ use Rattle.rules.specs.Copy.{copyNumber, copyCoordinator, copyValue, copyStartC
 use Rattle.rules.specs.Copy.{valueOf}
 use Rattle.rules.specs.Refusals.{beginHas, readHas, writeHas, searchHas, enlistHas, commitHas, abandonHas, messageHas, installHas}
 use Rattle.rules.specs.Refusals.{mergeHas, emitHas, pageNumbers, offsetNumbers, pagesNumbers}
-use Rattle.rules.specs.Page.{pageCauses, pageOf, offsetCauses, offsetOf, pagesCauses, pagesOf}
+use Rattle.rules.specs.Page.{pageAt, restAt, offsetAt, pageCauses, pageOf, offsetCauses, offsetOf, pagesCauses, pagesOf}
 use Rattle.said.specs.Said.{Said, ok, abort, saidOf, unlessFirst, unlessFirstIn}
 use Rattle.said.specs.Decided.{commitSaid, messageSaid}
 
@@ -63,12 +63,12 @@ replaySaid m = let r = recordHead m in ok (r .number ∷ r .coordinator ∷ [])
 unfoldable pub valueSaid : List ℕ → ℕ → Said
 valueSaid copy k = let v = copyValue copy k in ok (v .start ∷ v .length ∷ copyNumber copy ∷ copyCoordinator copy ∷ [])
 
--- the conversions: quotient and remainder; page times page length, and the rest
+-- the conversions
 unfoldable pub pageSaid : ℕ → ℕ → Said
-pageSaid size offset = ok (offset / size ∷ offset % size ∷ [])
+pageSaid size offset = ok (pageAt size offset ∷ restAt size offset ∷ [])
 
 unfoldable pub offsetSaid : ℕ → ℕ → ℕ → Said
-offsetSaid size page rest = ok ((page * size + rest) ∷ [])
+offsetSaid size page rest = ok (offsetAt size page rest ∷ [])
 
 -- Each call's answer, which its contract gives by the rule cited here, says its first cause of refusal, else just that.
 pub record Says : Type 0 where

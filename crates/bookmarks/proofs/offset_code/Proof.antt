@@ -10,11 +10,13 @@ use Rattle.bookmarks.proofs.offset_code.Statement.{statement}
 use Rattle.bookmarks.proofs.offset_code.Tie as tie
 
 -- The quotient tells on which side of the last the offset is.
-past : (size page rest : ℕ) → rest < size → rest ≤ sizes.last → (sizes.last - rest) / size < page → sizes.last < page * size + rest
+past : (size page rest : ℕ) → rest < size → rest ≤ sizes.last → (sizes.last - rest) / size < page
+    → sizes.last < page * size + rest
 past size page rest h r l =
     let z = div-lt-iff-lt-mul {k = size} {x = sizes.last - rest} {y = page} (omega arith) .0 l in omega arith
 
-within : (size page rest : ℕ) → rest < size → rest ≤ sizes.last → page ≤ (sizes.last - rest) / size → page * size + rest ≤ sizes.last
+within : (size page rest : ℕ) → rest < size → rest ≤ sizes.last → page ≤ (sizes.last - rest) / size
+    → page * size + rest ≤ sizes.last
 within size page rest h r l =
     let z = le-div-iff-mul-le {k = size} {x = page} {y = sizes.last - rest} (omega arith) .0 l in omega arith
 

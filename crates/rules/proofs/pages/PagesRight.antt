@@ -4,7 +4,7 @@ use mathlib.Core.Path.{_≡_, refl, sym, ap, _∙_}
 use mathlib.Core.List.{List}
 use native.Mathlib.Nat.{mod-lt}
 use native.Mathlib.Omega.{arith}
-use borrow.Author.Tests.{eqb-true, eqb-false, leb-false, ltb-false, not-false, ne-eqb, lt-leb, le-ltb}
+use borrow.Author.Tests.{eqb-true, eqb-false, leb-false, ltb-false, ne-eqb, lt-leb, le-ltb}
 use lib.Dec.{eqb}
 use lib.ListN.{length}
 use Rattle.laws.specs.Choice.{by-test}
@@ -54,10 +54,10 @@ unfolding offsetOf offsetCode
 answered l page rest h k = rw (ne-eqb l 0 (λ z. omega arith), lt-leb l rest h, le-ltb sizes.last (page * l + rest) k) refl
 
 -- an offset that is answered is that of a place up to the last
-pub record Taken (l page rest offset : ℕ) : Type 0 where
-  pub below : rest < l
-  pub few : page * l + rest ≤ sizes.last
-  pub same : page * l + rest ≡ offset
+record Taken (l page rest offset : ℕ) : Type 0 where
+  below : rest < l
+  few : page * l + rest ≤ sizes.last
+  same : page * l + rest ≡ offset
 
 taken : (l page rest offset : ℕ) → offsetOf l page rest ≡ Offset offset → Taken l page rest offset
 unfolding offsetOf offsetCode
@@ -78,7 +78,8 @@ there l offset h k =
     let e = there-back l offset in
     (offset / l, offset % l, page-is l offset h, answered l _ _ (mod-lt offset h) (rw e k) ∙ ap Offset e)
 
-back : (l page rest offset : ℕ) → offsetOf l page rest ≡ Offset offset → (offset ≤ sizes.last) × (pageOf l offset ≡ Paged page rest)
+back : (l page rest offset : ℕ) → offsetOf l page rest ≡ Offset offset
+    → (offset ≤ sizes.last) × (pageOf l offset ≡ Paged page rest)
 back l page rest offset e =
     let t = taken l page rest offset e in
     let h = t .below in (
@@ -86,7 +87,8 @@ back l page rest offset e =
       rw (← t .same) (page-is l _ (omega arith) ∙ rw (back-page l page rest h, back-rest l page rest h) refl),
     )
 
-one : (l page rest otherPage otherRest offset : ℕ) → offsetOf l page rest ≡ Offset offset → offsetOf l otherPage otherRest ≡ Offset offset
+one : (l page rest otherPage otherRest offset : ℕ) → offsetOf l page rest ≡ Offset offset
+    → offsetOf l otherPage otherRest ≡ Offset offset
     → (page ≡ otherPage) × (rest ≡ otherRest)
 one l page rest otherPage otherRest offset e f =
     paged _ _ _ _ (sym (back l page rest offset e .1) ∙ back l otherPage otherRest offset f .1)

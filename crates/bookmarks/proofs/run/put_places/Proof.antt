@@ -1,12 +1,12 @@
 -- After i offsets the pages and rests of the first i are laid over the front.
 use Prim.Native.Nat.{ℕ, _+_, _-_, _*_, _/_, _%_, _≤_}
-use mathlib.Core.Path.{_≡_, refl, sym, _∙_}
+use mathlib.Core.Path.{_≡_, refl, _∙_}
 use mathlib.Core.List.{List, [], _∷_, _++_, append-nil}
 use native.Mathlib.Omega.{arith}
 use borrow.Author.Needs.{needs}
 use lib.ListN.{length, take, getD, length-set, length-append, drop-of-length-le}
 use lib.Seq.{take-all, length-take-le}
-use Rattle.laws.specs.Overlay.{overlay, overlay-none, overlay-more, length-overlay}
+use Rattle.laws.specs.Overlay.{overlay, overlay-none, overlay-more}
 use Rattle.rules.specs.Page.{placesOf}
 use Rattle.rules.specs.PageLaws.{places-more, length-places}
 use Rattle.bookmarks.proofs.run.put_places.Statement.{statement}
