@@ -22,7 +22,7 @@ pub const AS_SITES: usize = TABLE + 1;
 
 // Lengths lent: the outgoing buffer, the live parts, the history, the base values, the gathered lists, the merger's queues, a copy,
 // the table of first keys. The table itself stands behind them; only starts are lent it.
-#[derive(Drop)]
+#[derive(Clone, Copy)]
 pub struct Lent {
     pub room: usize,
     pub live: usize,
@@ -49,7 +49,7 @@ pub fn first_keys(lent: Lent, sites: u64) -> usize {
 
 // What a call answered and wrote: whether the state and the lent tables are the same, the checksums of the outgoing buffer and
 // of the state. A record to bytes counts bytes as its words.
-#[derive(Drop)]
+#[derive(Clone, Copy)]
 pub struct Done {
     pub answer: Answer,
     pub words: usize,

@@ -7,7 +7,7 @@ use pieces::{front, front_mut};
 use pokes::poke_site;
 use verbs::{Line, verb};
 
-#[derive(Drop)]
+#[derive(Clone, Copy)]
 pub struct SiteDone {
     pub done: Done,
     pub core: Core,

@@ -12,7 +12,7 @@ pub const COPY_PLACE: usize = COPY + 1;
 
 pub const COPIES: usize = 2;
 
-#[derive(Drop)]
+#[derive(Clone, Copy)]
 pub struct MergerDone {
     pub done: Done,
     pub merger: Merger,

@@ -6,7 +6,7 @@ use pages::{PAGE, flush};
 use script::{UNREADABLE, UNWRITTEN};
 
 // A file that is open, or a negative number, and the length of its name.
-#[derive(Drop)]
+#[derive(Clone, Copy)]
 pub struct Opened {
     pub fd: i32,
     pub name: usize,

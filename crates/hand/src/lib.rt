@@ -20,7 +20,7 @@ const ENTRIES: u64 = 380;
 const WRITES: u64 = 140;
 
 // How many words are in hand, and whether what was asked for was found.
-#[derive(Drop)]
+#[derive(Clone, Copy)]
 pub struct Held {
     pub words: usize,
     pub found: bool,

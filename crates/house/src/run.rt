@@ -16,7 +16,7 @@ use spool::{ITEM, STORE};
 use stream::{ALL_COPIES, copied, merged, start_copies, start_merger};
 
 // A script before its accepted `sites`, and the house once it is accepted: of 0 sites till then.
-#[derive(Drop)]
+#[derive(Clone, Copy)]
 struct Prelude {
     play: Play,
     house: House,

@@ -12,7 +12,7 @@ use sizes::{HISTORY, LIVE, READS, SITES, WRITES};
 pub type Key = u64;
 
 // A stored highlight: where it starts, and how long it is (Q12.1).
-#[derive(Drop)]
+#[derive(Clone, Copy)]
 pub struct Value {
     pub start: u64,
     pub length: u64,
@@ -26,20 +26,20 @@ pub const FRESH: Value = Value {
 
 // How a house is laid out: how many sites it has, and the first key of each, 0 behind them. Which site a key lives at is asked of it
 // alone.
-#[derive(Drop)]
+#[derive(Clone, Copy)]
 pub struct House {
     pub sites: u64,
     pub firsts: [Key; SITES],
 }
 
 // What a part may see: the first `installs` installs at its site.
-#[derive(Drop)]
+#[derive(Clone, Copy)]
 pub struct Snapshot {
     pub installs: u64,
 }
 
 // The keys that a part read and wrote, in the order of their first use, and the values written.
-#[derive(Drop)]
+#[derive(Clone, Copy)]
 pub struct Keys {
     pub read: usize,
     pub wrote: usize,
@@ -51,7 +51,7 @@ pub struct Keys {
 // How far a part has come: `stage` is one of `stage`'s numbers, `number` the mark while its queue entry is open and the commit
 // number once it is decided. `mask` is 0 at a participant that has not taken PREPARE. The rest is the coordinator's: `heard` are
 // the sites whose reply of this round was taken, `reason` is 12 once a JOINED of 12 was, `listed` counts the gathered entries.
-#[derive(Drop)]
+#[derive(Clone, Copy)]
 pub struct Course {
     pub stage: u64,
     pub mask: u64,
@@ -62,7 +62,7 @@ pub struct Course {
 }
 
 // A subtransaction: a live transaction's part at this site. `desk` is one of `desk`'s numbers.
-#[derive(Drop)]
+#[derive(Clone, Copy)]
 pub struct Sub {
     pub tx: u64,
     pub desk: u64,
@@ -72,7 +72,7 @@ pub struct Sub {
 }
 
 // An installed transaction's part, as the history keeps it.
-#[derive(Drop)]
+#[derive(Clone, Copy)]
 pub struct Entry {
     pub tx: u64,
     pub mask: u64,
@@ -81,13 +81,13 @@ pub struct Entry {
 }
 
 // Messages written to, and taken from, each site.
-#[derive(Drop)]
+#[derive(Clone, Copy)]
 pub struct Channels {
     pub sent: [u64; SITES],
     pub taken: [u64; SITES],
 }
 
-#[derive(Drop)]
+#[derive(Clone, Copy)]
 pub struct Counters {
     pub own: u64,
     pub clock: u64,
@@ -96,7 +96,7 @@ pub struct Counters {
 }
 
 // A place of the live table: what its scans ask. The rest of the part lies in lent words.
-#[derive(Drop)]
+#[derive(Clone, Copy)]
 pub struct Seat {
     pub tx: u64,
     pub stage: u64,
@@ -104,7 +104,7 @@ pub struct Seat {
 
 // What a site keeps by value. The rest of its live parts and its history lie beside it in lent words, and so do its base values and
 // the coordinator's gathered lists.
-#[derive(Drop)]
+#[derive(Clone, Copy)]
 pub struct Core {
     pub house: House,
     pub counters: Counters,
@@ -113,7 +113,7 @@ pub struct Core {
 }
 
 // A site whole, as the rules speak of it: a core with its live and history words read.
-#[derive(Drop)]
+#[derive(Clone, Copy)]
 pub struct Site {
     pub house: House,
     pub counters: Counters,
@@ -123,7 +123,7 @@ pub struct Site {
 }
 
 // The first words of a message, without its length and offset, which `count` gives.
-#[derive(Drop)]
+#[derive(Clone, Copy)]
 pub struct MessageHead {
     pub kind: u64,
     pub from: u64,
@@ -136,7 +136,7 @@ pub struct MessageHead {
 }
 
 // The first words of a record, without its length and offset, which `count` gives. `number` is the commit number or the state number.
-#[derive(Drop)]
+#[derive(Clone, Copy)]
 pub struct RecordHead {
     pub kind: u64,
     pub site: u64,
@@ -148,7 +148,7 @@ pub struct RecordHead {
 }
 
 // What a search of the history answers: a version of a key, and how many entries the search looked at.
-#[derive(Drop)]
+#[derive(Clone, Copy)]
 pub struct Search {
     pub value: Value,
     pub looked: u64,
@@ -156,7 +156,7 @@ pub struct Search {
 
 // What a call answers. `Refused` has the cause's number and `Aborted` the reason's; a pair is a commit number and its coordinator.
 // `rest` is the bytes into a page.
-#[derive(Drop)]
+#[derive(Clone, Copy)]
 pub enum Answer {
     Refused(u64),
     Done,
@@ -207,7 +207,7 @@ pub enum Answer {
 }
 
 // What a step of a part's course reads and changes: the part, and its site's counters and channels.
-#[derive(Drop)]
+#[derive(Clone, Copy)]
 pub struct Turn {
     pub counters: Counters,
     pub channels: Channels,
@@ -215,7 +215,7 @@ pub struct Turn {
 }
 
 // A step taken: the answer, how many words it wrote to the outgoing buffer, and what it leaves.
-#[derive(Drop)]
+#[derive(Clone, Copy)]
 pub struct Taken {
     pub answer: Answer,
     pub words: usize,
@@ -223,7 +223,7 @@ pub struct Taken {
 }
 
 // A site's call: its answer, how many words it wrote to the outgoing buffer, and the core after it.
-#[derive(Drop)]
+#[derive(Clone, Copy)]
 pub struct Reply {
     pub answer: Answer,
     pub words: usize,
@@ -231,14 +231,14 @@ pub struct Reply {
 }
 
 // What a list of entries says of one transaction.
-#[derive(Drop)]
+#[derive(Clone, Copy)]
 pub struct Listed {
     pub mask: u64,
     pub mark: u64,
 }
 
 // What the merger keeps of one site's log: its last state number, the pair of its last part, and how many parts are queued.
-#[derive(Drop)]
+#[derive(Clone, Copy)]
 pub struct Source {
     pub state: u64,
     pub number: u64,
@@ -247,14 +247,14 @@ pub struct Source {
 }
 
 // A merger. The queued parts lie beside it in lent words.
-#[derive(Drop)]
+#[derive(Clone, Copy)]
 pub struct Merger {
     pub house: House,
     pub sources: [Source; SITES],
 }
 
 // A merger's call: its answer, how many words it wrote to the outgoing buffer, and the merger after it.
-#[derive(Drop)]
+#[derive(Clone, Copy)]
 pub struct MergerOut {
     pub answer: Answer,
     pub words: usize,

@@ -8,7 +8,7 @@ ghost use Rattle.lines.specs.Line.{scan_of, place_of, spaced, took, command_of, 
 
 use verb::{five, many, none, one, three, two};
 
-#[derive(Drop)]
+#[derive(Clone, Copy)]
 pub enum Command {
     // How many sites, and how many first keys the line gives behind that number.
     Sites(u64, u64),
@@ -48,7 +48,7 @@ const LONGEST: u64 = 281474976710656;
 // What has been read of a line: how many words ended, whether the present one has begun (0 or 1), and the present one. The ended
 // ones stand in lent words, in their order, the verb first: no step and no reading copies them. A verb is its letters as digits to
 // the base 256.
-#[derive(Drop)]
+#[derive(Clone, Copy)]
 pub struct Place {
     pub ended: u64,
     pub begun: u64,
@@ -56,7 +56,7 @@ pub struct Place {
 }
 
 // A word with one byte more, if it has such a byte.
-#[derive(Drop)]
+#[derive(Clone, Copy)]
 pub enum Grown {
     To(u64),
     Spoilt,
@@ -240,7 +240,7 @@ pub fn table(s: Place, words: &[u64; WORDS]) -> [u64; 8]
 }
 
 // How far a scan went: to a newline, or to the end of what there is.
-#[derive(Drop)]
+#[derive(Clone, Copy)]
 pub struct Reached {
     pub at: usize,
     pub place: Place,

@@ -14,7 +14,7 @@ use numbers::{in_mask, precedes};
 use queues::read_head;
 
 // The head of each site's queue, beside the merger, which says which of them there are.
-#[derive(Drop)]
+#[derive(Clone, Copy)]
 pub struct Heads {
     pub merger: Merger,
     pub heads: [RecordHead; SITES],
@@ -22,7 +22,7 @@ pub struct Heads {
 
 // The due head, with the order after it: at each site of its mask one part fewer is queued. Or the refusal's code, with the order as it
 // was.
-#[derive(Drop)]
+#[derive(Clone, Copy)]
 pub struct Due {
     pub code: u64,
     pub head: RecordHead,

@@ -41,7 +41,7 @@ pub const QUEUED: usize = QUEUES + 1;
 pub const COPIED: usize = COPIES * COPY_PLACE;
 
 // A line, and the merger after those before it.
-#[derive(Drop)]
+#[derive(Clone, Copy)]
 pub struct Waiting {
     pub work: Work,
     pub merger: Merger,

@@ -17,7 +17,7 @@ pub const ROOM: usize = 8192;
 const EVEN: [Key; TABLE] = [0, 256, 512, 768, 1024, 1280, 1536, 1792, 2048];
 
 // A probe under way: `state` is LINE until it ends, and then says why; `held` words are in hand, `kept` of the store are used.
-#[derive(Drop)]
+#[derive(Clone, Copy)]
 pub struct Work {
     pub input: Input,
     pub event: u64,

@@ -97,7 +97,7 @@ pub fn flush(page: &[u8; PAGE], used: usize) -> bool {
 }
 
 // How much is on the page, and whether all went well.
-#[derive(Drop)]
+#[derive(Clone, Copy)]
 pub struct Filled {
     pub used: usize,
     pub ok: bool,

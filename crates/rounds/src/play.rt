@@ -19,7 +19,7 @@ pub const BASES: usize = PAIR * BASE;
 pub const GATHERINGS: usize = PAIR * LISTS;
 
 // Both sites, the merger, the save that is played, and how many words the last writing call wrote.
-#[derive(Drop)]
+#[derive(Clone, Copy)]
 pub struct Store {
     pub one: Core,
     pub two: Core,

@@ -43,14 +43,14 @@ const WRITTEN: u64 = 200;
 const UNWRITTEN: u64 = 255;
 
 // A save: its transaction, and how many were before it.
-#[derive(Drop)]
+#[derive(Clone, Copy)]
 pub struct Save {
     pub tx: u64,
     pub before: u64,
 }
 
 // A call's answer, how many words it wrote to the outgoing buffer, and what it leaves of a site and of the merger.
-#[derive(Drop)]
+#[derive(Clone, Copy)]
 pub struct Made {
     pub answer: Answer,
     pub words: usize,

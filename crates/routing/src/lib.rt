@@ -21,7 +21,7 @@ use script::{Input, LINE, TEXT, UNKEPT, UNWRITTEN, next_line};
 use spool::{First, ITEM, QUEUES, STORE};
 
 // A script under way: `state` is LINE until it ends, and then says why.
-#[derive(Drop)]
+#[derive(Clone, Copy)]
 pub struct Play {
     pub sites: u64,
     pub input: Input,
@@ -31,7 +31,7 @@ pub struct Play {
 }
 
 // A line and its place, with what it hands in: the queue or cursor, its next item's words and the address behind it.
-#[derive(Drop)]
+#[derive(Clone, Copy)]
 pub struct Ask {
     pub play: Play,
     pub command: Command,

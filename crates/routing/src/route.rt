@@ -19,7 +19,7 @@ pub const NOWHERE: usize = FIRST_COPY + COPIES;
 
 // The place, the queue whose first item is handed in, or the cursor whose next one is (QUEUES for none), and the refusal where the
 // place is NOWHERE.
-#[derive(Drop)]
+#[derive(Clone, Copy)]
 pub struct Route {
     pub place: usize,
     pub queue: usize,

@@ -23,7 +23,7 @@ pub const UNKEPT: u64 = 4;
 pub const UNWRITTEN: u64 = 5;
 
 // The bytes from `at` to `end` of the block are unread.
-#[derive(Drop)]
+#[derive(Clone, Copy)]
 pub struct Input {
     pub fd: i32,
     pub at: usize,
@@ -31,14 +31,14 @@ pub struct Input {
 }
 
 // What a reading has come to.
-#[derive(Drop)]
+#[derive(Clone, Copy)]
 pub struct Reading {
     pub found: u64,
     pub input: Input,
     pub place: Place,
 }
 
-#[derive(Drop)]
+#[derive(Clone, Copy)]
 pub struct Line {
     pub found: u64,
     pub input: Input,

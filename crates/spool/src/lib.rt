@@ -49,7 +49,7 @@ pub const CELLS: usize = TAGS + SLOTS;
 pub const STORE: usize = CELLS + SLOTS * BLOCK;
 
 // The first item of a queue: none, or its words and the address behind it. Failed: the file fails.
-#[derive(Drop)]
+#[derive(Clone, Copy)]
 pub enum First {
     Nothing,
     Failed,
@@ -57,7 +57,7 @@ pub enum First {
 }
 
 // How many words of an item are copied, and the address of the next one.
-#[derive(Drop)]
+#[derive(Clone, Copy)]
 struct Run {
     at: u64,
     done: usize,

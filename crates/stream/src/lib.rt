@@ -15,7 +15,7 @@ use routing::{Ask, COPIES, Play, settled};
 use spool::{ITEM, STORE};
 
 // What a line of the merger leaves.
-#[derive(Drop)]
+#[derive(Clone, Copy)]
 pub struct Streamed {
     pub play: Play,
     pub merger: Merger,

@@ -9,7 +9,7 @@ use slices::copy_words;
 use std::num::wrapping_add_u64;
 
 // What calls did: how many were refused, and how many words they wrote in all.
-#[derive(Drop)]
+#[derive(Clone, Copy)]
 pub struct Tally {
     pub refused: u64,
     pub words: u64,

@@ -20,7 +20,7 @@ const SAVES: u64 = 40;
 const MOST_SAVES: u64 = 1000000;
 
 // An argument as a number; whether it is one.
-#[derive(Drop)]
+#[derive(Clone, Copy)]
 struct Number {
     ok: bool,
     value: u64,

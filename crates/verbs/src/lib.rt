@@ -22,7 +22,7 @@ pub const BOOKMARK: u64 = 7;
 
 pub const BYTES: u64 = 8;
 
-#[derive(Drop)]
+#[derive(Clone, Copy)]
 pub struct Line {
     pub group: u64,
     pub verb: u64,
