@@ -199,6 +199,11 @@ class Turn:
         s = re.sub(r"([A-Za-z_][\w'-]*)\.ensures((?:\.\d)+)", ensured, s)
         s = re.sub(r"([A-Za-z_][\w'-]*)\.kept\.(\d)", r"\1.auto.\2", s)
 
+        for name, at in re.findall(r"let (\S+) = \S*?([\w'-]+)\.ensures in", s):
+            names = ENSURED.get(bound.get(at, at).split("-")[0], [])
+            if len(names) > 1:
+                s = re.sub(r"(?<![\w.'-])%s((?:\.\d)+)" % re.escape(name), lambda m: name + ensured(re.match(r"(\S+)\.ensures(\S+)", at + ".ensures" + m.group(1)))[len(at) + 8 :], s)
+
         def kept(m):
             names = LENT.get(bound.get(m.group(1), m.group(1)).split("-")[0], [])
             k = int(m.group(2))
@@ -271,7 +276,8 @@ def parts(s):
         elif ch == "," and depth == 1:
             out.append(s[last:k].strip())
             last = k + 1
-    return [*out, s[last:-1].strip()]
+    end = s[last:-1].strip()
+    return [*out, end] if end else out
 
 
 def recorded(s, names):
