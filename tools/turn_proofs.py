@@ -433,6 +433,9 @@ def answers(turn, table, skip):
         if new is None:
             turn.said.append("dropped %s = %s" % (m.group(1), one(body)[:150]))
             continue
+        more = [p for p in it.params[1:] if p != "κs"]
+        if more:
+            body = "λ %s. %s" % (" ".join(more), one(body))
         if one(body) in PLAIN and not it.unfolding:
             continue
         lets, unfolding = turn.lets(it.body)

@@ -48,7 +48,7 @@ put_writes-requires c =
     let k = ready in
     let m = c.args.m.now in
     let n = ap (λ (r : RecordHead). r.count) c.read_record-r.ensures in
-    record { copy_len = simp length-set k.size; n_le_merged_writes = ( (omega (arith, n, k.merged.few), omega (arith, n, k.merged.fits, length_rest m sizes.record_header)), λ i h. rw rest_is (k.merged.keys i (omega (arith, n))), ); by_index =  }
+    record { copy_len = simp length-set k.size; n_le_merged_writes = (omega (arith, n, k.merged.few), omega (arith, n, k.merged.fits, length_rest m sizes.record_header)); by_index = λ i h. rw rest_is (k.merged.keys i (omega (arith, n))) }
 
 pub shape_of-copy : goal.shape_of-copy
 shape_of-copy c = rw (length-set, length-set) at c.put_writes.auto.copy

@@ -19,7 +19,7 @@ loop-i-init c = (search rules, (refl, refl))
 pub put_write-requires : goal.put_write-requires
 put_write-requires c =
     let pre = c.requires in
-    record { copy_len = omega (arith, pre.copy_len); i_lt_merged_writes = ((omega arith, omega (arith, pre.n_le_merged_writes.1)), pre.by_index c.loop-i.i c.loop-i-test.true); i_bound =  }
+    record { copy_len = omega (arith, pre.copy_len); i_lt_merged_writes = (omega arith, omega (arith, pre.n_le_merged_writes.1)); i_bound = pre.by_index c.loop-i.i c.loop-i-test.true }
 
 pub loop-i-preserved : goal.loop-i-preserved
 loop-i-preserved c =

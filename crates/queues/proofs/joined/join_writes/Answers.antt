@@ -36,7 +36,7 @@ copy_writes-at-requires c =
     let loop-test = c.loop-i-test in
     let pre = c.requires in
     let l = c.loop-i in
-    record { queues_len = search rules; i_lt_sites = ((search rules, omega (arith, length_rest l.out l.at, room)), head_fits _ _ _ _ pre.heads_fit loop-test.true); head_fits =  }
+    record { queues_len = search rules; i_lt_sites = (search rules, omega (arith, length_rest l.out l.at, room)); head_fits = head_fits _ _ _ _ pre.heads_fit loop-test.true }
 
 pub overflow_add-at : goal.overflow_add-at
 overflow_add-at c =

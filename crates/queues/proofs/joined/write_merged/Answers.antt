@@ -30,4 +30,4 @@ unfolding merged_words
 returns c =
     let j = c.join_writes-k in
     let w = rw ((front_back _ _ _ _ j.ensures.value j.ensures.out_after).1, j.ensures.value) at c.write_record.ensures in
-    w
+    record { value = w.0; out_after = w.1 }

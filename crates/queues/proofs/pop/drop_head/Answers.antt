@@ -14,12 +14,12 @@ offset_bounds-ws-at c = omega (arith, length-drop sizes.part c.args.ws.now)
 
 pub slice_bounds-fill_words-count : goal.slice_bounds-fill_words-count
 slice_bounds-fill_words-count c =
-    let moved : c.move_up-at.result ≤ length c.move_up-at.new.ws = let d = c.args.ws.now in let n = length-drop sizes.part d in let m = c.move_up-at.ensures in omega (arith, m.0, ap length m.1, length_overlay d (drop sizes.part d) (omega arith)) in
+    let moved : c.move_up-at.result ≤ length c.move_up-at.new.ws = let d = c.args.ws.now in let n = length-drop sizes.part d in let m = c.move_up-at.ensures in omega (arith, m.value, ap length m.ws_after, length_overlay d (drop sizes.part d) (omega arith)) in
     omega (arith, moved)
 
 pub slice_bounds-fill_words-start : goal.slice_bounds-fill_words-start
 slice_bounds-fill_words-start c =
-    let moved : c.move_up-at.result ≤ length c.move_up-at.new.ws = let d = c.args.ws.now in let n = length-drop sizes.part d in let m = c.move_up-at.ensures in omega (arith, m.0, ap length m.1, length_overlay d (drop sizes.part d) (omega arith)) in
+    let moved : c.move_up-at.result ≤ length c.move_up-at.new.ws = let d = c.args.ws.now in let n = length-drop sizes.part d in let m = c.move_up-at.ensures in omega (arith, m.value, ap length m.ws_after, length_overlay d (drop sizes.part d) (omega arith)) in
     omega (arith, moved)
 
 pub returns : goal.returns

@@ -44,7 +44,7 @@ put_writes-requires c =
     let k = ready in
     let m = c.args.m.now in
     let n = ap (λ (r : RecordHead). r.count) c.read_record-r.ensures in
-    record { copy_len = c.set_two.auto.copy ∙ c.requires; n_le_merged_writes = ( (omega (arith, n, k.merged.few), omega (arith, n, k.merged.fits, length_rest m sizes.record_header)), λ i h. rw rest_is (k.merged.keys i (omega (arith, n))), ); by_index =  }
+    record { copy_len = c.set_two.auto.copy ∙ c.requires; n_le_merged_writes = (omega (arith, n, k.merged.few), omega (arith, n, k.merged.fits, length_rest m sizes.record_header)); by_index = λ i h. rw rest_is (k.merged.keys i (omega (arith, n))) }
 
 pub returns : goal.returns
 unfolding replay_of replayed record_writes said_of returned_of
