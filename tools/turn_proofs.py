@@ -182,7 +182,7 @@ class Turn:
             while rest.startswith(".1") and n - k > 2:
                 rest, k = rest[2:], k + 1
             return ".requires.%s%s" % (asked[k + rest.startswith(".1")], rest[2:])
-        for name in [n for n, v in bound.items() if v == "requires"]:
+        for name in [n for n, v in bound.items() if v == "requires" and len(asked) > 1]:
             s = re.sub(r"(?<![\w.'-])%s((?:\.\d)+)" % re.escape(name), lambda m: name + required(m)[9:], s)
         s = re.sub(r"\.requires((?:\.\d)+)", required, s)
 
@@ -324,7 +324,7 @@ def lent(crate):
                     if mine:
                         OWN.add(m.group(1))
                     LENT[m.group(1)] = re.findall(r"(\w+): &mut", m.group(2))
-                    PARAMS[m.group(1)] = re.findall(r"(\w+): ", m.group(2))
+                    PARAMS[m.group(1)] = ["self"] * bool(re.match(r"\s*(&|mut |&mut )?self\b", m.group(2))) + re.findall(r"(\w+): ", m.group(2))
                     REQUIRED[m.group(1)] = re.findall(r"\brequires (\w+) \{", m.group(3))
                     ENSURED[m.group(1)] = re.findall(r"\bensures (\w+) \{", m.group(3))
 
