@@ -5,7 +5,7 @@ use Rattle.std.proofs.Common.{get_or-set_other, inl, inr, ⊎_elim, ◌∙◌, s
 use Rattle.kinds.specs.declared.House.{House}
 use Rattle.kinds.specs.declared.Merger.{Merger}
 use Rattle.kinds.specs.declared.RecordHead.{RecordHead}
-use Rattle.laws.specs.Choice.{by_test, every, every_at, some}
+use Rattle.laws.specs.Choice.{by_test, every, every_at}
 use Rattle.laws.specs.Pair.{precedes_trans, precedes_self}
 use Rattle.laws.specs.Scan.{all_below_lem, all_below_at, all_below, fold_more, fold_below, split_last}
 use Rattle.rules.specs.House.{in_mask}
