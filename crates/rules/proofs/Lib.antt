@@ -1,4 +1,4 @@
--- Laws that rest on a definition which must not change,
+-- Laws of the rules at which must-fail edits of definitions are refused,
 pub mod SearchLaws
 pub mod QueueLaws
 pub mod JoinLaws
