@@ -7,7 +7,7 @@ use native.Mathlib.Omega.{arith}
 use Rattle.laws.specs.Overlay.{behind, length_overlay, length_rest, overlay, overlay_none}
 use Rattle.kinds.specs.Sizes as sizes
 use Rattle.rules.specs.Certify.{installed_list, installed_words}
-use Rattle.rules.specs.CertifyLaws.{installed_more, installed_none, length_installed}
+use Rattle.rules.proofs.CertifyLaws.{installed_more, installed_none, length_installed}
 use Rattle.rules.specs.History.{recall}
 use Rattle.rules.specs.HistoryLaws.{remembered_few}
 use Rattle.lent.specs.Layout.{entry_from, history_of}

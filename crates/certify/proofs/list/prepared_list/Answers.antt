@@ -7,7 +7,7 @@ use native.Mathlib.Omega.{arith}
 use Rattle.laws.specs.Overlay.{behind, length_overlay, length_rest, overlay_none}
 use Rattle.kinds.specs.Sizes as sizes
 use Rattle.rules.specs.Certify.{prepared_list, prepared_words}
-use Rattle.rules.specs.CertifyLaws.{prepared_more, prepared_none}
+use Rattle.rules.proofs.CertifyLaws.{prepared_more, prepared_none}
 use Rattle.rules.specs.Live.{part_at}
 use Rattle.lent.specs.Layout.{sub_from, live_of}
 use Rattle.lent.specs.Seats.{seat_at}

@@ -17,5 +17,9 @@ pub returns-then-is_conflict : goal.returns-then-is_conflict
 unfolding conflicts_at entry_from
 returns-then-is_conflict c = any_below_lem _ _ c.loop-i.i c.loop-i-test.true (rw (eq-eqb _ _ c.if-es-at.true, ← c.is_conflict.ensures, c.if-is_conflict.true))
 
+pub loop-i-preserved : goal.loop-i-preserved
+unfolding conflicts_at entry_from
+loop-i-preserved c = ( omega arith, below_more _ _ c.loop-i.invariant.1 (⊎_elim (λ w. rw (eq-eqb _ _ w.0.taken, ← w.2.ensures, w.3.left)) (λ w. rw (ne_eqb _ _ w.left)) c.if-es-at.branch), )
+
 pub returns : goal.returns
 returns c = any_end _ _ _ c.loop-i-test.false c.loop-i.invariant.1

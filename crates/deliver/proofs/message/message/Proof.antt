@@ -13,7 +13,8 @@ use Rattle.kinds.specs.declared.House.{House}
 use Rattle.kinds.specs.declared.MessageHead.{MessageHead}
 use Rattle.kinds.specs.declared.Site.{Site}
 use Rattle.rules.specs.Deliver.{arrival_code, message_of, next_code, take_kind}
-use Rattle.rules.specs.DispatchLaws.{Checked, Incoming, arrival_valid, checked, incoming, message_refused, message_taken, next_in}
+use Rattle.rules.specs.DispatchLaws.{Checked, Incoming, arrival_valid, checked, message_refused, message_taken, next_in}
+use Rattle.rules.proofs.DispatchLaws.{incoming}
 use Rattle.rules.specs.Live.{place_of}
 use Rattle.rules.specs.Message.{message_entries, message_head, message_ok}
 use Rattle.rules.specs.Valid.{handed_ok}

@@ -13,7 +13,7 @@ use Rattle.rules.specs.Certify.{vote_of}
 use Rattle.rules.specs.Course.{cast_step}
 use Rattle.rules.specs.Effect.{taken_of}
 use Rattle.rules.specs.Join.{joined}
-use Rattle.rules.specs.JoinLaws.{join_whole}
+use Rattle.rules.proofs.JoinLaws.{join_whole}
 use Rattle.rules.specs.Message.{entry_count}
 use Rattle.lent.specs.Lent.{site_of}
 use Rattle.handlers.proofs.Sends.{Written, written}

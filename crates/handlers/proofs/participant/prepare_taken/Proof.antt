@@ -9,7 +9,7 @@ use Rattle.laws.specs.Overlay.{overlay}
 use Rattle.kinds.specs.declared.MessageHead.{MessageHead}
 use Rattle.kinds.specs.declared.Turn.{Turn}
 use Rattle.rules.specs.Certify.{concurrent}
-use Rattle.rules.specs.CertifyLaws.{concurrent_whole}
+use Rattle.rules.proofs.CertifyLaws.{concurrent_whole}
 use Rattle.rules.specs.Course.{prepared_step}
 use Rattle.rules.specs.Effect.{taken_of}
 use Rattle.lent.specs.Lent.{site_of}

@@ -9,7 +9,7 @@ use Rattle.laws.specs.Overlay.{length_rest, overlay, overlay_back, put_part, put
 use Rattle.kinds.specs.Sizes as sizes
 use Rattle.kinds.specs.declared.Site.{Site}
 use Rattle.rules.specs.Certify.{concurrent}
-use Rattle.rules.specs.CertifyLaws.{concurrent_whole}
+use Rattle.rules.proofs.CertifyLaws.{concurrent_whole}
 use Rattle.lent.specs.Lent.{site_of}
 use Rattle.saves.proofs.commit.list_step.Statement.{statement}
 use Rattle.saves.proofs.commit.list_step.Tie as tie

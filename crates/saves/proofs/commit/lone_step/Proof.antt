@@ -11,7 +11,7 @@ use Rattle.kinds.specs.declared.Turn.{Turn}
 use Rattle.rules.specs.Certify.{vote_of}
 use Rattle.rules.specs.Course.{Entries, cast_step}
 use Rattle.rules.specs.Join.{joined}
-use Rattle.rules.specs.JoinLaws.{join_back, length_join}
+use Rattle.rules.proofs.JoinLaws.{join_back, length_join}
 use Rattle.rules.specs.Message.{entry_count}
 use Rattle.lent.specs.Lent.{site_of}
 use Rattle.saves.proofs.commit.lone_step.Statement.{statement}

@@ -4,7 +4,7 @@ use borrow.Author.Tests.{not-false, not-true}
 use mathlib.Core.Path.{◌∙◌, sym}
 use native.Mathlib.Omega.{arith}
 use Rattle.rules.specs.Merger.{due_code}
-use Rattle.rules.specs.MergerLaws.{is_due_lem}
+use Rattle.rules.proofs.MergerLaws.{is_due_lem}
 use Rattle.merger.proofs.heads.Heads.due_code.Goals as goal
 
 pub returns-then-not-is_due : goal.returns-then-not-is_due

@@ -5,7 +5,8 @@ use mathlib.Core.Path.{◌∙◌, ◌≡◌, ap, sym}
 use native.Mathlib.Omega.{arith}
 use Rattle.merger.specs.Order.{code_in, due_of, least_in}
 use Rattle.rules.specs.Merger.{due_code}
-use Rattle.rules.specs.MergerLaws.{due_clear, due_queued, is_due_lem}
+use Rattle.rules.specs.MergerLaws.{due_clear, due_queued}
+use Rattle.rules.proofs.MergerLaws.{is_due_lem}
 use Rattle.merger.proofs.heads.Heads.take_due.Goals as goal
 
 pub returns-then-code-ne0 : goal.returns-then-code-ne0

@@ -12,7 +12,7 @@ use Rattle.rules.specs.House.{in_mask}
 use Rattle.rules.specs.Message.{entry_tx, entry_mask, entry_mark, entry_count, entry_before}
 use Rattle.rules.specs.KeysLaws.{by_order}
 use Rattle.rules.specs.Join.{listed_of, join_tx, join_count, entry_words, join_words, joined}
-use Rattle.rules.specs.JoinLaws.{of_site, of_mark, ascending, complete, count_joined, listed_in, listed_from}
+use Rattle.rules.proofs.JoinLaws.{of_site, of_mark, ascending, complete, count_joined, listed_in, listed_from}
 use Rattle.rules.specs.Certify.{mark_of}
 
 -- Words gathered step by step, each step an entry or nothing.

@@ -15,7 +15,8 @@ use Rattle.rules.specs.House.{coordinator_of, in_mask, is_mask, is_site, is_tx, 
 use Rattle.rules.specs.Merger.{Merging, due_code, due_head, emit_code, emit_due, emit_of, head_at, head_in, heads_of, joined_writes, least_site}
 use Rattle.rules.specs.Merger.{merged_head, merged_words, no_head, part_writes, place_words, pop_merger, pop_queues, queued_part, writes_in}
 use Rattle.rules.specs.MergerClear.{MergerClear, QueuedClear, emit_clear, part_long}
-use Rattle.rules.specs.MergerLaws.{IsDue, LeastOf, Queued, WholeAt, due_clear, due_queued, is_due_lem, least_is, queued_fits, whole_parts}
+use Rattle.rules.specs.MergerLaws.{IsDue, LeastOf, Queued, WholeAt, due_clear, due_queued, least_is, queued_fits, whole_parts}
+use Rattle.rules.proofs.MergerLaws.{is_due_lem}
 use Rattle.rules.specs.MergerWords.{HeadFits, HeadsFit, head_fits, joined_writes_lem, part_writes_lem}
 use Rattle.rules.specs.Record.{GoodMerged, key_ascends, merged_head_ok, merged_ok, merged_write_ok, pair_ok, part_head_ok, part_head_tests}
 use Rattle.rules.specs.Record.{part_ok, part_write_ok, record_head, record_writes, write_key, write_value}

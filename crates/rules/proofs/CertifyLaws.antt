@@ -22,11 +22,11 @@ use Rattle.rules.specs.Keys.{dependent}
 use Rattle.rules.specs.Live.{part_at, is_prepared, is_part_of, place_of, is_held}
 use Rattle.rules.specs.History.{recall, remembered, forgotten, within, recall_place}
 use Rattle.rules.specs.HistoryLaws.{remembered_few}
-use Rattle.rules.specs.JoinLaws.{count_le, count_joined, join_whole}
+use Rattle.rules.proofs.JoinLaws.{count_le, count_joined, join_whole}
 use Rattle.rules.specs.Certify.{mark_of, concurrent_words, prepared_words, installed_words, prepared_list, installed_list, candidates}
 use Rattle.rules.specs.Certify.{concurrent, conflicts_at, conflicts_with, is_recorded, uncertain_of, vote_of}
-use Rattle.rules.specs.EntryLaws.{gathered, Entries, gathered_at, gathered_marks, Holds, Listing, Marks, joined_lists, joined_ascends}
-use Rattle.rules.specs.EntryLaws.{append_left, append_right, append_marks}
+use Rattle.rules.proofs.EntryLaws.{gathered, Entries, gathered_at, gathered_marks, Holds, Listing, Marks, joined_lists, joined_ascends}
+use Rattle.rules.proofs.EntryLaws.{append_left, append_right, append_marks}
 
 -- The candidates.
 

@@ -15,13 +15,13 @@ use Rattle.rules.specs.Message.{entry_tx, entry_mask, entry_mark, entry_count}
 use Rattle.rules.specs.Keys.{dependent}
 use Rattle.rules.specs.Live.{is_prepared}
 use Rattle.rules.specs.History.{recall, remembered, within}
-use Rattle.rules.specs.JoinLaws.{count_joined, of_site, of_mark, listed_from, joined_member}
+use Rattle.rules.proofs.JoinLaws.{count_joined, of_site, of_mark, listed_from, joined_member}
 use Rattle.rules.specs.Certify.{mark_of, concurrent_words, prepared_words, installed_words, prepared_list, installed_list, candidates}
 use Rattle.rules.specs.Certify.{concurrent}
-use Rattle.rules.specs.EntryLaws.{gathered_from, joined_tx, joined_mask, joined_mark, in_digit, digit_in}
+use Rattle.rules.proofs.EntryLaws.{gathered_from, joined_tx, joined_mask, joined_mark, in_digit, digit_in}
 use Rattle.rules.specs.KeysLaws.{by_order}
 use Rattle.rules.specs.Join.{join_tx, join_count}
-use Rattle.rules.specs.CertifyLaws.{prepared_is, prepared_each, prepared_few}
+use Rattle.rules.proofs.CertifyLaws.{prepared_is, prepared_each, prepared_few}
 
 -- another prepared part of transaction t, with participants m and mark d
 pub record OtherPrepared (s : Site) (own t m d : ℕ) : Type 0 where
