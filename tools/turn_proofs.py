@@ -131,7 +131,7 @@ class Turn:
                 t = s
                 for name in self.identity:
                     t = re.sub(r"\(%s %s\)" % (re.escape(name), ATOM), "c", t)
-                    t = re.sub(r"(?<![\w'.-])%s %s" % (re.escape(name), ATOM), "c", t)
+                    t = re.sub(r"(?<![\w'.-])%s (?!in\b)%s" % (re.escape(name), ATOM), "c", t)
                 t = re.sub(r"\.before(?![\w'-])", "", t)
                 t = re.sub(r"\(c\)", "c", t)
                 t = re.sub(r"let (\S+) = c in\s*", lambda m: self.alias(m.group(1)), t)
@@ -152,6 +152,7 @@ class Turn:
         s = re.sub(r"\.t(\d+)(?![\w'-])", lambda m: "." + taken[int(m.group(1)) - 1] if int(m.group(1)) <= len(taken) else m.group(0), s)
         s = re.sub(r"([a-z][\w'-]*)\.last\.(\d)", r"\1.new.\2", s)
         s = s.replace(".well-formed", ".well_formed")
+        s = re.sub(r"sym \(length-map %s _\) ∙ c\.well_formed[.\d]*" % ATOM, "search rules", s)
         s = re.sub(r"\.inv(?![\w'-])", ".invariant", s)
         s = re.sub(r"\.pre(?![\w'-])", ".requires", s)
         s = re.sub(r"((?:if\d*|test))\.taken(?![\w'-])", r"\1.true", s)

@@ -54,8 +54,8 @@ installed_list-m-requires c =
     let few : c.prepared_list-n.result < sizes.live = prepared_below _ _ _ c.requires.low c.prepared_list-n.ensures.long in
     let a = c.args in
     let b = c.part_at-b in
-    let n = few record { early = omega (arith, c.within-seen.ensures, within_remembered a.p.counters.installs b.result.snapshot); room = simp (length-take, length-drop) (omega (arith, c.prepared_list-n.auto.out)); few_own = rw b.ensures (part_few site c.requires.valid a.place c.requires.low); slots = slot_in a.p a.live.now a.history.now c.requires.valid; }
-    
+    let n = few in
+    record { early = omega (arith, c.within-seen.ensures, within_remembered a.p.counters.installs b.result.snapshot); room = simp (length-take, length-drop) (omega (arith, c.prepared_list-n.auto.out)); few_own = rw b.ensures (part_few site c.requires.valid a.place c.requires.low); slots = slot_in a.p a.live.now a.history.now c.requires.valid; }
 
 -- words of the array: room for every candidate
 abbrev room : ℕ

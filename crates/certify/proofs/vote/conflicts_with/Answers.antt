@@ -9,6 +9,7 @@ use Rattle.kinds.specs.Sizes as sizes
 use Rattle.rules.specs.Certify.{conflicts_at}
 use Rattle.lent.specs.Layout.{keys_from, entry_from}
 use Rattle.certify.proofs.vote.conflicts_with.Goals as goal
+use Rattle.certify.proofs.vote.conflicts_with.Goals.{then-es-at+else-is_conflict, else-es-at}
 
 pub loop-i-init : goal.loop-i-init
 loop-i-init c = (search rules, none_none _)
@@ -19,7 +20,10 @@ returns-then-is_conflict c = any_below_lem _ _ c.loop-i.i c.loop-i-test.true (rw
 
 pub loop-i-preserved : goal.loop-i-preserved
 unfolding conflicts_at entry_from
-loop-i-preserved c = ( omega arith, below_more _ _ c.loop-i.invariant.1 (⊎_elim (λ w. rw (eq-eqb _ _ w.0.taken, ← w.2.ensures, w.3.left)) (λ w. rw (ne_eqb _ _ w.left)) c.if-es-at.branch), )
+loop-i-preserved c = ( omega arith, below_more _ _ c.loop-i.invariant.1 (elim c.if-es-at.branch [
+      then-es-at+else-is_conflict w ↦ rw (eq-eqb _ _ w.if-es-at.true, ← w.is_conflict.ensures, w.if-is_conflict.false)
+    | else-es-at w ↦ rw (ne_eqb _ _ w.if-es-at.false)
+    ]), )
 
 pub returns : goal.returns
 returns c = any_end _ _ _ c.loop-i-test.false c.loop-i.invariant.1

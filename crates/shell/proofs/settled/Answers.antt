@@ -13,26 +13,7 @@ use Rattle.lent.specs.Layout.{seat_of, place_words}
 use Rattle.lent.specs.Shape.{Shaped}
 use Rattle.lent.specs.Lent.{site_of, Replied}
 use Rattle.lent.specs.Leaves.{left_settled}
-use Rattle.shell.proofs.settled.Statement.{statement}
-use Rattle.shell.proofs.settled.Tie as tie
-
-seats : (c : tie.Start) → length c.args.p.seats ≡ sizes.live
-seats c = sym (length-map c.args.p.seats _) ∙ c.well-formed.0.1.1.1.1.1.0.1.0.1
-
-seat-of-requires : tie.Need-seat-of-requires
-seat-of-requires c κs = search rules
-
-mul-seat : tie.Need-overflow-mul-seat
-mul-seat c = search rules
-
-element-set-from-seat : tie.Need-element-set-from-seat
-element-set-from-seat c = search rules
-
-put-part-requires : tie.Need-put-part-requires
-put-part-requires c κs = search rules
-
-same_length : tie.Need-same-length
-same_length c = search rules
+use Rattle.shell.proofs.settled.Goals as goal
 
 -- the reply to a step, and the words after it
 replied : (p : Core) (w h : List ℕ) (place : ℕ) (a : Taken) (s : Change) (lent : List ℕ) → a ≡ taken_of s → length p.seats ≡ sizes.live
@@ -54,29 +35,7 @@ unfolding taken_of
 replied p w h place a s lent e n l q b =
     rw e (record { answer = refl; words = refl; left = left_settled p w h place s.turn n l q (rw e at b) })
 
--- where the call begins, seen from the seat
-abbrev counted : tie.After-seat-of → tie.After-c
-counted c = c.before.before.before
-
-abbrev begins : tie.After-seat-of → tie.Start
-begins c = (counted c).before.before.before
-
-returns : tie.Need-returns
-returns c s e h lent =
-    let put = c.before.before in
-    let seat = put.before.before in
-    let start = begins seat in
-    let a = start.args in
-    rw (seat.seat-of.ensures, put.put_part.ensures.1)
-    (replied a.p a.live.now h a.place a.a s lent e (seats start) start.pre.0 start.pre.1 put.put_part.ensures.0)
-
-pub settled-spec : {M : Type 1} → statement M
-settled-spec =
-    tie.close
-    (tie.spec
-    seat-of-requires
-    mul-seat
-    element-set-from-seat
-    put-part-requires
-    same_length
-    returns)
+pub returns : goal.returns
+returns c =
+    let seats : length c.args.p.seats ≡ sizes.live = sym (length-map c.args.p.seats _) ∙ c.well_formed.0.1.1.1.1.1.0.1.0.1 in
+    λ s e h lent. let a = c.args in rw (c.seat_of-seat.ensures, c.put_part.ensures.1) (replied a.p a.live.now h a.place a.a s lent e seats c.requires.0 c.requires.1 c.put_part.ensures.0)
