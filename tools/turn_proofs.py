@@ -489,6 +489,8 @@ def main():
                 f.write("\n".join([*header, *uses, given % (crate, module, "Given"), *inv]) + "\n")
         if any(l.startswith("pub ") and ": goal." in l for l in ans):
             with open(os.path.join(folder, "Answers.antt"), "w") as f:
+                if any(re.search(r"\brules\b", l) for l in ans) and not any("rules}" in u for u in uses):
+                    brought.append("use borrow.Author.Rules.{rules}")
                 f.write("\n".join([*([] if inv else header), *uses, *brought, given % (crate, module, "Goals"), *ans]) + "\n")
         os.remove(os.path.join(folder, "Proof.antt"))
         for s in turn.said:

@@ -4,6 +4,7 @@ use lib.ListN.{length, length-map}
 use Rattle.kinds.specs.Sizes as sizes
 use Rattle.rules.specs.Deliver.{passed}
 use Rattle.lent.specs.Leaves.{left_counted}
+use borrow.Author.Rules.{rules}
 use Rattle.shell.proofs.passed.Goals as goal
 
 pub taken_from-channels-requires : goal.taken_from-channels-requires
@@ -14,5 +15,5 @@ taken_from-channels-requires c =
 pub returns : goal.returns
 unfolding passed
 returns c =
-    let seats : length c.args.p.seats ≡ sizes.live = sym (length-map c.args.p.seats _) ∙ c.well_formed.0.1.1.1.1.1.0.1.0.1 in
+    let seats : length c.args.p.seats ≡ sizes.live = search rules in
     λ w h. rw c.taken_from-channels.ensures (record { answer = refl; words = refl; left = left_counted c.args.p w h c.args.p.counters _ seats })
