@@ -114,7 +114,10 @@ class Turn:
         self.items = its
         self.helpers = {}
         self.identity = set()
+        self.kept = set()
         self.said = []
+        self.places = {norm(old[0]): new for old, new in zip(data["places"], data["places_by_name"])}
+        self.asked = {new[1]: at[1] for new, at in zip(data["needs"], data["asked_at"])}
         for it in its:
             p = it.name and place_type(it.type)
             if p and it.body is not None and len(it.clauses) == 1 and it.params:
@@ -220,15 +223,41 @@ class Turn:
         for name, (it, _) in self.helpers.items():
             if name not in seen and re.search(r"(?<![\w'.-])%s(?![\w'-])" % re.escape(name), text):
                 seen.add(name)
-                self.used(it.body + " " + it.type, seen)
+                if not self.apart(name):
+                    self.used(it.body + " " + it.type, seen)
         return seen
 
-    def lets(self, text):
+    def apart(self, name):
+        """Whether a lemma typed by a place stays a lemma: it opens words of its own."""
+        it, _ = self.helpers[name]
+        return bool(it.unfolding) and norm(place_type(it.type)[1]) in self.places
+
+    def lemma(self, name):
+        it, rest = self.helpers[name]
+        param, place, _ = place_type(it.type)
+        at = self.places[norm(place)]
+        more = it.params[1:]
+        kind_lets, _ = self.lets(rest, at, set())
+        body_lets, unfolding = self.lets(it.body, at, {name})
+        kind = one(" ".join([*kind_lets, self.path(rest, {it.params[0], param})]))
+        out = ["", *it.comment, "%s : (c : %s) → %s" % (name, at, "(%s)" % kind if kind.startswith("let ") else kind)]
+        out += ["unfolding " + " ".join(dict.fromkeys(it.unfolding + unfolding))]
+        body = self.path(it.body, {it.params[0]})
+        out += ["%s =" % " ".join([name, "c", *more]), *body_lets, laid(body)]
+        return out, at
+
+    def lets(self, text, at, done, need=None):
         names = self.used(text, set())
         out, unfolding = [], []
         for name, (it, rest) in self.helpers.items():
-            if name not in names:
+            if name not in names or name in done:
                 continue
+            if self.apart(name):
+                place = self.places[norm(place_type(it.type)[1])]
+                if place == at or need:
+                    self.kept.add(name)
+                    out.append("    let %s = %s %s in" % (name, name, "c" if place == at else "(goal.at.%s c).%s" % (need, place)))
+                    continue
             unfolding += it.unfolding
             p = place_type(it.type)
             kind = self.path(rest, {it.params[0], p[0]})
@@ -439,7 +468,7 @@ def answers(turn, table, skip):
             body = "λ %s. %s" % (" ".join(more), one(body))
         if one(body) in PLAIN and not it.unfolding:
             continue
-        lets, unfolding = turn.lets(it.body)
+        lets, unfolding = turn.lets(it.body, turn.asked.get(new), set(), new)
         unfolding = list(dict.fromkeys(it.unfolding + unfolding))
         out += ["", *it.comment, "pub %s : goal.%s" % (new, new), *["unfolding " + " ".join(unfolding)] * bool(unfolding)]
         if lets:
@@ -448,7 +477,15 @@ def answers(turn, table, skip):
             out += ["%s c =" % new, laid(body)]
         else:
             out += ["%s c = %s" % (new, body.strip())]
-    return out
+    done, lemmas, places = set(), [], set()
+    while turn.kept - done:
+        for name in [n for n in turn.helpers if n in turn.kept and n not in done]:
+            done.add(name)
+            text, at = turn.lemma(name)
+            lemmas = text + lemmas
+            places.add(at)
+    turn.needed = sorted(places)
+    return lemmas + out
 
 
 def main():
@@ -481,6 +518,8 @@ def main():
         both = shared(turn, inv)
         ans = answers(turn, table, both)
         named = [called(it) for it in both]
+        if turn.needed:
+            uses.append("use Rattle.%s.proofs.%s.Goals.{%s}" % (crate, module, ", ".join(turn.needed)))
         inv = [l for it in both for l in public(it)] + inv
         brought = ["use Rattle.%s.proofs.%s.Invariants.{%s}" % (crate, module, ", ".join(named))] if named else []
         given = "use Rattle.%s.proofs.%s.%s as goal"
