@@ -228,9 +228,9 @@ class Turn:
         return seen
 
     def apart(self, name):
-        """Whether a lemma typed by a place stays a lemma: it opens words of its own."""
+        """Whether a lemma typed by a place stays a lemma, and is no word of the answers that use it."""
         it, _ = self.helpers[name]
-        return bool(it.unfolding) and norm(place_type(it.type)[1]) in self.places
+        return (bool(it.unfolding) or not it.abbrev) and norm(place_type(it.type)[1]) in self.places
 
     def lemma(self, name):
         it, rest = self.helpers[name]
@@ -241,7 +241,8 @@ class Turn:
         body_lets, unfolding = self.lets(it.body, at, {name})
         kind = one(" ".join([*kind_lets, self.path(rest, {it.params[0], param})]))
         out = ["", *it.comment, "%s : (c : %s) → %s" % (name, at, "(%s)" % kind if kind.startswith("let ") else kind)]
-        out += ["unfolding " + " ".join(dict.fromkeys(it.unfolding + unfolding))]
+        opened = list(dict.fromkeys(it.unfolding + unfolding))
+        out += ["unfolding " + " ".join(opened)] * bool(opened)
         body = self.path(it.body, {it.params[0]})
         out += ["%s =" % " ".join([name, "c", *more]), *body_lets, laid(body)]
         return out, at
@@ -444,7 +445,10 @@ def answers(turn, table, skip):
         if not it.name:
             out += ["", *it.comment, *it.lines]
             continue
-        if re.match(r"tie\.(invariant|decreases)", it.type) or it.name in turn.helpers or it.name in turn.identity:
+        if it.name in turn.helpers:
+            out.append("@" + it.name)
+            continue
+        if re.match(r"tie\.(invariant|decreases)", it.type) or it.name in turn.identity:
             continue
         if "statement M" in it.type:
             continue
@@ -477,15 +481,13 @@ def answers(turn, table, skip):
             out += ["%s c =" % new, laid(body)]
         else:
             out += ["%s c = %s" % (new, body.strip())]
-    done, lemmas, places = set(), [], set()
-    while turn.kept - done:
-        for name in [n for n in turn.helpers if n in turn.kept and n not in done]:
-            done.add(name)
-            text, at = turn.lemma(name)
-            lemmas = text + lemmas
+    lemmas, places = {}, set()
+    while turn.kept - set(lemmas):
+        for name in turn.kept - set(lemmas):
+            lemmas[name], at = turn.lemma(name)
             places.add(at)
     turn.needed = sorted(places)
-    return lemmas + out
+    return [l for x in out for l in (lemmas.get(x[1:], []) if x.startswith("@") else [x])]
 
 
 def main():

@@ -19,7 +19,19 @@ use Rattle.rules.specs.History.{is_forgotten}
 use Rattle.lent.specs.Lent.{site_of}
 use Rattle.handlers.specs.Held.{arrives, settles}
 use Rattle.handlers.proofs.Sends.{can_reply}
+use Rattle.handlers.proofs.participant.take_prepare.Goals.{After-reply_code-code}
 use Rattle.handlers.proofs.participant.take_prepare.Goals as goal
+
+turned : (c : After-reply_code-code) → (let handed : Site = let a = c.args in site_of a.p a.live.now a.history.now in     let part : Turn = raise (arrived handed c.args.place c.args.h.from) c.args.h.clock in c.raise-t.result ≡ part)
+turned c =
+    let a = c.args in
+    c.raise-t.ensures ∙ ap (λ (x : Turn). raise x a.h.clock) (c.arrived-first.ensures a.history.now)
+
+-- the first cause against it
+first : (c : After-reply_code-code) → (let handed : Site = let a = c.args in site_of a.p a.live.now a.history.now in     let part : Turn = raise (arrived handed c.args.place c.args.h.from) c.args.h.clock in c.reply_code-code.result ≡ reply_code (eqb part.sub.course.stage stage.active) (channel_spent c.args.p.channels c.args.h.from))
+first c =
+    let turned = turned c in
+    rw (← turned, ← c.channel_spent-spent.ensures) c.reply_code-code.ensures
 
 -- the step, of what the callees hand back
 abbrev step : Site → MessageHead → ℕ → Turn → Change
@@ -39,20 +51,15 @@ channel_spent-spent-requires c =
 pub returns-then-code-ne0 : goal.returns-then-code-ne0
 unfolding take_prepare
 returns-then-code-ne0 c =
-    let handed : Site = let a = c.args in site_of a.p a.live.now a.history.now in
-    let part : Turn = raise (arrived handed c.args.place c.args.h.from) c.args.h.clock in
-    let turned : c.raise-t.result ≡ part = let a = c.args in c.raise-t.ensures ∙ ap (λ (x : Turn). raise x a.h.clock) (c.arrived-first.ensures a.history.now) in
-    let first : c.reply_code-code.result ≡ reply_code (eqb part.sub.course.stage stage.active) (channel_spent c.args.p.channels c.args.h.from) = rw (← turned, ← c.channel_spent-spent.ensures) c.reply_code-code.ensures in
+    let first = first (goal.at.returns-then-code-ne0 c).After-reply_code-code in
     let n = ne_eqb c.reply_code-code.result 0 c.if-code-ne0.true in
     record { replied = rw (← first, n) (c.refused.ensures _ _ []); out_after = rw (← first, n) (overlay_none c.args.out.now) }
 
 pub prepare_taken-a-requires : goal.prepare_taken-a-requires
 unfolding raise arrived
 prepare_taken-a-requires c =
-    let handed : Site = let a = c.args in site_of a.p a.live.now a.history.now in
-    let part : Turn = raise (arrived handed c.args.place c.args.h.from) c.args.h.clock in
-    let turned : c.raise-t.result ≡ part = let a = c.args in c.raise-t.ensures ∙ ap (λ (x : Turn). raise x a.h.clock) (c.arrived-first.ensures a.history.now) in
-    let first : c.reply_code-code.result ≡ reply_code (eqb part.sub.course.stage stage.active) (channel_spent c.args.p.channels c.args.h.from) = rw (← turned, ← c.channel_spent-spent.ensures) c.reply_code-code.ensures in
+    let turned = turned (goal.at.prepare_taken-a-requires c).After-reply_code-code in
+    let first = first (goal.at.prepare_taken-a-requires c).After-reply_code-code in
     let pre = c.requires in
     let held = pre.0 in
     let r = reply_clear _ _ (sym first ∙ c.if-code-ne0.false) in
@@ -66,8 +73,8 @@ unfolding take_prepare
 returns c =
     let handed : Site = let a = c.args in site_of a.p a.live.now a.history.now in
     let part : Turn = raise (arrived handed c.args.place c.args.h.from) c.args.h.clock in
-    let turned : c.raise-t.result ≡ part = let a = c.args in c.raise-t.ensures ∙ ap (λ (x : Turn). raise x a.h.clock) (c.arrived-first.ensures a.history.now) in
-    let first : c.reply_code-code.result ≡ reply_code (eqb part.sub.course.stage stage.active) (channel_spent c.args.p.channels c.args.h.from) = rw (← turned, ← c.channel_spent-spent.ensures) c.reply_code-code.ensures in
+    let turned = turned (goal.at.returns c).After-reply_code-code in
+    let first = first (goal.at.returns c).After-reply_code-code in
     let a = c.args in
     let z = eq-eqb c.reply_code-code.result 0 c.if-code-ne0.false in
     let change = step handed a.h a.place part in
