@@ -1,4 +1,5 @@
 // What the two programs share: the file that an argument names, the end of the output, and what is said where either fails.
+#![tactic(auto)]
 ghost use Rattle.io.specs.Counts.{IsPrefixLen};
 
 use libc::STDERR_FILENO;

@@ -1,4 +1,5 @@
 // The program `house` (H1 to H20): plays the script on standard input, or each file that is named as a house of its own.
+#![tactic(auto)]
 mod run;
 
 use files::{fail, finished, open_argument, reported};

@@ -1,5 +1,6 @@
 // The lines of a probe that no site obeys: those of the merger and the copies, the conversions, records to bytes, those of the words
 // in hand and of the lengths lent.
+#![tactic(auto)]
 ghost use Rattle.std.specs.Prelude.{◌<◌};
 ghost use Rattle.kinds.specs.Sizes as sizes;
 

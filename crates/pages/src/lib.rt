@@ -1,4 +1,5 @@
 // A line's outcome in words (H1 to H20 and Q12.8), gathered in a page.
+#![tactic(auto)]
 mod text;
 
 ghost use Rattle.std.specs.Prelude.{◌≡◌, ◌+◌, ◌*◌, ◌≤◌, length};

@@ -1,4 +1,5 @@
 // The program `probe`: obeys a probe from standard input, or each file that is named as one of its own, over the store's calls.
+#![tactic(auto)]
 mod run;
 
 use files::{finished, open_argument, reported};

@@ -1,4 +1,5 @@
 // What stands around a call: a line is read and what it hands in fetched; what the call wrote is kept, and its outcome printed.
+#![tactic(auto)]
 pub mod open;
 mod post;
 pub mod route;

@@ -1,6 +1,7 @@
 // Queues of messages and records, in any number. An item is some words, of which the first is their count. Items lie in blocks that
 // are linked by their last word; a block whose items are all gone is used anew. What does not fit into the lent store's slots is
 // kept in a file with no name, so a house with little under way makes no call of the system.
+#![tactic(auto)]
 mod blocks;
 mod bytes;
 mod file;

@@ -1,6 +1,7 @@
 // The program `timing STEP COUNT`: plays saves, then makes the call of a step of the next one again and again, so that its time can
 // be taken from outside. It prints how many words the calls wrote and how many were refused. A third argument is how many saves come
 // before.
+#![tactic(auto)]
 mod again;
 mod worst;
 
