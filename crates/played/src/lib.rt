@@ -1,5 +1,8 @@
 // Demand 3 speaks of lists that there are: each script is a lawful list, its calls answer what it tells, and the copies hold what is said
 // here.
+
+#![tactic(auto)]
+
 ghost use Rattle.std.specs.Prelude.{◌≡◌, ℕ};
 ghost use Rattle.kinds.specs.declared.Answer.TheVariants.{Standing};
 ghost use Rattle.rules.specs.Copy.{value_of};

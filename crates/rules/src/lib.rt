@@ -1,4 +1,7 @@
 // What a reader must believe: the requirements as definitions (specs), and what holds of these very definitions after any list of calls.
+
+#![tactic(auto)]
+
 ghost use Rattle.rules.specs.Claim.{Demand3};
 ghost use Rattle.rules.specs.Progress.{MessagesProgress, RecordsProgress};
 ghost use Rattle.rules.specs.Possible.{Possible};

@@ -35,12 +35,14 @@ pub record Tells (house : House) (s t : ℕ) (old new : Keys) (fs : List Fact) :
 
 is_wrote : {u t k j n : ℕ} {x v : Value} → Member (book.wrote u k x) (book.used t n ∷ book.wrote t j v ∷ []) → (u ≡ t) × (k ≡ j)
 is_wrote (there here) = (refl, refl)
+is_wrote (there (there i)) = elim i [ ]
 
 none_wrote : {u t k n : ℕ} {x : Value} → Member (book.wrote u k x) (book.used t n ∷ []) → ⊥
 none_wrote (there i) = none_is i
 
 is_used : {u t k j : ℕ} → Member (book.used u k) (book.used t j ∷ []) → (u ≡ t) × (k ≡ j)
 is_used here = (refl, refl)
+is_used (there i) = elim i [ ]
 
 is_used_wrote : {u t k j n : ℕ} {v : Value} → Member (book.used u k) (book.used t j ∷ book.wrote t n v ∷ []) → (u ≡ t) × (k ≡ j)
 is_used_wrote here = (refl, refl)

@@ -11,7 +11,7 @@ use Rattle.kinds.specs.declared.Keys.{Keys}
 use Rattle.kinds.specs.State.{no_keys}
 use Rattle.rules.specs.KeysLaws.{none_written}
 use Rattle.rules.specs.Keys.{wrote_key, wrote_value}
-use Rattle.rules.specs.World.{Member, here}
+use Rattle.rules.specs.World.{Member, here, there}
 use Rattle.rules.specs.Book as book
 use Rattle.rules.specs.Book.{Fact}
 use Rattle.rules.specs.Claim.{Before, LastWrite}
@@ -27,6 +27,7 @@ use Rattle.rules.proofs.Book.BookKept.{commits_kept, installs_kept}
 -- the one fact told
 is_began : {j u s t : ℕ} → Member (book.began j u) (book.began s t ∷ []) → (j ≡ s) × (u ≡ t)
 is_began here = (refl, refl)
+is_began (there i) = elim i [ ]
 
 -- t's part begins at s, where none had begun
 pub record BeganAs (p q : Protocol) (s t : ℕ) : Type 0 where

@@ -12,7 +12,7 @@ use Rattle.laws.specs.Choice.{by_same}
 use Rattle.kinds.specs.declared.Entry.{Entry}
 use Rattle.kinds.specs.State.{past_entry}
 use Rattle.rules.specs.House.{coordinator_of}
-use Rattle.rules.specs.World.{Member, here, upd}
+use Rattle.rules.specs.World.{Member, here, there, upd}
 use Rattle.rules.specs.Book as book
 use Rattle.rules.specs.Book.{Fact}
 use Rattle.rules.specs.Claim.{Before}
@@ -38,6 +38,7 @@ pub record DecidedAs (p q : Protocol) (t n : ℕ) : Type 0 where
 
 is_committed : {u m d t n c : ℕ} → Member (book.committed u m d) (book.committed t n c ∷ []) → (u ≡ t) × (m ≡ n) × (d ≡ c)
 is_committed here = (refl, refl, refl)
+is_committed (there i) = elim i [ ]
 
 module _ {house : House} {b : List Fact} {p q : Protocol} {t n : ℕ} (c : DecidedAs p q t n) (i : Booked house b p) where
   abbrev told : List Fact
@@ -86,6 +87,7 @@ pub record InstalledAs (p q : Protocol) (s : ℕ) (e : Entry) : Type 0 where
 
 is_installed : {j m d s n c : ℕ} → Member (book.installed j m d) (book.installed s n c ∷ []) → (j ≡ s) × (m ≡ n) × (d ≡ c)
 is_installed here = (refl, refl, refl)
+is_installed (there i) = elim i [ ]
 
 -- the m-th of a list of installs has this pair
 abbrev PairIn : List Entry → ℕ → ℕ → ℕ → Type 0

@@ -139,6 +139,7 @@ all_take n l h = all_left (take n l) (drop n l) (rw (take-append-drop n l) h)
 
 -- and each that is there
 pub all_is : {A : Type 0} {P : A → Type 0} {a : A} {l : List A} → All P l → Member a l → P a
+all_is a_nil i = elim i [ ]
 all_is (a_cons p ps) here = p
 all_is (a_cons p ps) (there i) = all_is ps i
 

@@ -33,8 +33,10 @@ module _ {t r : ℕ} {c : Course} {n : ℕ} {d h : Bool} {g : ℕ} where
   cert_held es (asked m w a y) = y
   cert_held es (overtaken m b e y) = y
 
-  commit_held : {f b : List Msg} (k : ℕ) → Phase t r c n d h g (m_commit t k ∷ f) b → g ≡ stage.queued
+  commit_held : {f b : List Msg} {u : ℕ} (k : ℕ) → Phase t r c n d h g (m_commit u k ∷ f) b → g ≡ stage.queued
   commit_held k (deciding j l e) = e
+  commit_held k (asked _ _ a _) = elim a [ ]
+  commit_held k (overtaken _ _ _ y) = elim y [ ]
 
   -- back: the coordinator waits for it, or has aborted
   waits_back : {f b : List Msg} (m : Msg) → (d ≡ true → ⊥) → Phase t r c n d h g f (m ∷ b) → Waits r c × RepliedAt c.stage h g m

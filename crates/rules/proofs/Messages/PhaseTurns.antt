@@ -21,12 +21,22 @@ asks_round : (k : ℕ) (m : Msg) → AskedAt k m → InRound k
 asks_round k (m_join t d) a = omega arith
 asks_round k (m_prepare t n w) a = omega arith
 asks_round k (m_cert t es) a = omega arith
+asks_round k (m_joined t v) a = elim a [ ]
+asks_round k (m_conc t es) a = elim a [ ]
+asks_round k (m_vote t n v) a = elim a [ ]
+asks_round k (m_commit t n) a = elim a [ ]
+asks_round k (m_abort t) a = elim a [ ]
 
 replies_round : (k : ℕ) (h : Bool) (g : ℕ) (m : Msg) → RepliedAt k h g m → InRound k
 replies_round k h g (m_joined t v) a = omega (arith, a.0)
 replies_round k h g (m_conc t es) a = omega (arith, a.0)
 replies_round k h g (m_vote t n v) (inl a) = omega (arith, a.0)
 replies_round k h g (m_vote t n v) (inr a) = omega (arith, a.0)
+replies_round k h g (m_join t d) a = elim a [ ]
+replies_round k h g (m_prepare t n w) a = elim a [ ]
+replies_round k h g (m_cert t es) a = elim a [ ]
+replies_round k h g (m_commit t n) a = elim a [ ]
+replies_round k h g (m_abort t) a = elim a [ ]
 
 -- outside a round nothing is agreed on
 pub no_round : (k : ℕ) (h : Bool) (g : ℕ) → (InRound k → ⊥) → Agrees k h g
@@ -37,12 +47,22 @@ ready_left : (g k : ℕ) (m : Msg) → g ≡ stage.decided → Ready g m → Rea
 ready_left g k (m_join t d) e y = tt
 ready_left g k (m_prepare t n w) e y = absurd (omega arith)
 ready_left g k (m_cert t es) e y = absurd (omega arith)
+ready_left g k (m_joined t v) e y = elim y [ ]
+ready_left g k (m_conc t es) e y = elim y [ ]
+ready_left g k (m_vote t n v) e y = elim y [ ]
+ready_left g k (m_commit t n) e y = elim y [ ]
+ready_left g k (m_abort t) e y = elim y [ ]
 
 replies_left : (j : ℕ) (h : Bool) (g k : ℕ) (m : Msg) → g ≡ stage.decided → RepliedAt j h g m → RepliedAt j h k m
 replies_left j h g k (m_joined t v) e (a, z) = (a, λ y. absurd (omega (arith, z y)))
 replies_left j h g k (m_conc t es) e (a, z) = absurd (omega arith)
 replies_left j h g k (m_vote t n v) e (inl (a, z)) = inl (a, λ y. absurd (omega (arith, z y)))
 replies_left j h g k (m_vote t n v) e (inr a) = inr a
+replies_left j h g k (m_join t d) e a = elim a [ ]
+replies_left j h g k (m_prepare t n w) e a = elim a [ ]
+replies_left j h g k (m_cert t es) e a = elim a [ ]
+replies_left j h g k (m_commit t n) e a = elim a [ ]
+replies_left j h g k (m_abort t) e a = elim a [ ]
 
 module _ {t r : ℕ} {c : Course} {n : ℕ} {d h : Bool} {g : ℕ} where
   -- The participant takes the question, and replies.
@@ -81,12 +101,16 @@ module _ {t r : ℕ} {c : Course} {n : ℕ} {d h : Bool} {g : ℕ} where
   rejects_on u v es z (overtaken m b e y) = aborting _ e
 
   -- COMMIT and ABORT have no reply.
-  pub commits_on : {f b : List Msg} (k : ℕ) → (0 < n → InRound c.stage → ⊥) → Phase t r c n d h g (m_commit t k ∷ f) b
+  pub commits_on : {f b : List Msg} {u : ℕ} (k : ℕ) → (0 < n → InRound c.stage → ⊥) → Phase t r c n d h g (m_commit u k ∷ f) b
       → Phase t r c n d h stage.decided f b
   commits_on k z (deciding j l e) = idle (λ x. no_round _ _ _ (z l))
+  commits_on k z (asked _ _ a _) = elim a [ ]
+  commits_on k z (overtaken _ _ _ y) = elim y [ ]
 
-  pub aborts_on : {f b : List Msg} (k : ℕ) → Phase t r c n d h g (m_abort t ∷ f) b → Phase t r c n d h k f b
+  pub aborts_on : {f b : List Msg} {u : ℕ} (k : ℕ) → Phase t r c n d h g (m_abort u ∷ f) b → Phase t r c n d h k f b
   aborts_on k (aborting b e) = aborted b e
+  aborts_on k (asked _ _ a _) = elim a [ ]
+  aborts_on k (overtaken _ _ _ y) = elim y [ ]
 
   -- A message passed by, at the participant and at the coordinator.
   pub passes_ahead : {f b : List Msg} (m : Msg) → (0 < n → InRound c.stage → ⊥) → Phase t r c n d h g (m ∷ f) b → Phase t r c n d h g f b

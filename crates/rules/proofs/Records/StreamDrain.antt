@@ -76,5 +76,5 @@ module _ {house : House} {p : Protocol} {m : Merger} (inv : Invariant house p) (
       where
         go : AtStage p c t stage.decided ⊎ Installed p c t → Out m t ⊎ HeadUpTo p m t c
         go (inl x) =
-            absurd (omega (arith, (i.source c).ends, end_below 0 (all_take (m.took c) (p.log c) (inv.order.decided c t x)) committed))
+            absurd (omega (arith, (i.source c).ends, end_below _ 0 (all_take (m.took c) (p.log c) (inv.order.decided c t x)) committed))
         go (inr (j, (l, e))) = ⊎_elim (λ x. inl (rw e at x)) (λ x. inr (queued_there j l e x k)) (not_gone inv i c j site l)

@@ -58,10 +58,10 @@ rank_append k [] m = refl
 rank_append k (r_part e ∷ l) m = rank_append (rank_of e) l m
 rank_append k (r_state n ∷ l) m = rank_append k l m
 
-rank_below : {n c : ℕ} (k : ℕ) {l : List Rec} → All (RecBelow n c) l → k < rank n c → end_rank k l < rank n c
-rank_below k a_nil h = h
-rank_below k (a_cons {x = r_part e} p ps) h = rank_below (rank_of e) ps p
-rank_below k (a_cons {x = r_state i} p ps) h = rank_below k ps h
+rank_below : {n : ℕ} (c k : ℕ) {l : List Rec} → All (RecBelow n c) l → k < rank n c → end_rank k l < rank n c
+rank_below c k a_nil h = h
+rank_below c k (a_cons {x = r_part e} p ps) h = rank_below c (rank_of e) ps p
+rank_below c k (a_cons {x = r_state i} p ps) h = rank_below c k ps h
 
 lasts_merged : {house : House} {p : Protocol} {m n : Merger} → Streamed house p m → Merging house p m n → Lasts p m → Lasts p n
 unfolding upd
@@ -106,7 +106,7 @@ module _ {house : House} {p : Protocol} {m : Merger} (inv : Invariant house p) (
       let n : 0 < e.number = rw r.number r.committed in
       let b : All (StandsBefore (r_part e)) (take (m.took s) (p.log s)) =
       rw q at (stands_before [] (p.log s) (m.took s) (inv.order.ascends s) h) in
-      (omega (arith, f s, rank_below 0 b (omega arith)), omega (arith, (i.source s).ends, end_below 0 b n))
+      (omega (arith, f s, rank_below _ 0 b (omega arith)), omega (arith, (i.source s).ends, end_below _ 0 b n))
 
   pub next_state : (n : ℕ) → get_or (p.log s) (m.took s) (r_state 0) ≡ r_state n → m.state s ≤ n
   next_state n q =

@@ -170,6 +170,7 @@ posted_no_record post ws p e k = message_shape_lem p.from p.to (p.place + 1) _ (
 
 -- What is in a list of words of things.
 pub is_map : {A B : Type 0} (f : A → B) {b : B} (l : List A) → Member b (map f l) → (a : A) × (b ≡ f a)
+is_map f [] i = elim i [ ]
 is_map f (x ∷ l) here = (x, refl)
 is_map f (x ∷ l) (there i) = is_map f l i
 

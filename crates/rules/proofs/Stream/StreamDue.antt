@@ -27,10 +27,10 @@ all_parts (a_cons {x = r_part e} p ps) (suc i) h = all_parts ps i (omega arith)
 all_parts (a_cons {x = r_state n} p ps) i h = all_parts ps i h
 
 -- the last state number is bounded as all are
-pub end_below : {n c : ℕ} (k : ℕ) {l : List Rec} → All (RecBelow n c) l → k < n → end_state k l < n
-end_below k a_nil h = h
-end_below k (a_cons {x = r_part e} p ps) h = end_below k ps h
-end_below k (a_cons {x = r_state i} p ps) h = end_below i ps p
+pub end_below : {n : ℕ} (c k : ℕ) {l : List Rec} → All (RecBelow n c) l → k < n → end_state k l < n
+end_below c k a_nil h = h
+end_below c k (a_cons {x = r_part e} p ps) h = end_below c k ps h
+end_below c k (a_cons {x = r_state i} p ps) h = end_below c i ps p
 
 pub end_low : {n : ℕ} (k : ℕ) {l : List Rec} → All (RecLow n) l → k ≤ n → end_state k l ≤ n
 end_low k a_nil h = h
@@ -91,7 +91,7 @@ module _ {house : House} (few : house.sites ≤ 8) {p : Protocol} {m : Merger} (
       due_below n c z a = go (m.queue s) refl due
         where
           go : (q : List Entry) → m.queue s ≡ q → DueAt g (m.state s) q → rank_of g < rank n c
-          go [] e d = let k = end_below 0 (all_take (m.took s) (p.log s) a) z in omega (arith, (i.source s).ends)
+          go [] e d = let k = end_below c 0 (all_take (m.took s) (p.log s) a) z in omega (arith, (i.source s).ends)
           go (x ∷ q) e d =
               let (l, y) = head_at_lem inv i s x q site e in
               let k : rank_of x < rank n c = rw y at (all_parts a (length (gone inv i s)) l) in
@@ -116,7 +116,7 @@ module _ {house : House} (few : house.sites ≤ 8) {p : Protocol} {m : Merger} (
               let o : Ascending t r = ascending_behind [] t r (rw (take-append-drop (m.took s) (p.log s)) (inv.order.ascends s)) in
               let y : All (RecBelow (at p s j).number (coordinator_of (at p s j).tx)) t = rw z at (part_above t r o k v) in
               let n : 0 < (at p s j).number = let b = real_at inv s j l in omega (arith, b.number, b.committed) in
-              inl (omega (arith, (i.source s).ends, end_below 0 y n))
+              inl (omega (arith, (i.source s).ends, end_below _ 0 y n))
           go (x ∷ q) f d =
               let (n, b) = head_at_lem inv i s x q site f in
               ⊎_elim

@@ -46,10 +46,9 @@ use Rattle.said.specs.Said.{said_of}
 use Rattle.points.specs.States.{queued, queue_of, queueing, wrote, read, installed, versions, merging, head_words, first_record}
 use Rattle.points.specs.Points.{numbers_of, points, PointsHold}
 use lib.Count.{ones, ones_in}
-use Rattle.points.proofs.points_hold.Statement.{statement}
-use Rattle.points.proofs.points_hold.Tie as tie
+use Rattle.points.proofs.points_hold.Goals as goal
 
-returns : tie.Need-returns
+pub returns : goal.returns
 unfolding first_below all_below any_below fold_below precedes ones_below overlay put_at no_keys no_sub no_entry count_ok table_ok rest_ok
     house_ok even_table is_site home_of is_key tx_of coordinator_of serial_of is_tx mask_of in_mask is_mask participants replies_wanted whole_house
     is_desk write_limit value_words value_at put_value fits values_fit entry_offset message_words
@@ -73,6 +72,3 @@ unfolding first_below all_below any_below fold_below precedes ones_below overlay
     value_code value_of reader_replay_code reader_replay_of standing_words reader_value_code reader_value_of
     record_bytes_code record_bytes_of first_record
 returns c = refl
-
-pub points-hold-spec : {M : Type 1} → statement M
-points-hold-spec = tie.close (tie.spec returns)

@@ -3,12 +3,8 @@ use mathlib.Core.Path.{refl}
 use Rattle.played.specs.Second.{second_script, second_calls}
 use Rattle.played.proofs.Open.{Open}
 use Rattle.played.proofs.Plays.{second_lawful, second_answers, second_mail_lem, second_book_lem}
-use Rattle.played.proofs.second_script_plays.Statement.{statement}
-use Rattle.played.proofs.second_script_plays.Tie as tie
+use Rattle.played.proofs.second_script_plays.Goals as goal
 
-returns : tie.Need-returns
+pub returns : goal.returns
 unfolding Open second_calls second_script
 returns c = (second_lawful, second_answers, second_mail_lem, second_book_lem, refl, refl, refl, refl, refl)
-
-pub second-script-plays-spec : {M : Type 1} → statement M
-second-script-plays-spec = tie.close (tie.spec returns)
