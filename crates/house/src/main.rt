@@ -1,5 +1,6 @@
 // The program `house` (H1 to H20): plays the script on standard input, or each file that is named as a house of its own.
 #![tactic(auto)]
+
 mod run;
 
 use files::{NAME, arg_count, fail, finished, open_argument, reported, say};

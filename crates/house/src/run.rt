@@ -34,7 +34,13 @@ fn unopened(play: Play) -> Prelude {
 }
 
 // What a line before an accepted `sites` leaves. A refused `sites` leaves the next one possible.
-fn opened(d: Play, s: Place, words: &[u64; WORDS], output: &mut Output, page: &mut [u8; PAGE]) -> Prelude {
+fn opened(
+    d: Play,
+    s: Place,
+    words: &[u64; WORDS],
+    output: &mut Output,
+    page: &mut [u8; PAGE],
+) -> Prelude {
     let c = lines::told(s, words);
     if let Command::Sites(n, given) = c {
         let keys = lines::table(s, words);
@@ -52,7 +58,13 @@ fn opened(d: Play, s: Place, words: &[u64; WORDS], output: &mut Output, page: &m
     unopened(answered(d, output, page, Answer::Refused(MALFORMED)))
 }
 
-fn opening(d: Play, from: &mut Source, text: &mut [u8; TEXT], output: &mut Output, page: &mut [u8; PAGE]) -> Prelude {
+fn opening(
+    d: Play,
+    from: &mut Source,
+    text: &mut [u8; TEXT],
+    output: &mut Output,
+    page: &mut [u8; PAGE],
+) -> Prelude {
     let s = shown(d, output, page);
     if s.state != LINE {
         return unopened(s);
@@ -72,7 +84,12 @@ fn opening(d: Play, from: &mut Source, text: &mut [u8; TEXT], output: &mut Outpu
 }
 
 // Reads up to an accepted `sites`.
-fn until_sites(from: &mut Source, text: &mut [u8; TEXT], output: &mut Output, page: &mut [u8; PAGE]) -> Prelude {
+fn until_sites(
+    from: &mut Source,
+    text: &mut [u8; TEXT],
+    output: &mut Output,
+    page: &mut [u8; PAGE],
+) -> Prelude {
     let mut o = unopened(Play {
         sites: 0,
         input: Input { at: 0, end: 0 },
@@ -194,7 +211,13 @@ fn rest(
 }
 
 // Plays the script that is read, with what is under way beyond memory in the file of `spare`.
-pub fn play(from: &mut Source, spare: &mut Spare, text: &mut [u8; TEXT], output: &mut Output, page: &mut [u8; PAGE]) -> Play {
+pub fn play(
+    from: &mut Source,
+    spare: &mut Spare,
+    text: &mut [u8; TEXT],
+    output: &mut Output,
+    page: &mut [u8; PAGE],
+) -> Play {
     let o = until_sites(from, text, output, page);
     let d = o.play;
     let house = o.house;

@@ -1,6 +1,7 @@
 // The lines of a probe that no site obeys: those of the merger and the copies, the conversions, records to bytes, those of the words
 // in hand and of the lengths lent.
 #![tactic(auto)]
+
 ghost use Rattle.std.specs.Prelude.{◌<◌};
 ghost use Rattle.kinds.specs.Sizes as sizes;
 
@@ -100,7 +101,13 @@ fn to_merger(
     }
 }
 
-fn to_copy(w: Work, hand: &[u64], copies: &mut [u64], output: &mut Output, page: &mut [u8; PAGE]) -> Work {
+fn to_copy(
+    w: Work,
+    hand: &[u64],
+    copies: &mut [u64],
+    output: &mut Output,
+    page: &mut [u8; PAGE],
+) -> Work {
     let l = w.line;
     let lent = w.lent;
     let d = at_copy(l, lent, front(hand, w.held), copies);
@@ -108,7 +115,13 @@ fn to_copy(w: Work, hand: &[u64], copies: &mut [u64], output: &mut Output, page:
 }
 
 // A run is lent as many words as its line says, of those that the outgoing buffer has.
-fn to_bookmarks(w: Work, hand: &[u64], out: &mut [u64], output: &mut Output, page: &mut [u8; PAGE]) -> Work {
+fn to_bookmarks(
+    w: Work,
+    hand: &[u64],
+    out: &mut [u64],
+    output: &mut Output,
+    page: &mut [u8; PAGE],
+) -> Work {
     let l = w.line;
     let d = at_bookmarks(l, front(hand, w.held), front_mut(out, room_of(l)));
     told_of(w, output, page, d)
@@ -121,7 +134,13 @@ fn to_bytes(w: Work, hand: &[u64], output: &mut Output, page: &mut [u8; PAGE]) -
     told_of(w, output, page, d)
 }
 
-fn to_hand(w: Work, hand: &mut [u64], store: &[u64; STORE], output: &mut Output, page: &mut [u8; PAGE]) -> Work {
+fn to_hand(
+    w: Work,
+    hand: &mut [u64],
+    store: &[u64; STORE],
+    output: &mut Output,
+    page: &mut [u8; PAGE],
+) -> Work {
     let l = w.line;
     let h = shaped(l, hand, w.held, store, w.kept);
     let mut v = w;
@@ -212,7 +231,9 @@ pub fn next_of_site(
     output: &mut Output,
     page: &mut [u8; PAGE],
 ) -> Waiting {
-    let mut u = turn(v, from, text, hand, store, queues, copies, out, output, page);
+    let mut u = turn(
+        v, from, text, hand, store, queues, copies, out, output, page,
+    );
     let mut left = u64::MAX;
     while left > 0 {
         left -= 1;
@@ -223,7 +244,9 @@ pub fn next_of_site(
         if is_for_site(w) {
             break;
         }
-        u = turn(u, from, text, hand, store, queues, copies, out, output, page);
+        u = turn(
+            u, from, text, hand, store, queues, copies, out, output, page,
+        );
     }
     u
 }

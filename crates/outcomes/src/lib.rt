@@ -1,5 +1,6 @@
 // What stands around a probe's calls: a line is read, what a call wrote is kept, and its outcome printed.
 #![tactic(auto)]
+
 use effects::{AS_SITES, COPY_PLACE, Done, Lent, TABLE, is_logged};
 use hand::store::{keep_letters, keep_record};
 use handles::{Output, Source};

@@ -1,5 +1,6 @@
 // The program `probe`: obeys a probe from standard input, or each file that is named as one of its own, over the store's calls.
 #![tactic(auto)]
+
 mod run;
 
 use files::{NAME, arg_count, finished, open_argument, reported};
@@ -35,12 +36,7 @@ fn play_file<R: Env + Files<File = File>>(
     }
 }
 
-fn play_files<R: Env + Files<File = File>>(
-    rt: &R,
-    to: Stderr,
-    count: usize,
-    output: &mut Output,
-) {
+fn play_files<R: Env + Files<File = File>>(rt: &R, to: Stderr, count: usize, output: &mut Output) {
     let mut i: usize = 1;
     while i < count {
         if !play_file(rt, to, i, output) {

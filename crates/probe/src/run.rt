@@ -53,7 +53,13 @@ fn start_sites(n: u64, lent: Lent) -> [Core; SITES]
 }
 
 // One house, up to the next or the end of the probe.
-fn one_house(w: Work, from: &mut Source, text: &mut [u8; TEXT], output: &mut Output, page: &mut [u8; PAGE]) -> Work {
+fn one_house(
+    w: Work,
+    from: &mut Source,
+    text: &mut [u8; TEXT],
+    output: &mut Output,
+    page: &mut [u8; PAGE],
+) -> Work {
     let mut live = [0u64; LIVES];
     let mut history = [0u64; HISTORIES];
     let mut base = [0u64; BASES];
@@ -111,7 +117,13 @@ fn one_house(w: Work, from: &mut Source, text: &mut [u8; TEXT], output: &mut Out
 }
 
 // Plays the probe that the input reads: one house after the other.
-pub fn play(first: Work, from: &mut Source, text: &mut [u8; TEXT], output: &mut Output, page: &mut [u8; PAGE]) -> Work {
+pub fn play(
+    first: Work,
+    from: &mut Source,
+    text: &mut [u8; TEXT],
+    output: &mut Output,
+    page: &mut [u8; PAGE],
+) -> Work {
     let mut w = first;
     let mut left = u64::MAX;
     while left > 0 {

@@ -1,5 +1,6 @@
 // What stands around a call: a line is read and what it hands in fetched; what the call wrote is kept, and its outcome printed.
 #![tactic(auto)]
+
 pub mod open;
 mod post;
 pub mod route;
@@ -94,7 +95,12 @@ pub fn idle(d: Play) -> Ask {
 }
 
 // The item that a queue or cursor, below QUEUES, hands in next.
-fn handed(spare: &mut Spare, store: &mut [u64; STORE], queue: usize, item: &mut [u64; ITEM]) -> First
+fn handed(
+    spare: &mut Spare,
+    store: &mut [u64; STORE],
+    queue: usize,
+    item: &mut [u64; ITEM],
+) -> First
     requires { queue < none }
 {
     if is_cursor(queue) {

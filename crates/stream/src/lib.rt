@@ -1,5 +1,6 @@
 // The lines that no site takes part in: those of the merger, and of the copies that its stream goes to.
 #![tactic(auto)]
+
 mod asked;
 
 ghost use Rattle.std.specs.Prelude.{◌≡◌, ◌-◌, ltb};

@@ -2,6 +2,7 @@
 // be taken from outside. It prints how many words the calls wrote and how many were refused. A third argument is how many saves come
 // before.
 #![tactic(auto)]
+
 mod again;
 mod worst;
 
@@ -150,7 +151,10 @@ fn saves_asked(rt: &impl Env) -> Number {
 
 fn run<R: Print + Eprint>(rt: &R, step: u64, count: u64, saves: u64) {
     if LAST_TIMED < step {
-        complain(rt, "the first argument has to be the number of a step, 0 to 31");
+        complain(
+            rt,
+            "the first argument has to be the number of a step, 0 to 31",
+        );
         return;
     }
     if MOST_SAVES < saves {
@@ -166,15 +170,24 @@ fn main(rt: HostRuntime) {
     let count = argument(&rt, 2);
     let saves = saves_asked(&rt);
     if !step.ok {
-        complain(&rt, "the first argument has to be the number of a step, 0 to 31");
+        complain(
+            &rt,
+            "the first argument has to be the number of a step, 0 to 31",
+        );
         return;
     }
     if !count.ok {
-        complain(&rt, "the second argument has to be how often to make the call");
+        complain(
+            &rt,
+            "the second argument has to be how often to make the call",
+        );
         return;
     }
     if !saves.ok {
-        complain(&rt, "the third argument has to be how many saves come before, or is left out");
+        complain(
+            &rt,
+            "the third argument has to be how many saves come before, or is left out",
+        );
         return;
     }
     run(&rt, step.value, count.value, saves.value);
