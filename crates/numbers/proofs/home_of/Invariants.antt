@@ -1,0 +1,17 @@
+-- The sites passed end at or below the key, and the first that does not ends the loop.
+use Prim.Native.Nat.{ℕ, ◌+◌, ◌-◌, ◌≤◌}
+use mathlib.Core.Path.{◌≡◌}
+use native.Mathlib.Omega.{arith}
+use borrow.Author.Count.{below_more}
+use borrow.Author.Rules.{rules}
+use borrow.Author.Tests.{lt-ltb, le-ltb}
+use Rattle.laws.specs.Scan.{NoneBelow, none_none, first_below, first_below_lem, first_end}
+use Rattle.kinds.specs.Sizes as sizes
+use Rattle.rules.specs.House.{ends_above, is_key, home_of}
+use Rattle.numbers.proofs.home_of.Given as goal
+
+abbrev pub invariant-loop-i : goal.invariant-loop-i
+invariant-loop-i l = (l.i ≤ sizes.sites - 1) × NoneBelow (ends_above (record { sites = l.sites; firsts = l.firsts }) l.key) l.i
+
+abbrev pub decreases-loop-i : goal.decreases-loop-i
+decreases-loop-i l = sizes.sites - 1 - l.i

@@ -1,0 +1,10 @@
+-- Below the house's sites.
+use native.Mathlib.Omega.{arith}
+use Rattle.laws.specs.Digits.{one_shifted}
+use Rattle.rules.specs.House.{is_mask}
+use borrow.Author.Rules.{rules}
+use Rattle.numbers.proofs.is_mask.Goals as goal
+
+pub returns : goal.returns
+unfolding is_mask
+returns c = rw (one_shifted c.args.h.sites (omega arith))
