@@ -131,15 +131,16 @@ class Turn:
                 t = s
                 for name in self.identity:
                     t = re.sub(r"\(%s %s\)" % (re.escape(name), ATOM), "c", t)
-                    t = re.sub(r"(?<![\w'-])%s %s" % (re.escape(name), ATOM), "c", t)
+                    t = re.sub(r"(?<![\w'.-])%s %s" % (re.escape(name), ATOM), "c", t)
                 t = re.sub(r"\.before(?![\w'-])", "", t)
                 t = re.sub(r"\(c\)", "c", t)
                 t = re.sub(r"let (\S+) = c in\s*", lambda m: self.alias(m.group(1)), t)
                 for a in list(self.aliases):
-                    t = re.sub(r"(?<![\w'.-])%s%s" % (re.escape(a), r"(?=\.| in\b|\))" if a == "at" else r"(?![\w'-])"), "c", t)
+                    t = re.sub(r"(?<![\w'.-])%s%s" % (re.escape(a), r"(?=\.| in\b|\))" if a == "at" else r"(?![\w'-])(?! = )"), "c", t)
                 if t == s:
                     return s
                 s = t
+        s = re.sub(r"\s*\n\s*", " ", s)
         self.aliases = set(params) - {"c"}
         s = collapse(s)
         for name in self.helpers:
@@ -147,6 +148,10 @@ class Turn:
             s = re.sub(r"(?<![\w'.-])%s c(?![\w'.-])" % re.escape(name), name, s)
         s = collapse(s)
         s = s.replace(" κs", "")
+        taken = PARAMS.get(self.function, [])
+        s = re.sub(r"\.t(\d+)(?![\w'-])", lambda m: "." + taken[int(m.group(1)) - 1] if int(m.group(1)) <= len(taken) else m.group(0), s)
+        s = re.sub(r"([a-z][\w'-]*)\.last\.(\d)", r"\1.new.\2", s)
+        s = s.replace(".well-formed", ".well_formed")
         s = re.sub(r"\.inv(?![\w'-])", ".invariant", s)
         s = re.sub(r"\.pre(?![\w'-])", ".requires", s)
         s = re.sub(r"((?:if\d*|test))\.taken(?![\w'-])", r"\1.true", s)
@@ -154,6 +159,8 @@ class Turn:
 
         def step(m):
             n = norm(m.group(1))
+            if n not in self.steps and n[-1].isdigit() and n.rstrip("0123456789") in self.steps:
+                n = n.rstrip("0123456789")
             return "." + self.steps[n] if n in self.steps and self.steps[n] != n else ("." + n if n in self.steps else m.group(0))
         s = re.sub(r"\.([A-Za-z_][\w'-]*)", step, s)
         s = re.sub(r"\((not-true|not-false) %s ([\w.'-]+\.(?:true|false))\)" % ATOM, r"\2", s)
@@ -166,18 +173,42 @@ class Turn:
             k = int(m.group(2))
             return "%s.new.%s" % (m.group(1), names[k]) if k < len(names) else m.group(0)
 
+        asked = REQUIRED.get(self.function, [])
+
+        def required(m):
+            n, k, rest = len(asked), 0, m.group(1)
+            if n < 2:
+                return m.group(0)
+            while rest.startswith(".1") and n - k > 2:
+                rest, k = rest[2:], k + 1
+            return ".requires.%s%s" % (asked[k + rest.startswith(".1")], rest[2:])
+        for name in [n for n, v in bound.items() if v == "requires"]:
+            s = re.sub(r"(?<![\w.'-])%s((?:\.\d)+)" % re.escape(name), lambda m: name + required(m)[9:], s)
+        s = re.sub(r"\.requires((?:\.\d)+)", required, s)
+
         def ensured(m):
             names = ENSURED.get(bound.get(m.group(1), m.group(1)).split("-")[0], [])
             n, k, rest = len(names), 0, m.group(2)
             if n < 2:
                 return m.group(0)
-            while rest.startswith(".0") and n - k > 2:
+            while rest.startswith(".1") and n - k > 2:
                 rest, k = rest[2:], k + 1
             if not rest.startswith((".0", ".1")):
                 return m.group(0)
-            at = n - 1 - k if rest.startswith(".1") else n - 2 - k
-            return "%s.ensures.%s%s" % (m.group(1), names[at], rest[2:])
+            return "%s.ensures.%s%s" % (m.group(1), names[k + rest.startswith(".1")], rest[2:])
         s = re.sub(r"([A-Za-z_][\w'-]*)\.ensures((?:\.\d)+)", ensured, s)
+        s = re.sub(r"([A-Za-z_][\w'-]*)\.kept\.(\d)", r"\1.auto.\2", s)
+
+        for name, at in re.findall(r"let (\S+) = \S*?([\w'-]+)\.ensures in", s):
+            names = ENSURED.get(bound.get(at, at).split("-")[0], [])
+            if len(names) > 1:
+                s = re.sub(r"(?<![\w.'-])%s((?:\.\d)+)" % re.escape(name), lambda m: name + ensured(re.match(r"(\S+)\.ensures(\S+)", at + ".ensures" + m.group(1)))[len(at) + 8 :], s)
+
+        def kept(m):
+            names = LENT.get(bound.get(m.group(1), m.group(1)).split("-")[0], [])
+            k = int(m.group(2))
+            return "%s.auto.%s" % (m.group(1), names[k]) if k < len(names) else m.group(0)
+        s = re.sub(r"([A-Za-z_][\w'-]*)\.auto\.(\d)", kept, s)
         return re.sub(r"([A-Za-z_][\w'-]*)\.new\.(\d)", new, s)
 
     def alias(self, name):
@@ -245,7 +276,8 @@ def parts(s):
         elif ch == "," and depth == 1:
             out.append(s[last:k].strip())
             last = k + 1
-    return [*out, s[last:-1].strip()]
+    end = s[last:-1].strip()
+    return [*out, end] if end else out
 
 
 def recorded(s, names):
@@ -261,8 +293,8 @@ def recorded(s, names):
             break
         k -= 1
     got = parts(s[k:])
-    while len(got) < len(names) and got[0].startswith("(") and len(parts(got[0])) > 1:
-        got = parts(got[0]) + got[1:]
+    while len(got) < len(names) and got[-1].startswith("(") and got[-1].endswith(")") and len(parts(got[-1])) > 1:
+        got = got[:-1] + parts(got[-1])
     if len(got) != len(names):
         return s
     found = "record { %s }" % "; ".join("%s = %s" % x for x in zip(names, got))
@@ -271,6 +303,8 @@ def recorded(s, names):
 
 LENT = {}
 ENSURED = {}
+PARAMS = {}
+REQUIRED = {}
 
 
 OWN = set()
@@ -290,6 +324,8 @@ def lent(crate):
                     if mine:
                         OWN.add(m.group(1))
                     LENT[m.group(1)] = re.findall(r"(\w+): &mut", m.group(2))
+                    PARAMS[m.group(1)] = re.findall(r"(\w+): ", m.group(2))
+                    REQUIRED[m.group(1)] = re.findall(r"\brequires (\w+) \{", m.group(3))
                     ENSURED[m.group(1)] = re.findall(r"\bensures (\w+) \{", m.group(3))
 
 
@@ -326,22 +362,57 @@ def invariants(turn):
         if not fit:
             turn.said.append("parameters of %s: %s, of the loop: %s %s" % (it.name, it.params, names, changed))
         values = {}
+        me = "l" if not re.search(r"(?<![\w'.-])l(?![\w'-])", body) or "l" in it.params else "at_loop"
         k = len(names)
         for n, ch, p in zip(names, changed, it.params):
-            values[p] = "l.initial." + n if ch else "l." + n
+            values[p] = me + ".initial." + n if ch else me + "." + n
         for n, p in zip([n for n, ch in zip(names, changed) if ch], it.params[k:]):
-            values[p] = "l." + n
+            values[p] = me + "." + n
         body = re.sub(r"(?<![\w'.-])([^\W\d][\w'₀-₉-]*)", lambda m: m.group(1) if re.match(r" = ", m.string[m.end() :]) else values.get(m.group(1), m.group(1)), body)
-        out += ["", *it.comment, "abbrev pub %s-%s : goal.%s-%s" % (m.group(1), new, m.group(1), new), *["unfolding " + " ".join(it.unfolding)] * bool(it.unfolding), "%s-%s l = %s" % (m.group(1), new, body.strip() if "\n" not in body else body.strip())]
+        out += ["", *it.comment, "abbrev pub %s-%s : goal.%s-%s" % (m.group(1), new, m.group(1), new), *["unfolding " + " ".join(it.unfolding)] * bool(it.unfolding), "%s-%s %s = %s" % (m.group(1), new, me, body.strip() if "\n" not in body else body.strip())]
     return out
 
 
-def answers(turn, table, keep):
+def shared(turn, inv):
+    """Lemmas and words of the file that the invariants name."""
+    out, text = [], "\n".join(inv)
+    while True:
+        more = [
+            it
+            for it in turn.items
+            if it not in out
+            and re.match(r"(?:abbrev |pub )*(?:record |data )?(\S+)", it.lines[0])
+            and not it.type.startswith("tie.")
+            and it.name not in turn.helpers
+            and re.search(r"(?<![\w'.-])%s(?![\w'-])" % re.escape(called(it)), text)
+        ]
+        if not more:
+            return [it for it in turn.items if it in out]
+        out += more
+        text += "\n".join("\n".join(it.lines) for it in more)
+
+
+def called(it):
+    return it.name or re.match(r"(?:abbrev |pub |unfoldable )*(?:record |data |module )?(\S+)", it.lines[0]).group(1)
+
+
+def public(it):
+    first = it.lines[0]
+    if not re.match(r"(abbrev )?pub ", first):
+        first = re.sub(r"^(abbrev |unfoldable )?", r"\1pub ", first, count=1)
+    rest = it.lines[1:]
+    if re.match(r"pub record", first):
+        rest = [re.sub(r"^  (?!pub )(\S)", r"  pub \1", l) for l in rest]
+    return ["", *it.comment, first, *rest]
+
+
+def answers(turn, table, skip):
     out, plain = [], []
     for it in turn.items:
+        if it in skip:
+            continue
         if not it.name:
-            if it.lines[0].startswith(("module", "record", "data", "ruleset", "pub record", "abbrev")) or True:
-                out += ["", *it.comment, *it.lines]
+            out += ["", *it.comment, *it.lines]
             continue
         if re.match(r"tie\.(invariant|decreases)", it.type) or it.name in turn.helpers or it.name in turn.identity:
             continue
@@ -356,10 +427,16 @@ def answers(turn, table, keep):
         ensured = ENSURED.get(turn.function, [])
         if new and new.startswith("returns") and len(ensured) > 1:
             body = recorded(body, ensured)
+        m2 = new and re.match(r"(\w+)(?:-.*)?-requires", new)
+        if m2 and len(REQUIRED.get(m2.group(1), [])) > 1:
+            body = recorded(body, REQUIRED[m2.group(1)])
         if new is None:
             turn.said.append("dropped %s = %s" % (m.group(1), one(body)[:150]))
             continue
-        if one(body) in PLAIN and not it.unfolding and not keep:
+        more = [p for p in it.params[1:] if p != "κs"]
+        if more:
+            body = "λ %s. %s" % (" ".join(more), one(body))
+        if one(body) in PLAIN and not it.unfolding:
             continue
         lets, unfolding = turn.lets(it.body)
         unfolding = list(dict.fromkeys(it.unfolding + unfolding))
@@ -400,14 +477,18 @@ def main():
         table = align(turn)
         uses = [u for u in uses if ".Statement." not in u and not re.search(r"\.Tie as tie$", u)]
         inv = invariants(turn)
-        ans = answers(turn, table, False)
+        both = shared(turn, inv)
+        ans = answers(turn, table, both)
+        named = [called(it) for it in both]
+        inv = [l for it in both for l in public(it)] + inv
+        brought = ["use Rattle.%s.proofs.%s.Invariants.{%s}" % (crate, module, ", ".join(named))] if named else []
         given = "use Rattle.%s.proofs.%s.%s as goal"
         if inv:
             with open(os.path.join(folder, "Invariants.antt"), "w") as f:
                 f.write("\n".join([*header, *uses, given % (crate, module, "Given"), *inv]) + "\n")
         if any(l.startswith("pub ") and ": goal." in l for l in ans):
             with open(os.path.join(folder, "Answers.antt"), "w") as f:
-                f.write("\n".join([*([] if inv else header), *uses, given % (crate, module, "Goals"), *ans]) + "\n")
+                f.write("\n".join([*([] if inv else header), *uses, *brought, given % (crate, module, "Goals"), *ans]) + "\n")
         os.remove(os.path.join(folder, "Proof.antt"))
         for s in turn.said:
             print(module, ":", s)

@@ -11,7 +11,7 @@ use Rattle.bookmarks.proofs.run.pages.Goals as goal
 
 pub returns-then-code-ne0 : goal.returns-then-code-ne0
 unfolding pages_of
-returns-then-code-ne0 c = rw (← c.pages_code-code.ensures, ne_eqb _ 0 c.if-code-ne0.true) (refl, refl)
+returns-then-code-ne0 c = rw (← c.pages_code-code.ensures, ne_eqb _ 0 c.if-code-ne0.true) (record { value = refl; out_after = refl })
 
 pub put_places-requires : goal.put_places-requires
 unfolding pages_code
@@ -22,4 +22,4 @@ put_places-requires c =
 
 pub returns : goal.returns
 unfolding pages_of
-returns c = rw (← c.pages_code-code.ensures, eq-eqb _ 0 c.if-code-ne0.false) (refl, c.put_places.ensures)
+returns c = rw (← c.pages_code-code.ensures, eq-eqb _ 0 c.if-code-ne0.false) (record { value = refl; out_after = c.put_places.ensures })

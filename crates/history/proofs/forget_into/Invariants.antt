@@ -1,0 +1,25 @@
+-- After i writes the base values are the fold over them.
+use Prim.Native.Nat.{ℕ, ◌*◌, ◌-◌, ◌≤◌, ◌<◌}
+use mathlib.Core.Path.{◌≡◌, refl, sym, ◌∙◌}
+use mathlib.Core.List.{List}
+use native.Mathlib.Omega.{arith}
+use borrow.Author.Rules.{rules}
+use lib.ListN.{length, get_or}
+use Rattle.laws.specs.Scan.{fold_below, fold_more}
+use Rattle.kinds.specs.Sizes as sizes
+use Rattle.kinds.specs.State.{fresh}
+use Rattle.kinds.specs.declared.Keys.{Keys}
+use Rattle.rules.specs.Value.{put_value}
+use Rattle.rules.specs.History.{forget_into}
+use Rattle.history.proofs.forget_into.Given as goal
+
+-- the base values with the first i writes
+abbrev pub forgotten : List ℕ → Keys → ℕ → List ℕ
+forgotten base b = λ i. fold_below (λ j l. put_value l (sizes.value * get_or b.writes j 0) (get_or b.values j fresh)) i base
+
+abbrev pub invariant-loop-i : goal.invariant-loop-i
+invariant-loop-i l = (length l.base ≡ length l.initial.base)
+    × ((l.i ≤ l.n) × (l.base ≡ forgotten l.initial.base l.b l.i))
+
+abbrev pub decreases-loop-i : goal.decreases-loop-i
+decreases-loop-i l = l.n - l.i

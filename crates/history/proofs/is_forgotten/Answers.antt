@@ -1,0 +1,8 @@
+-- One test.
+use borrow.Author.Rules.{rules}
+use Rattle.rules.specs.History.{is_forgotten}
+use Rattle.history.proofs.is_forgotten.Goals as goal
+
+pub returns : goal.returns
+unfolding is_forgotten
+returns c = rw c.forgotten.ensures

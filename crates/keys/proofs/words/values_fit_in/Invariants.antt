@@ -1,0 +1,16 @@
+-- The values passed fit, and one that does not ends the loop.
+use Rattle.std.proofs.Common.{◌≡◌, ◌-◌, ◌≤◌, get_or, sym, ap, ◌∙◌, arith, rules, below_more}
+use borrow.Author.Tests.{not-true, not-false}
+use Rattle.laws.specs.Scan.{EachBelow, each_none, not_all_below, all_end}
+use Rattle.kinds.specs.Sizes as sizes
+use Rattle.kinds.specs.State.{fresh}
+use Rattle.rules.specs.Value.{fits, values_fit}
+use Rattle.lent.specs.Layout.{values_from}
+use Rattle.lent.specs.Values.{values_at}
+use Rattle.keys.proofs.words.values_fit_in.Given as goal
+
+abbrev pub invariant-loop-i : goal.invariant-loop-i
+invariant-loop-i l = (l.i ≤ l.n) × EachBelow (λ j. fits (get_or (values_from l.w l.at sizes.writes) j fresh)) l.i
+
+abbrev pub decreases-loop-i : goal.decreases-loop-i
+decreases-loop-i l = l.n - l.i

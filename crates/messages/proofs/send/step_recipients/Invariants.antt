@@ -1,0 +1,15 @@
+-- After i sites the counts are those of the rule at i; the next site's is still as it was sent.
+use Prim.Native.Nat.{◌-◌, ◌≤◌}
+use mathlib.Core.Path.{◌≡◌, sym, ◌∙◌}
+use native.Mathlib.Omega.{arith}
+use borrow.Author.Rules.{rules}
+use Rattle.kinds.specs.Sizes as sizes
+use Rattle.rules.specs.Send.{step_recipients}
+use Rattle.rules.specs.SendLaws.{steps_none, steps_more, steps_behind}
+use Rattle.messages.proofs.send.step_recipients.Given as goal
+
+abbrev pub invariant-loop-i : goal.invariant-loop-i
+invariant-loop-i l = (l.i ≤ sizes.sites) × (l.counts ≡ step_recipients l.initial.counts l.mask l.sender l.i)
+
+abbrev pub decreases-loop-i : goal.decreases-loop-i
+decreases-loop-i l = sizes.sites - l.i

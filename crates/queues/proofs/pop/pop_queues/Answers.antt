@@ -1,0 +1,28 @@
+use Prim.Native.Nat.{◌-◌, ◌≤◌}
+use borrow.Author.Rules.{rules}
+use lib.ListN.{length}
+use mathlib.Core.Path.{◌∙◌, ◌≡◌, ap, refl, sym}
+use native.Mathlib.Omega.{arith}
+use Rattle.laws.specs.Scan.{fold_below}
+use Rattle.rules.specs.Merger.{pop_queue_at, pop_queues}
+use Rattle.rules.specs.MergerWords.{pops_more}
+use Rattle.queues.proofs.pop.pop_queues.Goals as goal
+
+pub loop-i-init : goal.loop-i-init
+unfolding pop_queues fold_below
+loop-i-init c = (search rules, (refl, refl))
+
+pub loop-i-preserved : goal.loop-i-preserved
+loop-i-preserved c =
+    let pop-queue = c.pop_queue in
+    let args = c.args in
+    let l = c.loop-i in
+    ( search rules, ( search rules, pop-queue.ensures ∙ ap (pop_queue_at args.mask l.i) l.invariant.1.1 ∙ sym (pops_more args.queues.now args.mask l.i), ), )
+
+pub shape_of-queues : goal.shape_of-queues
+shape_of-queues c = c.loop-i.invariant.1.0
+
+pub returns : goal.returns
+returns c =
+    let e : c.loop-i.i ≡ c.args.n = omega arith in
+    rw (← e) c.loop-i.invariant.1.1

@@ -1,0 +1,15 @@
+-- The sites passed are good, and one that is not ends the loop.
+use Prim.Native.Nat.{◌-◌, ◌≤◌}
+use borrow.Author.Count.{below_more}
+use borrow.Author.Rules.{rules}
+use borrow.Author.Tests.{not-false, not-true}
+use mathlib.Core.Path.{◌∙◌, sym}
+use Rattle.laws.specs.Scan.{EachBelow, all_end, each_none, not_all_below}
+use Rattle.rules.specs.Merger.{source_at, source_ok}
+use Rattle.queues.proofs.possible.sources_ok.Given as goal
+
+abbrev pub invariant-loop-i : goal.invariant-loop-i
+invariant-loop-i l = (l.i ≤ 8) × EachBelow (λ k. source_ok l.g.house l.queues (source_at l.g k) k) l.i
+
+abbrev pub decreases-loop-i : goal.decreases-loop-i
+decreases-loop-i l = 8 - l.i

@@ -1,0 +1,8 @@
+-- Each field is read from its word or words.
+use borrow.Author.Rules.{rules}
+use Rattle.lent.specs.Layout.{keys_from}
+use Rattle.tables.proofs.keys_at.Goals as goal
+
+pub returns : goal.returns
+unfolding keys_from
+returns c = rw (c.sixteen-reads.ensures, c.sixteen-writes.ensures, c.sixteen_values-values.ensures)

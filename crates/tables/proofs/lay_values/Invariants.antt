@@ -1,0 +1,18 @@
+-- After i turns the words of the first i values are laid.
+use Prim.Native.Nat.{◌*◌, ◌-◌, ◌≤◌}
+use mathlib.Core.Path.{◌≡◌}
+use native.Mathlib.Omega.{arith}
+use borrow.Author.Rules.{rules}
+use lib.ListN.{length, take}
+use lib.Seq.{take_all}
+use Rattle.kinds.specs.Sizes as sizes
+use Rattle.rules.specs.Value.{value_words}
+use Rattle.lent.specs.Rows.{flat}
+use Rattle.tables.proofs.Laid.{Laid, laid_none, laid_length, laid_values}
+use Rattle.tables.proofs.lay_values.Given as goal
+
+abbrev pub invariant-loop-i : goal.invariant-loop-i
+invariant-loop-i l = (l.i ≤ sizes.writes) × Laid l.initial.out l.at (sizes.value * l.i) (flat value_words (take l.i l.a)) l.out
+
+abbrev pub decreases-loop-i : goal.decreases-loop-i
+decreases-loop-i l = sizes.writes - l.i

@@ -1,0 +1,26 @@
+use Prim.Native.Nat.{ℕ, ◌+◌, ◌-◌, ◌≤◌, ◌<◌}
+use mathlib.Core.Path.{◌≡◌, refl, sym, ◌∙◌}
+use native.Mathlib.Omega.{arith}
+use borrow.Author.Rules.{rules}
+use lib.ListN.{get_or, length, length-set}
+use lib.Seq.{get_or-set_same, get_or-set_other}
+use Rattle.laws.specs.Scan.{split_last}
+use Rattle.kinds.specs.Sizes as sizes
+use Rattle.lent.specs.Rows.{rows_same, rows_read}
+use Rattle.lent.specs.Layout.{words_from}
+use Rattle.tables.proofs.sixteen.Goals as goal
+
+pub loop-i-init : goal.loop-i-init
+loop-i-init c = (omega arith, (refl, λ j h. absurd (omega arith)))
+
+pub loop-i-preserved : goal.loop-i-preserved
+loop-i-preserved c =
+    let a = c.args in
+    let l = c.loop-i in
+    ( omega arith, ( simp length-set l.invariant.1.0, λ j h. split_last {i = j} {n = l.i} (omega arith) (λ (q : j ≡ l.i). rw q (get_or-set_same l.r l.i _ 0 (omega arith))) (λ (q : j < l.i). get_or-set_other l.r l.i j _ 0 (λ z. omega arith) ∙ l.invariant.1.1 j q), ), )
+
+pub returns : goal.returns
+unfolding words_from
+returns c =
+    let l = c.loop-i in
+    sym (rows_read l.r sizes.reads 0 l.invariant.1.0) ∙ rows_same _ _ sizes.reads (λ j h. l.invariant.1.1 j (omega arith))
