@@ -114,7 +114,10 @@ class Turn:
         self.items = its
         self.helpers = {}
         self.identity = set()
+        self.kept = set()
         self.said = []
+        self.places = {norm(old[0]): new for old, new in zip(data["places"], data["places_by_name"])}
+        self.asked = {new[1]: at[1] for new, at in zip(data["needs"], data["asked_at"])}
         for it in its:
             p = it.name and place_type(it.type)
             if p and it.body is not None and len(it.clauses) == 1 and it.params:
@@ -131,7 +134,7 @@ class Turn:
                 t = s
                 for name in self.identity:
                     t = re.sub(r"\(%s %s\)" % (re.escape(name), ATOM), "c", t)
-                    t = re.sub(r"(?<![\w'.-])%s %s" % (re.escape(name), ATOM), "c", t)
+                    t = re.sub(r"(?<![\w'.-])%s (?!in\b)%s" % (re.escape(name), ATOM), "c", t)
                 t = re.sub(r"\.before(?![\w'-])", "", t)
                 t = re.sub(r"\(c\)", "c", t)
                 t = re.sub(r"let (\S+) = c in\s*", lambda m: self.alias(m.group(1)), t)
@@ -152,6 +155,7 @@ class Turn:
         s = re.sub(r"\.t(\d+)(?![\w'-])", lambda m: "." + taken[int(m.group(1)) - 1] if int(m.group(1)) <= len(taken) else m.group(0), s)
         s = re.sub(r"([a-z][\w'-]*)\.last\.(\d)", r"\1.new.\2", s)
         s = s.replace(".well-formed", ".well_formed")
+        s = re.sub(r"sym \(length-map %s _\) ∙ c\.well_formed[.\d]*" % ATOM, "search rules", s)
         s = re.sub(r"\.inv(?![\w'-])", ".invariant", s)
         s = re.sub(r"\.pre(?![\w'-])", ".requires", s)
         s = re.sub(r"((?:if\d*|test))\.taken(?![\w'-])", r"\1.true", s)
@@ -182,7 +186,7 @@ class Turn:
             while rest.startswith(".1") and n - k > 2:
                 rest, k = rest[2:], k + 1
             return ".requires.%s%s" % (asked[k + rest.startswith(".1")], rest[2:])
-        for name in [n for n, v in bound.items() if v == "requires"]:
+        for name in [n for n, v in bound.items() if v == "requires" and len(asked) > 1]:
             s = re.sub(r"(?<![\w.'-])%s((?:\.\d)+)" % re.escape(name), lambda m: name + required(m)[9:], s)
         s = re.sub(r"\.requires((?:\.\d)+)", required, s)
 
@@ -219,15 +223,42 @@ class Turn:
         for name, (it, _) in self.helpers.items():
             if name not in seen and re.search(r"(?<![\w'.-])%s(?![\w'-])" % re.escape(name), text):
                 seen.add(name)
-                self.used(it.body + " " + it.type, seen)
+                if not self.apart(name):
+                    self.used(it.body + " " + it.type, seen)
         return seen
 
-    def lets(self, text):
+    def apart(self, name):
+        """Whether a lemma typed by a place stays a lemma, and is no word of the answers that use it."""
+        it, _ = self.helpers[name]
+        return (bool(it.unfolding) or not it.abbrev) and norm(place_type(it.type)[1]) in self.places
+
+    def lemma(self, name):
+        it, rest = self.helpers[name]
+        param, place, _ = place_type(it.type)
+        at = self.places[norm(place)]
+        more = it.params[1:]
+        kind_lets, _ = self.lets(rest, at, set())
+        body_lets, unfolding = self.lets(it.body, at, {name})
+        kind = one(" ".join([*kind_lets, self.path(rest, {it.params[0], param})]))
+        out = ["", *it.comment, "%s : (c : %s) → %s" % (name, at, "(%s)" % kind if kind.startswith("let ") else kind)]
+        opened = list(dict.fromkeys(it.unfolding + unfolding))
+        out += ["unfolding " + " ".join(opened)] * bool(opened)
+        body = self.path(it.body, {it.params[0]})
+        out += ["%s =" % " ".join([name, "c", *more]), *body_lets, laid(body)]
+        return out, at
+
+    def lets(self, text, at, done, need=None):
         names = self.used(text, set())
         out, unfolding = [], []
         for name, (it, rest) in self.helpers.items():
-            if name not in names:
+            if name not in names or name in done:
                 continue
+            if self.apart(name):
+                place = self.places[norm(place_type(it.type)[1])]
+                if place == at or need:
+                    self.kept.add(name)
+                    out.append("    let %s = %s %s in" % (name, name, "c" if place == at else "(goal.at.%s c).%s" % (need, place)))
+                    continue
             unfolding += it.unfolding
             p = place_type(it.type)
             kind = self.path(rest, {it.params[0], p[0]})
@@ -324,7 +355,7 @@ def lent(crate):
                     if mine:
                         OWN.add(m.group(1))
                     LENT[m.group(1)] = re.findall(r"(\w+): &mut", m.group(2))
-                    PARAMS[m.group(1)] = re.findall(r"(\w+): ", m.group(2))
+                    PARAMS[m.group(1)] = ["self"] * bool(re.match(r"\s*(&|mut |&mut )?self\b", m.group(2))) + re.findall(r"(\w+): ", m.group(2))
                     REQUIRED[m.group(1)] = re.findall(r"\brequires (\w+) \{", m.group(3))
                     ENSURED[m.group(1)] = re.findall(r"\bensures (\w+) \{", m.group(3))
 
@@ -414,7 +445,10 @@ def answers(turn, table, skip):
         if not it.name:
             out += ["", *it.comment, *it.lines]
             continue
-        if re.match(r"tie\.(invariant|decreases)", it.type) or it.name in turn.helpers or it.name in turn.identity:
+        if it.name in turn.helpers:
+            out.append("@" + it.name)
+            continue
+        if re.match(r"tie\.(invariant|decreases)", it.type) or it.name in turn.identity:
             continue
         if "statement M" in it.type:
             continue
@@ -438,7 +472,7 @@ def answers(turn, table, skip):
             body = "λ %s. %s" % (" ".join(more), one(body))
         if one(body) in PLAIN and not it.unfolding:
             continue
-        lets, unfolding = turn.lets(it.body)
+        lets, unfolding = turn.lets(it.body, turn.asked.get(new), set(), new)
         unfolding = list(dict.fromkeys(it.unfolding + unfolding))
         out += ["", *it.comment, "pub %s : goal.%s" % (new, new), *["unfolding " + " ".join(unfolding)] * bool(unfolding)]
         if lets:
@@ -447,7 +481,13 @@ def answers(turn, table, skip):
             out += ["%s c =" % new, laid(body)]
         else:
             out += ["%s c = %s" % (new, body.strip())]
-    return out
+    lemmas, places = {}, set()
+    while turn.kept - set(lemmas):
+        for name in turn.kept - set(lemmas):
+            lemmas[name], at = turn.lemma(name)
+            places.add(at)
+    turn.needed = sorted(places)
+    return [l for x in out for l in (lemmas.get(x[1:], []) if x.startswith("@") else [x])]
 
 
 def main():
@@ -480,6 +520,8 @@ def main():
         both = shared(turn, inv)
         ans = answers(turn, table, both)
         named = [called(it) for it in both]
+        if turn.needed:
+            uses.append("use Rattle.%s.proofs.%s.Goals.{%s}" % (crate, module, ", ".join(turn.needed)))
         inv = [l for it in both for l in public(it)] + inv
         brought = ["use Rattle.%s.proofs.%s.Invariants.{%s}" % (crate, module, ", ".join(named))] if named else []
         given = "use Rattle.%s.proofs.%s.%s as goal"
@@ -488,6 +530,8 @@ def main():
                 f.write("\n".join([*header, *uses, given % (crate, module, "Given"), *inv]) + "\n")
         if any(l.startswith("pub ") and ": goal." in l for l in ans):
             with open(os.path.join(folder, "Answers.antt"), "w") as f:
+                if any(re.search(r"\brules\b", l) for l in ans) and not any("rules}" in u for u in uses):
+                    brought.append("use borrow.Author.Rules.{rules}")
                 f.write("\n".join([*([] if inv else header), *uses, *brought, given % (crate, module, "Goals"), *ans]) + "\n")
         os.remove(os.path.join(folder, "Proof.antt"))
         for s in turn.said:

@@ -8,7 +8,7 @@ use Rattle.kinds.specs.declared.Site.{Site}
 use Rattle.kinds.specs.declared.Sub.{Sub}
 use Rattle.kinds.specs.State.{sub_at}
 use Rattle.rules.specs.Certify.{prepared_list, installed_list, candidates}
-use Rattle.rules.specs.CertifyLaws.{prepared_few, length_installed}
+use Rattle.rules.proofs.CertifyLaws.{prepared_few, length_installed}
 use Rattle.rules.specs.History.{remembered, within}
 use Rattle.rules.specs.HistoryLaws.{remembered_few}
 use Rattle.rules.specs.Message.{entry_count}

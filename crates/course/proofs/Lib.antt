@@ -1,3 +1,2 @@
--- What the walks of this crate share: what is required of the counters, and a struct or a part of one lent by `&mut`.
+-- What is required of the counters.
 pub mod Counts
-pub mod Lent

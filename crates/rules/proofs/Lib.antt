@@ -1,4 +1,14 @@
--- Why the claims hold.
+-- Laws of the rules at which must-fail edits of definitions are refused,
+pub mod SearchLaws
+pub mod QueueLaws
+pub mod JoinLaws
+pub mod EntryLaws
+pub mod CertifyLaws
+pub mod ListLaws
+pub mod DispatchLaws
+pub mod MergerLaws
+pub mod MergerJoin
+-- and why the claims hold.
 pub mod Lists
 pub mod Protocol
 pub mod Steps

@@ -18,7 +18,7 @@ use Rattle.rules.specs.Valid.{site_ok, handed_ok}
 use Rattle.rules.specs.ValidLaws.{valid_site, handed_site}
 use Rattle.rules.specs.Effect.{Effect, refused}
 use Rattle.rules.specs.Course.{quietly, raise, with_course_of, with_sub_of, with_reply, with_decision}
-use Rattle.rules.specs.CallLaws.{arrival_clear, next_clear}
+use Rattle.rules.specs.CallLaws.{arrival_clear}
 use Rattle.rules.specs.Deliver.{Arriving, arrival_code, next_code, message_at, message_of, arrived, passed, reply_code, joined_in_turn}
 use Rattle.rules.specs.Deliver.{step_unless, take_join, take_joined, take_prepare, pass_prepare, take_conc, take_cert, take_vote, take_commit}
 use Rattle.rules.specs.Deliver.{take_abort, keeping, take_held, take_other, take_kind}
@@ -190,26 +190,3 @@ pub record Incoming (s : Site) (h : MessageHead) (es : List ℕ) : Type 0 where
   pub size : length es ≡ sizes.entry * h.count
   pub low_kind_lem : kind.join ≤ h.kind
   pub high_kind_lem : h.kind ≤ kind.abort
-
-pub incoming : (s : Site) (m : List ℕ) → site_ok s ≡ true → message_ok s.house m ≡ true → (message_head m).channel ≤ sizes.last
-    → next_in s m ≡ 0
-    → Incoming s (message_head m) (message_entries m)
-unfolding next_in
-incoming s m v ok low e =
-    let n = next_clear _ _ _ _ e in
-    let g = passed_good s.house m ok in
-    let c = head_clear s.house (message_head m) g.head in
-    let f = site_clear s.house (message_head m).from c.ends.from in
-    record {
-      valid = v;
-      arriving = record {
-        first = f.low;
-        last = omega (arith, f.high, (valid_site s v).house.few_sites);
-        low = omega (arith, n.in_order_lem);
-      };
-      apart = λ z. c.ends.apart (z ∙ sym n.here);
-      few = c.few;
-      size = g.size;
-      low_kind_lem = c.ends.low_kind;
-      high_kind_lem = c.ends.high_kind;
-    }

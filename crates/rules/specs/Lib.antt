@@ -53,11 +53,6 @@ pub mod KeysLaws
 pub mod MaskLaws
 pub mod HistoryLaws
 pub mod SearchLaws
-pub mod QueueLaws
-pub mod JoinLaws
-pub mod EntryLaws
-pub mod CertifyLaws
-pub mod ListLaws
 pub mod ValidLaws
 pub mod CallLaws
 pub mod CourseLaws
@@ -69,7 +64,6 @@ pub mod InstallLaws
 pub mod MergerWords
 pub mod MergerClear
 pub mod MergerLaws
-pub mod MergerJoin
 pub mod MergerKept
 pub mod CopyLaws
 pub mod PageLaws

@@ -13,7 +13,6 @@ use Rattle.laws.specs.Scan.{all_below_lem, all_below_at, all_below}
 use Rattle.rules.specs.House.{house_ok}
 use Rattle.rules.specs.HouseLaws.{house_passed}
 use Rattle.rules.specs.Merger.{emit_code, merge_code, merge_part_code, merger_ok, place_words, queued_ok, queued_part, source_at, source_ok}
-use Rattle.rules.specs.MergerWords.{above}
 use Rattle.rules.specs.MessageLaws.{site_clear}
 use Rattle.rules.specs.Record.{part_ok, part_tests, record_head, record_writes, state_ok, state_tests}
 use Rattle.rules.specs.RecordLaws.{length_record, part_clear, part_passed_good, part_passed_words, shape_clear, state_clear}

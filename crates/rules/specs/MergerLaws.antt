@@ -1,15 +1,15 @@
 -- G2, G3 and cause 16: the least head, what is due and what is whole, in the words of the requirements.
 use Rattle.std.specs.Prelude.{◌+◌, ◌-◌, ◌<◌, ◌≤◌, suc, zero, ℕ, eqb, ltb, replicate, set, false, not, true, List, [], ◌∷◌, ◌⊎◌, ◌≡◌, refl}
-use borrow.Author.Tests.{eq-eqb, eqb-true, le-leb, le-ltb, leb-true, lt-ltb, ltb-false, ltb-true, not-true}
+use borrow.Author.Tests.{eq-eqb, eqb-true, le-ltb, lt-ltb, ltb-false, ltb-true, not-true}
 use Rattle.std.proofs.Common.{get_or-set_other, inl, inr, ⊎_elim, ◌∙◌, sym, arith}
 use Rattle.kinds.specs.declared.House.{House}
 use Rattle.kinds.specs.declared.Merger.{Merger}
 use Rattle.kinds.specs.declared.RecordHead.{RecordHead}
-use Rattle.laws.specs.Choice.{by_test, every, every_at, some}
+use Rattle.laws.specs.Choice.{by_test, every, every_at}
 use Rattle.laws.specs.Pair.{precedes_trans, precedes_self}
-use Rattle.laws.specs.Scan.{all_below_lem, all_below_at, all_below, fold_more, fold_below, split_last}
+use Rattle.laws.specs.Scan.{all_below_lem, all_below_at, fold_more, fold_below, split_last}
 use Rattle.rules.specs.House.{in_mask}
-use Rattle.rules.specs.Merger.{better_head, due_code, has_head, has_part, head_at, head_before, head_in, heads_of, is_due, is_due_at, is_whole}
+use Rattle.rules.specs.Merger.{better_head, due_code, has_head, has_part, head_at, head_before, head_in, heads_of, is_due, is_whole}
 use Rattle.rules.specs.Merger.{is_whole_at, least_head, merge_state, merge_state_code, merger_out_of, no_head, past_source, pop_merger}
 use Rattle.rules.specs.Merger.{pop_merger_at, pop_source, queued_part, source_at}
 use Rattle.rules.specs.MergerClear.{MergerClear, QueuedClear, part_long}
@@ -209,40 +209,9 @@ parts_whole g heads r f = sym (all_below_lem (is_whole_at g heads r) g.house.sit
 abbrev pub DueAt : Merger → ℕ → ℕ → Type 0
 DueAt g number i = (0 < (source_at g i).queued) ⊎ (number ≤ (source_at g i).state)
 
-due_at : (g : Merger) (number i : ℕ) → is_due_at g number i ≡ true → DueAt g number i
-unfolding is_due_at has_head
-due_at g number i e =
-    by_test (ltb 0 (source_at g i).queued)
-    (λ h. inl (ltb-true _ _ h))
-    (λ h. inr (leb-true _ _ (rw h at e)))
-
-at_due : (g : Merger) (number i : ℕ) → DueAt g number i → is_due_at g number i ≡ true
-unfolding is_due_at has_head
-at_due g number i (inl h) = rw (lt-ltb _ _ h)
-at_due g number i (inr h) = by_test (ltb 0 (source_at g i).queued) (λ e. rw e) (λ e. rw (e, le-leb _ _ h))
-
 pub record IsDue (g : Merger) (heads : List RecordHead) (least : ℕ) : Type 0 where
   pub some : least < sizes.sites
   pub every : (i : ℕ) → i < g.house.sites → DueAt g (head_in heads least).number i
-
-pub is_due_lem : (g : Merger) (heads : List RecordHead) (least : ℕ) → is_due g heads least ≡ true → IsDue g heads least
-unfolding is_due
-is_due_lem g heads least e =
-    let l = ltb least sizes.sites ∷ all_below (is_due_at g (head_in heads least).number) g.house.sites ∷ [] in
-    record {
-      some = ltb-true _ _ (every_at l 0 e);
-      every = λ i h. due_at g (head_in heads least).number i
-          (all_below_at (is_due_at g (head_in heads least).number) g.house.sites i (every_at l 1 e) h);
-    }
-
-pub due_is : (g : Merger) (heads : List RecordHead) (least : ℕ) → IsDue g heads least → is_due g heads least ≡ true
-unfolding is_due
-due_is g heads least d =
-    rw (
-      lt-ltb _ _ d.some,
-      ← all_below_lem (is_due_at g (head_in heads least).number) g.house.sites
-          (λ i h. at_due g (head_in heads least).number i (d.every i h)),
-    )
 
 -- What is not refused is due and whole.
 pub due_clear : (g : Merger) (heads : List RecordHead) (least : ℕ) → due_code g heads least ≡ 0

@@ -20,7 +20,7 @@ use Rattle.rules.specs.Desk.{is_desk}
 use Rattle.rules.specs.Send.{counts_low}
 use Rattle.rules.specs.Keys.{wrote_key, read_key}
 use Rattle.rules.specs.History.{is_forgotten}
-use Rattle.rules.specs.SearchLaws.{search_same}
+use Rattle.rules.proofs.SearchLaws.{search_same}
 use Rattle.rules.specs.Queue.{least_queued, is_installable}
 use Rattle.rules.specs.Valid.{site_ok}
 use Rattle.rules.specs.Live.{place_of, free_place, stage_at}

@@ -12,7 +12,7 @@ use Rattle.kinds.specs.declared.Seat.{Seat}
 use Rattle.kinds.specs.declared.Sub.{Sub}
 use Rattle.rules.specs.Live.{part_at}
 use Rattle.rules.specs.Queue.{comes_first, better_place, least_queued}
-use Rattle.rules.specs.QueueLaws.{queued_none, queued_more}
+use Rattle.rules.proofs.QueueLaws.{queued_none, queued_more}
 use Rattle.lent.specs.Layout.{live_of}
 use Rattle.lent.specs.Seats.{seat_at, seat_stage, seat_tx, place_number_lem}
 use Rattle.queue.specs.Asked.{asked, Best, first_asked}

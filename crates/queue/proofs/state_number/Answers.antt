@@ -9,7 +9,7 @@ use Rattle.kinds.specs.Word as word
 use Rattle.kinds.specs.declared.Seat.{Seat}
 use Rattle.rules.specs.Live.{part_at}
 use Rattle.rules.specs.Queue.{state_bound, state_number}
-use Rattle.rules.specs.QueueLaws.{state_none, state_more}
+use Rattle.rules.proofs.QueueLaws.{state_none, state_more}
 use Rattle.lent.specs.Layout.{live_of}
 use Rattle.lent.specs.Seats.{seat_at, seat_stage, place_number_lem}
 use Rattle.queue.specs.Asked.{asked, bound_asked}

@@ -14,7 +14,7 @@ use Rattle.laws.specs.Choice.{by_test, every_at}
 use Rattle.laws.specs.Digits.{digit, digit_le, digit_or}
 use Rattle.kinds.specs.Sizes as sizes
 use Rattle.kinds.specs.declared.Course.{Course}
-use Rattle.rules.specs.EntryLaws.{in_digit, digit_in}
+use Rattle.rules.proofs.EntryLaws.{in_digit, digit_in}
 use Rattle.rules.specs.House.{in_mask, mask_of}
 use Rattle.rules.specs.Live.{all_heard}
 use Rattle.rules.specs.MaskLaws.{high_digit, one_digit, digit_one, heard_none}

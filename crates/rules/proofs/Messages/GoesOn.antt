@@ -21,12 +21,12 @@ use Rattle.kinds.specs.declared.MessageHead.{MessageHead}
 use Rattle.kinds.specs.declared.Answer.{Answer}
 use Rattle.kinds.specs.declared.Answer.TheVariants.{Refused}
 use Rattle.kinds.specs.State.{sub_at}
-use Rattle.rules.specs.JoinLaws.{join_whole}
+use Rattle.rules.proofs.JoinLaws.{join_whole}
 use Rattle.rules.specs.Message.{entry_count}
 use Rattle.rules.specs.Live.{place_of, free_place, all_heard}
 use Rattle.rules.specs.Join.{joined}
 use Rattle.rules.specs.Certify.{concurrent, vote_of}
-use Rattle.rules.specs.CertifyLaws.{concurrent_whole}
+use Rattle.rules.proofs.CertifyLaws.{concurrent_whole}
 use Rattle.rules.specs.Answers.{is_refused}
 use Rattle.rules.specs.Effect.{Change, Effect, changed, refused, unless}
 use Rattle.rules.specs.Course.{head_of, raise, with_reply, is_outstanding}

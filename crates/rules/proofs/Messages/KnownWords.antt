@@ -12,7 +12,7 @@ use Rattle.kinds.specs.State.{sub_at}
 use Rattle.kinds.specs.declared.Value.{Value}
 use Rattle.kinds.specs.declared.Site.{Site}
 use Rattle.kinds.specs.declared.Answer.TheVariants.{Refused}
-use Rattle.rules.specs.JoinLaws.{join_whole}
+use Rattle.rules.proofs.JoinLaws.{join_whole}
 use Rattle.rules.specs.House.{coordinator_of, is_site, in_mask}
 use Rattle.rules.specs.Desk.{is_desk}
 use Rattle.rules.specs.Message.{entry_count}

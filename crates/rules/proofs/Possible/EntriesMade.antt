@@ -22,11 +22,11 @@ use Rattle.rules.specs.Message.{entry_tx, entry_mask, entry_mark, entry_count, e
 use Rattle.rules.specs.KeysLaws.{by_order}
 use Rattle.rules.specs.Live.{is_prepared}
 use Rattle.rules.specs.Join.{with_listed, listed_of, join_tx, join_count, joined}
-use Rattle.rules.specs.JoinLaws.{count_le, count_joined, join_whole, joined_member, of_mark, listed_from}
-use Rattle.rules.specs.EntryLaws.{joined_tx, joined_mask, joined_mark, joined_ascends}
+use Rattle.rules.proofs.JoinLaws.{count_le, count_joined, join_whole, joined_member, of_mark, listed_from}
+use Rattle.rules.proofs.EntryLaws.{joined_tx, joined_mask, joined_mark, joined_ascends}
 use Rattle.rules.specs.Certify.{candidates, concurrent}
-use Rattle.rules.specs.CertifyLaws.{candidates_marks, concurrent_whole, concurrent_few}
-use Rattle.rules.specs.ListLaws.{Candidate, candidate_from}
+use Rattle.rules.proofs.CertifyLaws.{candidates_marks, concurrent_whole, concurrent_few}
+use Rattle.rules.proofs.ListLaws.{Candidate, candidate_from}
 use Rattle.rules.specs.Valid.{site_ok, list_at}
 use Rattle.rules.specs.ValidLaws.{valid_site, valid_recall, recall_tx}
 use Rattle.rules.specs.MergerWords.{above, put_before, put_behind, put_within}

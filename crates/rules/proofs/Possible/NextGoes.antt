@@ -22,7 +22,7 @@ use Rattle.rules.specs.Message.{message_head, message_entries, message_ok}
 use Rattle.rules.specs.Send.{is_recipient, counts_low}
 use Rattle.rules.specs.Live.{place_of, free_place, all_heard}
 use Rattle.rules.specs.Certify.{concurrent}
-use Rattle.rules.specs.CertifyLaws.{concurrent_whole}
+use Rattle.rules.proofs.CertifyLaws.{concurrent_whole}
 use Rattle.rules.specs.Valid.{site_ok, handed_ok}
 use Rattle.rules.specs.ValidLaws.{valid_site, handed_site}
 use Rattle.rules.specs.MessageLaws.{head_clear, passed_good}

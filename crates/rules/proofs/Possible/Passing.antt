@@ -22,7 +22,7 @@ use Rattle.rules.specs.House.{is_site, is_tx, coordinator_of, in_mask, is_mask}
 use Rattle.rules.specs.Message.{message_words, entry_count, coordinator_end, carries_clock, argument_ok, most_entries, ends_ok, head_ok}
 use Rattle.rules.specs.Message.{entry_ok, message_ok}
 use Rattle.rules.specs.MessageLaws.{written_passes}
-use Rattle.rules.specs.EntryLaws.{in_digit}
+use Rattle.rules.proofs.EntryLaws.{in_digit}
 use Rattle.rules.specs.MaskLaws.{high_digit}
 use Rattle.rules.specs.Send.{is_recipient, head_to}
 use Rattle.rules.specs.Course.{head_of, send_to, send_all}

@@ -18,7 +18,7 @@ use Rattle.rules.specs.HouseLaws.{key_low}
 use Rattle.rules.specs.Keys.{wrote_key, wrote_value, read_key}
 use Rattle.rules.specs.Live.{stage_at, place_of}
 use Rattle.rules.specs.History.{is_forgotten, version_of}
-use Rattle.rules.specs.SearchLaws.{search_same}
+use Rattle.rules.proofs.SearchLaws.{search_same}
 use Rattle.rules.specs.Valid.{site_ok}
 use Rattle.rules.specs.Effect.{Effect}
 use Rattle.rules.specs.Access.{access_code, read_code, read_version, read_at, read_of}

@@ -17,7 +17,7 @@ use Rattle.rules.specs.Keys.{wrote_key, read_key}
 use Rattle.rules.specs.KeysLaws.{by_order}
 use Rattle.rules.specs.Live.{place_of, stage_at}
 use Rattle.rules.specs.History.{recall, within, backwards, is_forgotten, search_in}
-use Rattle.rules.specs.SearchLaws.{search_last, search_none, search_same}
+use Rattle.rules.proofs.SearchLaws.{search_last, search_none, search_same}
 use Rattle.rules.specs.Valid.{site_ok}
 use Rattle.rules.specs.Effect.{Effect}
 use Rattle.rules.specs.Access.{access_code, read_code, read_version, read_at, read_of, search_of}

@@ -19,7 +19,7 @@ use Rattle.rules.specs.House.{home_of}
 use Rattle.rules.specs.HouseLaws.{key_low}
 use Rattle.rules.specs.KeysLaws.{by_order}
 use Rattle.rules.specs.History.{forgotten, is_forgotten, search_in}
-use Rattle.rules.specs.SearchLaws.{search_same}
+use Rattle.rules.proofs.SearchLaws.{search_same}
 use Rattle.rules.specs.Valid.{site_ok}
 use Rattle.rules.specs.Access.{key_code, search_of}
 use Rattle.rules.specs.CallLaws.{key_clear}

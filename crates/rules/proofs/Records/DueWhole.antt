@@ -16,7 +16,8 @@ use Rattle.kinds.specs.declared.RecordHead.{RecordHead}
 use Rattle.kinds.specs.declared.Merger.{Merger}
 use Rattle.rules.specs.House.{in_mask}
 use Rattle.rules.specs.Merger.{heads_of, head_in, has_part, is_due, is_whole, least_site, due_code, emit_due, emit_code, emit_of, emit_causes}
-use Rattle.rules.specs.MergerLaws.{LeastOf, IsDue, WholeAt, has_part_lem, part_had, least_is, is_due_lem, parts_whole}
+use Rattle.rules.specs.MergerLaws.{LeastOf, IsDue, WholeAt, has_part_lem, part_had, least_is, parts_whole}
+use Rattle.rules.proofs.MergerLaws.{is_due_lem}
 use Rattle.rules.specs.World.{World, step, merger_step}
 use Rattle.rules.specs.Progress.{DueIsWhole}
 use Rattle.rules.proofs.Refine.Refines.{part_head_of, count_is}

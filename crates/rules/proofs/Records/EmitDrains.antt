@@ -17,7 +17,7 @@ use Rattle.rules.specs.House.{coordinator_of}
 use Rattle.rules.specs.Record.{record_words}
 use Rattle.rules.specs.Merger.{heads_of, head_in, is_due, is_whole, least_site, merged_words, due_code, emit_due, emit_code, emit_of, merger_ok}
 use Rattle.rules.specs.MergerClear.{clear_merger}
-use Rattle.rules.specs.MergerLaws as laws
+use Rattle.rules.proofs.MergerLaws as laws
 use Rattle.rules.specs.MergerLaws.{LeastOf, least_is, least_some}
 use Rattle.rules.specs.World.{World, step, merger_step, record_in}
 use Rattle.rules.specs.World as world

@@ -22,11 +22,11 @@ use Rattle.rules.specs.Live.{is_prepared, is_part_of}
 use Rattle.rules.specs.History.{recall, remembered, forgotten, within, is_forgotten}
 use Rattle.rules.specs.HistoryLaws.{all_installs}
 use Rattle.rules.specs.Join.{joined, join_tx, join_count, listed_of}
-use Rattle.rules.specs.JoinLaws.{length_joined, of_mark, listed_from}
+use Rattle.rules.proofs.JoinLaws.{length_joined, of_mark, listed_from}
 use Rattle.rules.specs.Certify.{candidates, concurrent, vote_of}
-use Rattle.rules.specs.CertifyLaws.{concurrent_whole, lists_prepared, lists_installed, yes_clear, yes_recorded, recorded_is}
-use Rattle.rules.specs.CertifyLaws.{candidates_marks}
-use Rattle.rules.specs.EntryLaws.{Listing, Marks, joined_mark, joined_within}
+use Rattle.rules.proofs.CertifyLaws.{concurrent_whole, lists_prepared, lists_installed, yes_clear, yes_recorded, recorded_is}
+use Rattle.rules.proofs.CertifyLaws.{candidates_marks}
+use Rattle.rules.proofs.EntryLaws.{Listing, Marks, joined_mark, joined_within}
 use Rattle.rules.proofs.Protocol.ProtocolTables.{Protocol, inst}
 use Rattle.rules.proofs.Protocol.Protocol.{Covers, Certified, Within, Listed}
 use Rattle.rules.proofs.Protocol.Invariants.{Parts, at}

@@ -18,7 +18,6 @@ use Rattle.rules.specs.House.{coordinator_of}
 use Rattle.rules.specs.Message.{entry_count}
 use Rattle.rules.specs.Send.{counts_low}
 use Rattle.rules.specs.Live.{place_of, all_heard}
-use Rattle.rules.specs.Join.{joined}
 use Rattle.rules.specs.Certify.{concurrent}
 use Rattle.rules.specs.Valid.{site_ok, handed_ok}
 use Rattle.rules.specs.ValidLaws.{handed_site}
@@ -32,7 +31,7 @@ use Rattle.rules.specs.World.{World, step, site_step}
 use Rattle.rules.specs.World as world
 use Rattle.rules.specs.Book as book
 use Rattle.rules.proofs.Protocol.ProtocolTables.{Protocol}
-use Rattle.rules.proofs.Protocol.Protocol.{AtStage, more}
+use Rattle.rules.proofs.Protocol.Protocol.{AtStage}
 use Rattle.rules.proofs.Protocol.Invariants.{Invariant}
 use Rattle.rules.proofs.Refine.Refines.{Refines}
 use Rattle.rules.proofs.Refine.RefineStep.{Follows, told_by, by_code, inside, stays}

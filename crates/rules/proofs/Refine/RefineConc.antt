@@ -15,11 +15,11 @@ use Rattle.kinds.specs.declared.Sub.{Sub}
 use Rattle.kinds.specs.declared.Turn.{Turn}
 use Rattle.kinds.specs.declared.Site.{Site}
 use Rattle.kinds.specs.State.{sub_at, with_course}
-use Rattle.rules.specs.JoinLaws.{join_whole}
+use Rattle.rules.proofs.JoinLaws.{join_whole}
 use Rattle.rules.specs.House.{coordinator_of, in_mask}
 use Rattle.rules.specs.Message.{entry_count}
 use Rattle.rules.specs.KeysLaws.{by_order}
-use Rattle.rules.specs.EntryLaws.{Marks}
+use Rattle.rules.proofs.EntryLaws.{Marks}
 use Rattle.rules.specs.Live.{all_heard}
 use Rattle.rules.specs.Join.{joined}
 use Rattle.rules.specs.Certify.{vote_of}

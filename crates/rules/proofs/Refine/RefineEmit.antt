@@ -28,7 +28,7 @@ use Rattle.rules.specs.RecordLaws.{writes_back, part_passed_good, merged_clear, 
 use Rattle.rules.specs.Merger.{Merging, refused_merger, source_at, pop_source, queued_part, heads_of, has_part, due_head, least_site, due_code}
 use Rattle.rules.specs.Merger.{part_writes, joined_writes, writes_in, merged_head, pop_merger, pop_queues, emit_due, emit_code, emit_of}
 use Rattle.rules.specs.MergerLaws.{has_part_lem, part_had}
-use Rattle.rules.specs.MergerJoin.{Emits, emits}
+use Rattle.rules.proofs.MergerJoin.{Emits, emits}
 use Rattle.rules.specs.MergerKept.{Holds, emit_kept, popped_source, pop_house}
 use Rattle.rules.specs.MergerWords.{popped_place, kept_place}
 use Rattle.rules.specs.World.{World, step, merger_step, record_in}

@@ -15,7 +15,7 @@ use Rattle.rules.specs.House.{coordinator_of, in_mask}
 use Rattle.rules.specs.Record.{record_head}
 use Rattle.rules.specs.Merger.{source_at, queued_part, heads_of, head_in}
 use Rattle.rules.specs.MergerLaws.{HasPart, LeastOf, IsDue}
-use Rattle.rules.specs.MergerJoin.{heads_at, head_part}
+use Rattle.rules.proofs.MergerJoin.{heads_at, head_part}
 use Rattle.rules.specs.World.{World}
 use Rattle.rules.proofs.Protocol.Committed.{low_coordinator}
 use Rattle.rules.proofs.Refine.Refines.{entry_words, part_head_of, count_is}

@@ -15,7 +15,7 @@ use Rattle.kinds.specs.Word as word
 use Rattle.kinds.specs.declared.Value.{Value}
 use Rattle.kinds.specs.declared.House.{House}
 use Rattle.kinds.specs.declared.Keys.{Keys}
-use Rattle.rules.specs.MergerJoin.{halved}
+use Rattle.rules.proofs.MergerJoin.{halved}
 use Rattle.rules.specs.House.{in_mask, home_of}
 use Rattle.rules.specs.HouseLaws.{home_positive}
 use Rattle.rules.specs.Keys.{wrote_key, wrote_value, sorted_key, sorted_count}

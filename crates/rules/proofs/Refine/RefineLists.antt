@@ -13,7 +13,7 @@ use Rattle.kinds.specs.declared.Sub.{Sub}
 use Rattle.kinds.specs.State.{past_sub}
 use Rattle.rules.specs.House.{coordinator_of}
 use Rattle.rules.specs.KeysLaws.{by_order}
-use Rattle.rules.specs.EntryLaws.{Marks, append_marks}
+use Rattle.rules.proofs.EntryLaws.{Marks, append_marks}
 use Rattle.rules.specs.Live.{part_at}
 use Rattle.rules.specs.MergerWords.{length_put, put_before, put_behind, put_within}
 use Rattle.rules.specs.World.{upd}

@@ -29,7 +29,7 @@ use Rattle.rules.specs.KeysLaws.{by_order}
 use Rattle.rules.specs.Live.{part_at, is_queued}
 use Rattle.rules.specs.History.{slot_of, remembered, forgotten, forget_into}
 use Rattle.rules.specs.Queue.{least_queued, is_installable, state_number}
-use Rattle.rules.specs.QueueLaws.{least_first, state_clock, state_open, state_decided, StateIs, state_is}
+use Rattle.rules.proofs.QueueLaws.{least_first, state_clock, state_open, state_decided, StateIs, state_is}
 use Rattle.rules.specs.Valid.{site_ok}
 use Rattle.rules.specs.Effect.{Effect, refused}
 use Rattle.rules.specs.Install.{install_code, entry_of, part_head, part_words, base_after, installed_at, install_of, report_code, state_words}

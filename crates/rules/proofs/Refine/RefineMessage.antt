@@ -27,7 +27,7 @@ use Rattle.rules.specs.House.{is_tx, is_mask}
 use Rattle.rules.specs.Message.{message_words, entry_tx, entry_mask, entry_mark, entry_before, entry_count, entry_ok, entry_possible}
 use Rattle.rules.specs.Message.{GoodMessage, most_entries}
 use Rattle.rules.specs.MessageLaws.{head_clear}
-use Rattle.rules.specs.EntryLaws.{Marks}
+use Rattle.rules.proofs.EntryLaws.{Marks}
 use Rattle.rules.specs.KeysLaws.{by_order}
 use Rattle.rules.specs.Live.{place_of, free_place, all_heard}
 use Rattle.rules.specs.History.{is_forgotten}

@@ -17,14 +17,14 @@ use Rattle.kinds.specs.declared.Turn.{Turn}
 use Rattle.kinds.specs.declared.Site.{Site}
 use Rattle.kinds.specs.declared.Answer.TheVariants.{Done}
 use Rattle.kinds.specs.State.{sub_at, with_course, with_sub}
-use Rattle.rules.specs.JoinLaws.{join_whole}
+use Rattle.rules.proofs.JoinLaws.{join_whole}
 use Rattle.rules.specs.House.{coordinator_of}
 use Rattle.rules.specs.Message.{entry_count}
 use Rattle.rules.specs.Live.{part_at, all_heard}
 use Rattle.rules.specs.History.{is_forgotten}
 use Rattle.rules.specs.Join.{joined}
 use Rattle.rules.specs.Certify.{concurrent, vote_of}
-use Rattle.rules.specs.CertifyLaws.{concurrent_whole, concurrent_few}
+use Rattle.rules.proofs.CertifyLaws.{concurrent_whole, concurrent_few}
 use Rattle.rules.specs.Valid.{site_ok}
 use Rattle.rules.specs.ValidLaws.{valid_site}
 use Rattle.rules.specs.Effect.{turn_at, settle}

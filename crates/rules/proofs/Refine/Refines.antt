@@ -21,7 +21,7 @@ use Rattle.kinds.specs.State.{past_entry}
 use Rattle.rules.specs.House.{coordinator_of}
 use Rattle.rules.specs.Message.{message_words, entry_count}
 use Rattle.rules.specs.Record.{record_words, record_shape}
-use Rattle.rules.specs.EntryLaws.{Marks}
+use Rattle.rules.proofs.EntryLaws.{Marks}
 use Rattle.rules.specs.Keys.{sorted_count, sorted_words}
 use Rattle.rules.specs.Live.{part_at, stage_at}
 use Rattle.rules.specs.History.{recall, remembered, forgotten}

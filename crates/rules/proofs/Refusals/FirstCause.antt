@@ -1,5 +1,5 @@
 -- Why the first cause is returned: each call looks at its causes list by list, and one behind the other they stand in the table's order.
-use Prim.Native.Nat.{ℕ, ◌+◌, ◌-◌}
+use Prim.Native.Nat.{ℕ, ◌-◌}
 use mathlib.Core.Path.{◌≡◌, refl}
 use mathlib.Core.Bool.{Bool, true, false}
 use mathlib.Core.List.{List, [], ◌∷◌, ◌++◌}
@@ -27,7 +27,7 @@ use Rattle.rules.specs.History.{is_forgotten, is_newer, search_in}
 use Rattle.rules.specs.Valid.{site_ok, handed_ok}
 use Rattle.rules.specs.Live.{place_of, free_place, key_held, all_heard}
 use Rattle.rules.specs.Certify.{concurrent}
-use Rattle.rules.specs.CertifyLaws.{concurrent_whole}
+use Rattle.rules.proofs.CertifyLaws.{concurrent_whole}
 use Rattle.rules.specs.Effect.{Effect, Change, turn_at, changed, unless}
 use Rattle.rules.specs.Course.{with_reply, send_to, quietly, raise, channel_spent, enlist_step, abort_step}
 use Rattle.rules.specs.Begin.{begin_code, begin_of, begun}

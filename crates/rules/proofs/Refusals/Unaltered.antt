@@ -20,7 +20,7 @@ use Rattle.rules.specs.Message.{message_head, message_entries, message_ok}
 use Rattle.rules.specs.Live.{place_of, free_place, all_heard}
 use Rattle.rules.specs.Queue.{least_queued, is_installable}
 use Rattle.rules.specs.Certify.{concurrent}
-use Rattle.rules.specs.CertifyLaws.{concurrent_whole}
+use Rattle.rules.proofs.CertifyLaws.{concurrent_whole}
 use Rattle.rules.specs.Course.{send_to, with_reply}
 use Rattle.rules.specs.Deliver.{arrival_code, next_code, reply_code, spent_to, step_unless, keeping, passed, spoken, join_at, take_join}
 use Rattle.rules.specs.Deliver.{take_joined, take_prepare, pass_prepare, take_conc, gather_lists, take_cert, take_vote, take_commit}

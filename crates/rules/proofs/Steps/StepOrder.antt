@@ -22,7 +22,7 @@ use Rattle.rules.specs.Install.{entry_of}
 use Rattle.rules.proofs.Lists.Tables.{All, a_nil, a_cons, all_append, all_one, all_map}
 use Rattle.rules.proofs.Protocol.ProtocolTables.{Protocol, Rec, r_part, r_state, parts_of}
 use Rattle.rules.proofs.Protocol.Protocol.{AtStage, LeastQueued, Move, fresh_protocol, course_at, Bound}
-use Rattle.rules.proofs.Protocol.Invariants.{at, Installed, RecLow, RecBelow, Ascending, Order, Invariant, Held, Courses, Account}
+use Rattle.rules.proofs.Protocol.Invariants.{Installed, RecLow, RecBelow, Ascending, Order, Invariant, Held, Courses, Account}
 use Rattle.rules.proofs.Protocol.Invariants.{StandsBefore}
 use Rattle.rules.proofs.Protocol.Turns.{Logged, l_same, l_part, l_state, installed_last, Turn, t_stays, t_moves, t_reads, t_aborts}
 use Rattle.rules.proofs.Protocol.Turns.{t_installs, t_begins}

@@ -1,0 +1,45 @@
+-- Nothing is written for the part itself or for one that is not prepared, and one entry for another: its seat and its words.
+use borrow.Author.Rules.{rules}
+use borrow.Author.Tests.{eq-eqb, ne_eqb, not-false, not-true}
+use lib.Dec.{eqb}
+use mathlib.Core.Bool.{false}
+use mathlib.Core.Path.{◌∙◌, ◌≡◌, sym}
+use Prim.Native.Nat.{◌*◌}
+use native.Mathlib.Omega.{arith}
+use Rattle.laws.specs.Overlay.{overlay_none}
+use Rattle.kinds.specs.Sizes as sizes
+use Rattle.rules.specs.Certify.{prepared_words}
+use Rattle.rules.specs.Live.{is_prepared}
+use Rattle.lent.specs.Layout.{sub_from}
+use Rattle.certify.proofs.list.write_prepared.Goals as goal
+
+pub returns-then-i-place : goal.returns-then-i-place
+unfolding prepared_words
+returns-then-i-place c =
+    let a = c.args in
+    let e = eq-eqb a.i a.place c.if-i-place.true in
+    record { upper_bound = omega arith; fact = record { long = rw e; are = rw e (overlay_none _) } }
+
+pub returns-then-not-is_prepared : goal.returns-then-not-is_prepared
+unfolding prepared_words is_prepared sub_from
+returns-then-not-is_prepared c =
+    let another : (let a = c.args in eqb a.i a.place ≡ false) = let a = c.args in ne_eqb a.i a.place c.if-i-place.false in
+    let tells : (let a = c.args in is_prepared (sub_from a.a a.live.now (sizes.place * a.i)) ≡ c.is_prepared.result) = sym c.is_prepared.ensures in
+    let e = another in
+    let f = tells ∙ c.if-not-is_prepared.true in
+    record { upper_bound = omega arith; fact = record { long = rw (e, f); are = rw (e, f) (overlay_none _) } }
+
+pub write_concurrent-requires : goal.write_concurrent-requires
+write_concurrent-requires c =
+    let pre = c.requires in
+    record { room = pre.room; few_own = pre.few_own; few_other = rw c.keys_at-keys.ensures pre.other.few }
+
+pub returns : goal.returns
+unfolding prepared_words sub_from is_prepared
+returns c =
+    let another : (let a = c.args in eqb a.i a.place ≡ false) = let a = c.args in ne_eqb a.i a.place c.if-i-place.false in
+    let tells : (let a = c.args in is_prepared (sub_from a.a a.live.now (sizes.place * a.i)) ≡ c.is_prepared.result) = sym c.is_prepared.ensures in
+    let e = another in
+    let f = tells ∙ c.if-not-is_prepared.false in
+    let are = rw c.keys_at-keys.ensures at c.write_concurrent.ensures in
+    record { upper_bound = omega arith; fact = record { long = rw (e, f); are = rw (e, f) are } }

@@ -1,0 +1,13 @@
+-- The place freed, and ABORT sent to the others.
+use borrow.Author.Rules.{rules}
+use Rattle.rules.specs.Course.{abort_step}
+use Rattle.rules.specs.CourseLaws.{no_entries}
+use Rattle.rules.specs.Effect.{taken_of}
+use Rattle.course.proofs.coordinator.abort_step.Goals as goal
+
+pub send_all-a-requires : goal.send_all-a-requires
+send_all-a-requires c = (c.requires, no_entries)
+
+pub returns : goal.returns
+unfolding abort_step taken_of
+returns c = record { value = rw (c.no_sub-free.ensures, c.send_all-a.ensures.value); out_after = c.send_all-a.ensures.out_after }

@@ -1,0 +1,8 @@
+-- An active part with nothing used.
+use borrow.Author.Rules.{rules}
+use Rattle.rules.specs.Course.{new_sub}
+use Rattle.course.proofs.turn.new_sub.Goals as goal
+
+pub returns : goal.returns
+unfolding new_sub
+returns c = rw c.no_keys-keys.ensures

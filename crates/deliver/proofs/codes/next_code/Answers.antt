@@ -1,0 +1,32 @@
+-- Each return is the first cause, or none.
+use Prim.Native.Nat.{◌+◌}
+use borrow.Author.Rules.{rules}
+use borrow.Author.Tests.{eq-eqb, ne_eqb}
+use mathlib.Core.Path.{◌≡◌}
+use native.Mathlib.Omega.{arith}
+use Rattle.rules.specs.CallLaws.{pred_is}
+use Rattle.rules.specs.Deliver.{next_code}
+use Rattle.deliver.proofs.codes.next_code.Goals as goal
+
+pub returns-then-to-own : goal.returns-then-to-own
+unfolding next_code
+returns-then-to-own c = simp (ne_eqb c.args.to c.args.own c.if-to-own.true)
+
+pub returns-then-channel-eq0 : goal.returns-then-channel-eq0
+unfolding next_code
+returns-then-channel-eq0 c =
+    let a = c.args in
+    simp (eq-eqb a.to a.own c.if-to-own.false, ne_eqb a.channel (a.taken + 1) (λ e. omega (arith, e, c.if-channel-eq0.true)))
+
+pub returns-then-channel-taken : goal.returns-then-channel-taken
+unfolding next_code
+returns-then-channel-taken c =
+    let a = c.args in
+    simp (eq-eqb a.to a.own c.if-to-own.false, ne_eqb a.channel (a.taken + 1) (λ e. c.if-channel-taken.true (omega (arith, e))))
+
+pub returns : goal.returns
+unfolding next_code
+returns c =
+    let a = c.args in
+    let q : a.channel ≡ a.taken + 1 = pred_is a.channel a.taken c.if-channel-eq0.false c.if-channel-taken.false in
+    simp (eq-eqb a.to a.own c.if-to-own.false, eq-eqb a.channel (a.taken + 1) q)

@@ -1,0 +1,134 @@
+-- Each arm is its kind's rule; the kinds beyond 1 to 8 cannot come.
+use Prim.Native.Nat.{ℕ}
+use mathlib.Core.Path.{◌≡◌, ◌∙◌}
+use native.Mathlib.Omega.{arith}
+use borrow.Author.Rules.{rules}
+use Rattle.kinds.specs.Kind as kind
+use Rattle.kinds.specs.declared.Site.{Site}
+use Rattle.rules.specs.Deliver.{take_kind}
+use Rattle.rules.specs.DispatchLaws.{given_kind, kind_abort, kind_cert, kind_commit, kind_join, kind_joined, kind_prepare, kind_vote}
+use Rattle.rules.specs.DispatchLaws.{quiet_abort, quiet_commit, quiet_joined, some_kind}
+use Rattle.rules.specs.Effect.{Effect}
+use Rattle.lent.specs.Lent.{site_of}
+use Rattle.handlers.specs.Held.{Reached}
+use Rattle.deliver.proofs.Takes.{quiet, reaches, sends}
+use Rattle.deliver.proofs.dispatch.take_kind.Goals.{Start}
+use Rattle.deliver.proofs.dispatch.take_kind.Goals as goal
+
+reached : (c : Start) → (let a = c.args in Reached a.p a.live.now a.history.now a.h.from)
+reached c =
+    reaches c.args.p c.args.live.now c.args.history.now c.requires.incoming
+
+of-kind : (c : Start) → (let handed : Site = let a = c.args in site_of a.p a.live.now a.history.now in     let rule : ℕ → Effect = λ k. let a = c.args in take_kind k handed a.h a.es.now a.lists.now a.place in (k : ℕ) {e : Effect} → c.args.h.kind ≡ k → rule k ≡ e → rule c.args.h.kind ≡ e)
+of-kind c k q t =
+    let handed : Site = let a = c.args in site_of a.p a.live.now a.history.now in
+    let a = c.args in
+    given_kind handed a.h a.es.now a.lists.now a.place q ∙ t
+
+pub take_join-requires : goal.take_join-requires
+take_join-requires c =
+    let reached = reached (goal.at.take_join-requires c).Start in
+    (reached, c.requires.lists_len.1)
+
+pub on_joined-requires : goal.on_joined-requires
+on_joined-requires c =
+    let reached = reached (goal.at.on_joined-requires c).Start in
+    reached
+
+pub on_prepare-requires : goal.on_prepare-requires
+on_prepare-requires c =
+    let reached = reached (goal.at.on_prepare-requires c).Start in
+    (reached, c.requires.lists_len.1)
+
+pub on_conc-requires : goal.on_conc-requires
+on_conc-requires c =
+    let pre = c.requires in
+    record { incoming = (pre.incoming, c.in-9-to-18446744073709551615.keys4); lists_len = pre.lists_len }
+
+pub on_cert-requires : goal.on_cert-requires
+on_cert-requires c =
+    let pre = c.requires in
+    record { incoming = (pre.incoming, c.in-9-to-18446744073709551615.keys5); outgoing_in_bounds = pre.lists_len.1 }
+
+pub on_vote-requires : goal.on_vote-requires
+on_vote-requires c =
+    let reached = reached (goal.at.on_vote-requires c).Start in
+    (reached, c.requires.lists_len.1)
+
+pub on_commit-requires : goal.on_commit-requires
+on_commit-requires c =
+    let reached = reached (goal.at.on_commit-requires c).Start in
+    reached
+
+pub on_abort-requires : goal.on_abort-requires
+on_abort-requires c =
+    let reached = reached (goal.at.on_abort-requires c).Start in
+    reached
+
+pub returns-in-1 : goal.returns-in-1
+returns-in-1 c =
+    let of-kind = of-kind (goal.at.returns-in-1 c).Start in
+    let a = c.args in
+    let t = of-kind kind.join c.in-9-to-18446744073709551615.keys1 (kind_join _ _ _ _ _) in
+    sends a.lists.now c.take_join.ensures.replied a.out.now _ t c.take_join.ensures.out_after
+
+pub returns-in-2 : goal.returns-in-2
+returns-in-2 c =
+    let handed : Site = let a = c.args in site_of a.p a.live.now a.history.now in
+    let of-kind = of-kind (goal.at.returns-in-2 c).Start in
+    let a = c.args in
+    let t = of-kind kind.joined c.in-9-to-18446744073709551615.keys2 (kind_joined _ _ _ _ _) in
+    quiet a.lists.now c.on_joined.ensures a.out.now t (quiet_joined handed a.h a.place)
+
+pub returns-in-3 : goal.returns-in-3
+returns-in-3 c =
+    let of-kind = of-kind (goal.at.returns-in-3 c).Start in
+    let a = c.args in
+    let t = of-kind kind.prepare c.in-9-to-18446744073709551615.keys3 (kind_prepare _ _ _ _ _) in
+    sends a.lists.now c.on_prepare.ensures.replied a.out.now _ t c.on_prepare.ensures.out_after
+
+pub returns-in-4 : goal.returns-in-4
+returns-in-4 c =
+    let handed : Site = let a = c.args in site_of a.p a.live.now a.history.now in
+    let a = c.args in
+    rw (given_kind handed a.h a.es.now a.lists.now a.place c.in-9-to-18446744073709551615.keys4) c.on_conc.ensures
+
+pub returns-in-5 : goal.returns-in-5
+returns-in-5 c =
+    let of-kind = of-kind (goal.at.returns-in-5 c).Start in
+    let a = c.args in
+    let t = of-kind kind.cert c.in-9-to-18446744073709551615.keys5 (kind_cert _ _ _ _ _) in
+    sends a.lists.now c.on_cert.ensures.replied a.out.now _ t c.on_cert.ensures.out_after
+
+pub returns-in-6 : goal.returns-in-6
+returns-in-6 c =
+    let of-kind = of-kind (goal.at.returns-in-6 c).Start in
+    let a = c.args in
+    let t = of-kind kind.vote c.in-9-to-18446744073709551615.keys6 (kind_vote _ _ _ _ _) in
+    sends a.lists.now c.on_vote.ensures.replied a.out.now _ t c.on_vote.ensures.out_after
+
+pub returns-in-7 : goal.returns-in-7
+returns-in-7 c =
+    let handed : Site = let a = c.args in site_of a.p a.live.now a.history.now in
+    let of-kind = of-kind (goal.at.returns-in-7 c).Start in
+    let a = c.args in
+    let t = of-kind kind.commit c.in-9-to-18446744073709551615.keys7 (kind_commit _ _ _ _ _) in
+    quiet a.lists.now c.on_commit.ensures a.out.now t (quiet_commit handed a.h a.place)
+
+pub returns-in-8 : goal.returns-in-8
+returns-in-8 c =
+    let handed : Site = let a = c.args in site_of a.p a.live.now a.history.now in
+    let of-kind = of-kind (goal.at.returns-in-8 c).Start in
+    let a = c.args in
+    let t = of-kind kind.abort c.in-9-to-18446744073709551615.keys8 (kind_abort _ _ _ _ _) in
+    quiet a.lists.now c.on_abort.ensures a.out.now t (quiet_abort handed a.h a.place)
+
+pub returns-in-0 : goal.returns-in-0
+returns-in-0 c = absurd (omega (arith, c.requires.incoming.low_kind, c.in-9-to-18446744073709551615.keys9))
+
+pub returns-in-9-to-18446744073709551615 : goal.returns-in-9-to-18446744073709551615
+returns-in-9-to-18446744073709551615 c =
+    let i = c.requires.incoming in
+    let r = c.in-9-to-18446744073709551615.rest in
+    let s = r.0.0.0.0 in
+    absurd (some_kind _ i.low_kind i.high_kind s.0.0.0.0.1 s.0.0.0.1 s.0.0.1 s.0.1 s.1 r.0.0.0.1 r.0.0.1 r.0.1)

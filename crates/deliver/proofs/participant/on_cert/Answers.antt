@@ -1,0 +1,41 @@
+-- A CERT of a transaction that is held goes to its handler; for any other only the count is stepped.
+use native.Mathlib.Omega.{arith}
+use borrow.Author.Rules.{rules}
+use borrow.Author.Tests.{le-ltb, lt-ltb}
+use Rattle.laws.specs.Overlay.{overlay_none}
+use Rattle.kinds.specs.Sizes as sizes
+use Rattle.rules.specs.Deliver.{passed}
+use Rattle.rules.specs.DispatchLaws.{or_passed}
+use Rattle.rules.specs.Message.{most_entries}
+use Rattle.handlers.specs.Held.{Reached, counts, holds}
+use Rattle.deliver.proofs.Takes.{few_entries, reaches}
+use Rattle.deliver.proofs.participant.on_cert.Goals.{Start}
+use Rattle.deliver.proofs.participant.on_cert.Goals as goal
+
+reached : (c : Start) → (let a = c.args in Reached a.p a.live.now a.history.now a.h.from)
+reached c =
+    reaches c.args.p c.args.live.now c.args.history.now c.requires.incoming.0
+
+pub passed-requires : goal.passed-requires
+passed-requires c =
+    let reached = reached (goal.at.passed-requires c).Start in
+    counts reached
+
+pub returns-then-place-ge-LIVE : goal.returns-then-place-ge-LIVE
+unfolding or_passed passed
+returns-then-place-ge-LIVE c =
+    let a = c.args in
+    let l = le-ltb a.place sizes.live c.if-place-ge-LIVE.true in
+    record { replied = rw l (c.passed.ensures a.live.now a.history.now); out_after = rw l (overlay_none a.out.now) }
+
+pub take_cert-requires : goal.take_cert-requires
+unfolding most_entries
+take_cert-requires c =
+    let reached = reached (goal.at.take_cert-requires c).Start in
+    let i = c.requires.incoming.0 in
+    let few = few_entries c.args.h.count c.requires.incoming.1 i.few in
+    record { held = (holds reached c.if-place-ge-LIVE.false, c.requires.outgoing_in_bounds); count_le_cert_entries = (few, omega (arith, i.size)) }
+
+pub returns : goal.returns
+unfolding or_passed
+returns c = rw (lt-ltb c.args.place sizes.live c.if-place-ge-LIVE.false) c.take_cert.ensures

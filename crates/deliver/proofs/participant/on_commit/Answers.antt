@@ -1,0 +1,23 @@
+-- A COMMIT of a transaction that is held goes to its handler; for any other only the count is stepped.
+use borrow.Author.Rules.{rules}
+use borrow.Author.Tests.{le-ltb, lt-ltb}
+use Rattle.kinds.specs.Sizes as sizes
+use Rattle.rules.specs.DispatchLaws.{or_passed}
+use Rattle.handlers.specs.Held.{counts, holds}
+use Rattle.deliver.proofs.participant.on_commit.Goals as goal
+
+pub passed-requires : goal.passed-requires
+passed-requires c = counts c.requires
+
+pub returns-then-place-ge-LIVE : goal.returns-then-place-ge-LIVE
+unfolding or_passed
+returns-then-place-ge-LIVE c =
+    let a = c.args in
+    rw (le-ltb a.place sizes.live c.if-place-ge-LIVE.true) (c.passed.ensures a.live.now a.history.now)
+
+pub take_commit-requires : goal.take_commit-requires
+take_commit-requires c = holds c.requires c.if-place-ge-LIVE.false
+
+pub returns : goal.returns
+unfolding or_passed
+returns c = rw (lt-ltb c.args.place sizes.live c.if-place-ge-LIVE.false) c.take_commit.ensures
