@@ -1,4 +1,6 @@
 // A line as a call of a site, which is in a place: its number less 1.
+#![tactic(auto)]
+
 mod own;
 
 ghost use Rattle.std.specs.Prelude.{◌≡◌, ◌+◌, ◌<◌, eqb, length, take};

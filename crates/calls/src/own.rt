@@ -5,6 +5,7 @@ use kinds::reason::MALFORMED;
 use kinds::{Core, Reply, Value};
 use lines::Command;
 
+#[tactic(auto, unfolding(crate::specs::Calls::effect_of, crate::specs::Calls::base_left, crate::specs::Calls::lists_left))]
 pub fn own_call(
     p: Core,
     c: Command,

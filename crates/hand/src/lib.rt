@@ -1,4 +1,6 @@
 // The words in hand, which message, merge and replay hand in: made by a probe's lines, or fetched from what calls wrote.
+#![tactic(auto)]
+
 pub mod store;
 
 use kinds::reason::NOTHING;

@@ -1,97 +1,138 @@
 // The program `house` (H1 to H20): plays the script on standard input, or each file that is named as a house of its own.
+#![tactic(auto)]
+
 mod run;
 
-use files::{fail, finished, open_argument, reported};
-use libc::STDERR_FILENO;
+use files::{NAME, arg_count, fail, finished, open_argument, reported, say};
+use handles::{Origin, Output, Source};
 use pages::PAGE;
 use run::play;
 use script::{TEXT, UNKEPT};
+use spool::Spare;
+use std::fs::File;
+use std::random::RandomSource;
+use std::rt::{Env, Files, Stderr};
+
+// The number under which the system has standard error.
+const STANDARD_ERROR: i32 = 2;
 
 // Says that what is under way does not fit into memory, nor into the temporary file, where there is one.
-fn unkept(spare: i32) {
-    if spare < 0 {
-        io::write_all(
-            STDERR_FILENO,
+fn unkept(to: Stderr, spare: &Spare) {
+    if !spare.is_open() {
+        say(
+            to,
             b"house: messages and records do not fit into memory, and no temporary file can be made in /tmp or /var/tmp\n",
         );
         return;
     }
     fail(
+        to,
         b"house: ",
         b"a temporary file, for messages and records that do not fit into memory",
+        spare.error(),
     );
 }
 
 // Says why a script ended before its end, and whether all went well.
-fn explained(state: u64, spare: i32, name: &[u8]) -> bool {
+fn explained(
+    to: Stderr,
+    from: &Source,
+    output: &Output,
+    state: u64,
+    spare: &Spare,
+    name: &[u8],
+) -> bool {
     if state == UNKEPT {
-        unkept(spare);
+        unkept(to, spare);
         return false;
     }
-    reported(state, b"house: ", name)
+    reported(to, from, output, state, b"house: ", name)
 }
 
 // Plays a script, and answers whether all went well. What it printed before a failure is written out too.
-fn play_all(fd: i32, spare: i32, name: &[u8]) -> bool {
+fn play_all(
+    to: Stderr,
+    origin: Origin,
+    spare: &mut Spare,
+    output: &mut Output,
+    name: &[u8],
+) -> bool {
+    let mut from = Source::new(origin);
     let mut text = [0u8; TEXT];
     let mut page = [0u8; PAGE];
-    let d = play(fd, spare, &mut text, &mut page);
-    let ok = explained(d.state, spare, name);
-    finished(&page, d.used, ok, b"house: ")
+    let d = play(&mut from, spare, &mut text, output, &mut page);
+    let ok = explained(to, &from, output, d.state, spare, name);
+    finished(to, output, &page, d.used, ok, b"house: ")
 }
 
-fn play_file(i: usize, spare: i32) -> bool {
-    let mut path = io::buffer();
-    let o = open_argument(i, b"house: ", b"the name of a script", &mut path);
-    if o.fd < 0 {
-        return false;
+fn play_file<R: Env + Files<File = File>>(
+    rt: &R,
+    to: Stderr,
+    i: usize,
+    spare: &mut Spare,
+    output: &mut Output,
+) -> bool {
+    let mut path = [0u8; NAME];
+    let o = open_argument(rt, to, i, b"house: ", b"the name of a script", &mut path);
+    let name = o.name;
+    match o.file {
+        Some(file) => play_all(to, Origin::Named(file), spare, output, &path[..name]),
+        None => false,
     }
-    let ok = play_all(o.fd, spare, &path[..o.name]);
-    libc::close(o.fd);
-    ok
 }
 
-fn play_files(count: usize, spare: i32) {
+fn play_files<R: Env + Files<File = File>>(
+    rt: &R,
+    to: Stderr,
+    count: usize,
+    spare: &mut Spare,
+    output: &mut Output,
+) {
     let mut i: usize = 1;
     while i < count {
-        if !play_file(i, spare) {
+        if !play_file(rt, to, i, spare, output) {
             return;
         }
         i += 1;
     }
 }
 
-// The system opens a file under the lowest free descriptor. If standard error is closed, the temporary file would become descriptor
-// 2; it is opened again, so that no error message is written into it.
-fn open_spare() -> i32 {
-    let fd = spool::open();
-    if fd == STDERR_FILENO {
-        return spool::open();
+// The system opens a file under the lowest free number. If standard error is closed, the temporary file would become number 2; it is
+// opened again, so that no error message is written into it, and the first is kept open.
+fn open_spare<R: Files<File = File> + RandomSource>(rt: &R) -> (Spare, Option<Spare>) {
+    let spare = spool::open(rt);
+    if spare.descriptor() == Some(STANDARD_ERROR) {
+        return (spool::open(rt), Some(spare));
     }
-    fd
+    (spare, None)
 }
 
 // Whether it is the number of standard input or output.
-fn is_standard(fd: i32) -> bool {
-    if fd < 0 {
-        return false;
+fn is_standard(descriptor: Option<i32>) -> bool {
+    match descriptor {
+        Some(n) => n < STANDARD_ERROR,
+        None => false,
     }
-    fd < STDERR_FILENO
 }
 
-fn main() {
-    let spare = open_spare();
-    if is_standard(spare) {
-        io::write_all(
-            STDERR_FILENO,
-            b"house: standard input or output is closed\n",
+fn main(rt: HostRuntime) {
+    let to = rt.stderr();
+    let (mut spare, _held) = open_spare(&rt);
+    if is_standard(spare.descriptor()) {
+        say(to, b"house: standard input or output is closed\n");
+        return;
+    }
+    let mut output = Output::new(rt.stdout());
+    let count = arg_count(&rt);
+    if count < 2 {
+        let _ = play_all(
+            to,
+            Origin::Standard(rt.stdin()),
+            &mut spare,
+            &mut output,
+            b"standard input",
         );
         return;
     }
-    let count = os::arg_count();
-    if count < 2 {
-        play_all(libc::STDIN_FILENO, spare, b"standard input");
-        return;
-    }
-    play_files(count, spare);
+    play_files(&rt, to, count, &mut spare, &mut output);
 }

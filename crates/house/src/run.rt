@@ -3,6 +3,7 @@ ghost use Rattle.std.specs.Prelude.{◌≡◌, length};
 ghost use Rattle.kinds.specs.Sizes as sizes;
 
 use calls::{BASES, GATHERINGS, HISTORIES, LIVES, at_site, start_sites, take_at};
+use handles::{Output, Source};
 use kinds::reason::MALFORMED;
 use kinds::sizes::{OUTGOING, QUEUES, SITES};
 use kinds::{Answer, Core, House, Merger};
@@ -12,7 +13,7 @@ use routing::open::{open_code, open_house};
 use routing::route::MERGER;
 use routing::{Play, answered, ended, next_ask, settled, shown};
 use script::{Input, LINE, TEXT, next_scan};
-use spool::{ITEM, STORE};
+use spool::{ITEM, STORE, Spare};
 use stream::{ALL_COPIES, copied, merged, start_copies, start_merger};
 
 // A script before its accepted `sites`, and the house once it is accepted: of 0 sites till then.
@@ -33,32 +34,44 @@ fn unopened(play: Play) -> Prelude {
 }
 
 // What a line before an accepted `sites` leaves. A refused `sites` leaves the next one possible.
-fn opened(d: Play, s: Place, words: &[u64; WORDS], page: &mut [u8; PAGE]) -> Prelude {
+fn opened(
+    d: Play,
+    s: Place,
+    words: &[u64; WORDS],
+    output: &mut Output,
+    page: &mut [u8; PAGE],
+) -> Prelude {
     let c = lines::told(s, words);
     if let Command::Sites(n, given) = c {
         let keys = lines::table(s, words);
         let code = open_code(n, given, &keys);
         if code != 0 {
-            return unopened(answered(d, page, Answer::Refused(code)));
+            return unopened(answered(d, output, page, Answer::Refused(code)));
         }
         let mut e = d;
         e.sites = n;
         return Prelude {
-            play: answered(e, page, Answer::Done),
+            play: answered(e, output, page, Answer::Done),
             house: open_house(n, given, &keys),
         };
     }
-    unopened(answered(d, page, Answer::Refused(MALFORMED)))
+    unopened(answered(d, output, page, Answer::Refused(MALFORMED)))
 }
 
-fn opening(d: Play, text: &mut [u8; TEXT], page: &mut [u8; PAGE]) -> Prelude {
-    let s = shown(d, page);
+fn opening(
+    d: Play,
+    from: &mut Source,
+    text: &mut [u8; TEXT],
+    output: &mut Output,
+    page: &mut [u8; PAGE],
+) -> Prelude {
+    let s = shown(d, output, page);
     if s.state != LINE {
         return unopened(s);
     }
     let before = s.input;
     let mut words = [0u64; WORDS];
-    let line = next_scan(text, &mut words, before);
+    let line = next_scan(from, text, &mut words, before);
     let input = line.input;
     let place = line.place;
     let mut e = s;
@@ -67,14 +80,19 @@ fn opening(d: Play, text: &mut [u8; TEXT], page: &mut [u8; PAGE]) -> Prelude {
     if line.found != LINE {
         return unopened(ended(e, line.found));
     }
-    opened(e, place, &words, page)
+    opened(e, place, &words, output, page)
 }
 
 // Reads up to an accepted `sites`.
-fn until_sites(fd: i32, text: &mut [u8; TEXT], page: &mut [u8; PAGE]) -> Prelude {
+fn until_sites(
+    from: &mut Source,
+    text: &mut [u8; TEXT],
+    output: &mut Output,
+    page: &mut [u8; PAGE],
+) -> Prelude {
     let mut o = unopened(Play {
         sites: 0,
-        input: Input { fd, at: 0, end: 0 },
+        input: Input { at: 0, end: 0 },
         event: 0,
         used: 0,
         state: LINE,
@@ -89,7 +107,7 @@ fn until_sites(fd: i32, text: &mut [u8; TEXT], page: &mut [u8; PAGE]) -> Prelude
         if d.state != LINE {
             break;
         }
-        o = opening(d, text, page);
+        o = opening(d, from, text, output, page);
     }
     o
 }
@@ -99,9 +117,11 @@ fn turns(
     d: Play,
     started: [Core; SITES],
     first: Merger,
-    fd: i32,
+    from: &mut Source,
+    spare: &mut Spare,
     text: &mut [u8; TEXT],
     store: &mut [u64; STORE],
+    output: &mut Output,
     page: &mut [u8; PAGE],
     live: &mut [u64; LIVES],
     history: &mut [u64; HISTORIES],
@@ -120,7 +140,7 @@ fn turns(
     let mut left = u64::MAX;
     while left > 0 {
         left -= 1;
-        let a = next_ask(play, text, fd, store, &mut item, page);
+        let a = next_ask(play, from, text, spare, store, &mut item, output, page);
         let i = a.place;
         let c = a.command;
         if i < SITES {
@@ -133,17 +153,17 @@ fn turns(
             let p = o.core;
             sites[i] = p;
             let answer = o.answer;
-            play = settled(a, answer, o.words, &out, fd, store, page);
+            play = settled(a, answer, o.words, &out, spare, store, output, page);
             continue;
         }
         if i == MERGER {
-            let o = merged(a, g, fd, store, &item, queues, &mut out, page);
+            let o = merged(a, g, spare, store, &item, queues, &mut out, output, page);
             let h = o.merger;
             g = h;
             play = o.play;
             continue;
         }
-        play = copied(a, fd, store, &item, tables, &out, page);
+        play = copied(a, spare, store, &item, tables, &out, output, page);
         if play.state != LINE {
             break;
         }
@@ -155,9 +175,11 @@ fn turns(
 fn rest(
     d: Play,
     house: House,
-    fd: i32,
+    from: &mut Source,
+    spare: &mut Spare,
     text: &mut [u8; TEXT],
     store: &mut [u64; STORE],
+    output: &mut Output,
     page: &mut [u8; PAGE],
 ) -> Play {
     let mut live = [0u64; LIVES];
@@ -173,9 +195,11 @@ fn rest(
         d,
         sites,
         g,
-        fd,
+        from,
+        spare,
         text,
         store,
+        output,
         page,
         &mut live,
         &mut history,
@@ -186,14 +210,20 @@ fn rest(
     )
 }
 
-// Plays the script that fd reads, with what is under way beyond memory in the file of `spare`.
-pub fn play(fd: i32, spare: i32, text: &mut [u8; TEXT], page: &mut [u8; PAGE]) -> Play {
-    let o = until_sites(fd, text, page);
+// Plays the script that is read, with what is under way beyond memory in the file of `spare`.
+pub fn play(
+    from: &mut Source,
+    spare: &mut Spare,
+    text: &mut [u8; TEXT],
+    output: &mut Output,
+    page: &mut [u8; PAGE],
+) -> Play {
+    let o = until_sites(from, text, output, page);
     let d = o.play;
     let house = o.house;
     if d.state != LINE {
         return d;
     }
     let mut store = [0u64; STORE];
-    rest(d, house, spare, text, &mut store, page)
+    rest(d, house, from, spare, text, &mut store, output, page)
 }

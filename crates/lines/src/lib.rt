@@ -1,5 +1,7 @@
 // Lines of a script (H1 to H20, Q10.7 and Q12.8): a verb and up to nine numbers, with one space between two words. A line is read byte
 // by byte, so none is too long, whatever zeros stand before a number.
+#![tactic(auto)]
+
 mod verb;
 
 ghost use Rattle.std.specs.Prelude.{◌≡◌, ◌+◌, ◌-◌, ◌≤◌, ◌<◌, length};
@@ -62,6 +64,7 @@ pub enum Grown {
     Spoilt,
 }
 
+#[tactic(auto, unfolding(crate::specs::Line::start, crate::specs::Line::place_of))]
 pub fn start() -> Place
     ensures { result ≡ place_of start_of }
 {
@@ -72,6 +75,7 @@ pub fn start() -> Place
     }
 }
 
+#[tactic(auto, unfolding(crate::specs::Line::letter))]
 fn letter(word: u64, b: u8) -> Grown
     ensures { result ≡ letterOf word b }
 {
@@ -88,6 +92,7 @@ fn letter(word: u64, b: u8) -> Grown
     Grown::To(word * 256 + x)
 }
 
+#[tactic(auto, unfolding(crate::specs::Line::digit))]
 fn digit(word: u64, b: u8) -> Grown
     ensures { result ≡ digitOf word b }
 {
@@ -109,6 +114,7 @@ fn digit(word: u64, b: u8) -> Grown
     Grown::To(tens + d)
 }
 
+#[tactic(auto, unfolding(crate::specs::Line::grown))]
 fn grow(ended: u64, word: u64, b: u8) -> Grown
     ensures { result ≡ grown ended word b }
 {
@@ -119,6 +125,7 @@ fn grow(ended: u64, word: u64, b: u8) -> Grown
 }
 
 // The scan with one byte more.
+#[tactic(auto, unfolding(crate::specs::Line::scan_of, crate::specs::Line::place_of, crate::specs::Line::stepped))]
 pub fn step(p: Place, words: &mut [u64; WORDS], b: u8) -> Place
     ensures { scan_of result words.new ≡ stepped (scan_of p words.old) b }
 {
@@ -133,6 +140,7 @@ pub fn step(p: Place, words: &mut [u64; WORDS], b: u8) -> Place
 }
 
 // A space ends a word that has begun and is not the ninth number; elsewhere it spoils the line.
+#[tactic(auto, unfolding(crate::specs::Line::scan_of, crate::specs::Line::spaced))]
 fn end_word(p: Place, words: &mut [u64; WORDS]) -> Place
     ensures { scan_of result words.new ≡ spaced (scan_of p words.old) }
 {
@@ -157,6 +165,7 @@ fn end_word(p: Place, words: &mut [u64; WORDS]) -> Place
 }
 
 // Another byte belongs to the word.
+#[tactic(auto, unfolding(crate::specs::Line::took))]
 fn grow_word(p: Place, b: u8) -> Place
     ensures { result ≡ took p (grown p.ended p.word b) }
 {
@@ -177,6 +186,7 @@ fn grow_word(p: Place, b: u8) -> Place
 }
 
 // The command that a line is.
+#[tactic(auto, unfolding(crate::specs::Line::command_of, crate::specs::Line::scan_of))]
 pub fn told(s: Place, words: &[u64; WORDS]) -> Command
     ensures { result ≡ command_of (scan_of s words.now) }
 {
@@ -207,6 +217,7 @@ pub fn told(s: Place, words: &[u64; WORDS]) -> Command
 }
 
 // A line's word by its place: an ended one, the present one, or 0 behind it.
+#[tactic(auto, unfolding(crate::specs::Line::word_at, crate::specs::Line::scan_of))]
 fn word_at(s: Place, words: &[u64; WORDS], at: u64) -> u64
     ensures { result ≡ word_at (scan_of s words.now) at }
 {
@@ -225,6 +236,7 @@ fn word_at(s: Place, words: &[u64; WORDS], at: u64) -> u64
 }
 
 // The first keys of a `sites` line in their order, and 0 behind those that it gives.
+#[tactic(auto, unfolding(crate::specs::Line::table_of))]
 pub fn table(s: Place, words: &[u64; WORDS]) -> [u64; 8]
     ensures { result ≡ table_of (scan_of s words.now) }
 {
@@ -247,6 +259,7 @@ pub struct Reached {
 }
 
 // Goes on with a scan over text's bytes from `from` on, up to a newline or `to`.
+#[tactic(auto, unfolding(crate::specs::Line::scan_of))]
 pub fn read(s: Place, words: &mut [u64; WORDS], text: &[u8], from: usize, to: usize) -> Reached
     requires { (from ≤ to) × (to ≤ length text.now) }
     ensures words_after { scan_of result.place words.new

@@ -35,6 +35,7 @@ const READ: u64 = 1919246692;
 
 const WRITE: u64 = 513020621925;
 
+#[tactic(auto, unfolding(crate::specs::Line::none_of))]
 pub fn none(verb: u64) -> Command
     ensures { result ≡ none_of verb }
 {
@@ -44,6 +45,7 @@ pub fn none(verb: u64) -> Command
     }
 }
 
+#[tactic(auto, unfolding(crate::specs::Line::one_of))]
 pub fn one(verb: u64, a: u64) -> Command
     ensures { result ≡ one_of verb a }
 {
@@ -60,6 +62,7 @@ pub fn one(verb: u64, a: u64) -> Command
     }
 }
 
+#[tactic(auto, unfolding(crate::specs::Line::two_of))]
 pub fn two(verb: u64, a: u64, b: u64) -> Command
     ensures { result ≡ two_of verb a b }
 {
@@ -73,6 +76,7 @@ pub fn two(verb: u64, a: u64, b: u64) -> Command
     }
 }
 
+#[tactic(auto, unfolding(crate::specs::Line::three_of))]
 pub fn three(verb: u64, a: u64, b: u64, c: u64) -> Command
     ensures { result ≡ three_of verb a b c }
 {
@@ -84,6 +88,7 @@ pub fn three(verb: u64, a: u64, b: u64, c: u64) -> Command
 }
 
 // A write gives its value as start and length (Q12.8).
+#[tactic(auto, unfolding(crate::specs::Line::five_of))]
 pub fn five(verb: u64, a: u64, b: u64, c: u64, d: u64, e: u64) -> Command
     ensures { result ≡ five_of verb a b c d e }
 {
@@ -95,6 +100,7 @@ pub fn five(verb: u64, a: u64, b: u64, c: u64, d: u64, e: u64) -> Command
 }
 
 // A verb with another count of numbers, of which so many stand behind the first.
+#[tactic(auto, unfolding(crate::specs::Line::many_of))]
 pub fn many(verb: u64, a: u64, behind: u64) -> Command
     ensures { result ≡ many_of verb a behind }
 {

@@ -1,5 +1,7 @@
 // The lines of a probe that no site obeys: those of the merger and the copies, the conversions, records to bytes, those of the words
 // in hand and of the lengths lent.
+#![tactic(auto)]
+
 ghost use Rattle.std.specs.Prelude.{◌<◌};
 ghost use Rattle.kinds.specs.Sizes as sizes;
 
@@ -9,6 +11,7 @@ use effects::{
 };
 use hand::store::STORE;
 use hand::{HAND, shaped, shown};
+use handles::{Output, Source};
 use kinds::sizes::{BASE, HISTORY_WORDS, LISTS, LIVE_WORDS, QUEUES, SITES};
 use kinds::{Core, Merger};
 use outcomes::{
@@ -74,6 +77,7 @@ fn to_merger(
     store: &mut [u64],
     queues: &mut [u64],
     out: &mut [u64],
+    output: &mut Output,
     page: &mut [u8; PAGE],
 ) -> Waiting {
     let w = v.work;
@@ -92,47 +96,65 @@ fn to_merger(
     let h = o.merger;
     let k = kept(w, d, store, out);
     Waiting {
-        work: told_of(k, page, d),
+        work: told_of(k, output, page, d),
         merger: h,
     }
 }
 
-fn to_copy(w: Work, hand: &[u64], copies: &mut [u64], page: &mut [u8; PAGE]) -> Work {
+fn to_copy(
+    w: Work,
+    hand: &[u64],
+    copies: &mut [u64],
+    output: &mut Output,
+    page: &mut [u8; PAGE],
+) -> Work {
     let l = w.line;
     let lent = w.lent;
     let d = at_copy(l, lent, front(hand, w.held), copies);
-    told_of(w, page, d)
+    told_of(w, output, page, d)
 }
 
 // A run is lent as many words as its line says, of those that the outgoing buffer has.
-fn to_bookmarks(w: Work, hand: &[u64], out: &mut [u64], page: &mut [u8; PAGE]) -> Work {
+fn to_bookmarks(
+    w: Work,
+    hand: &[u64],
+    out: &mut [u64],
+    output: &mut Output,
+    page: &mut [u8; PAGE],
+) -> Work {
     let l = w.line;
     let d = at_bookmarks(l, front(hand, w.held), front_mut(out, room_of(l)));
-    told_of(w, page, d)
+    told_of(w, output, page, d)
 }
 
 // Neither the outgoing buffer nor its length bears on a record to bytes.
-fn to_bytes(w: Work, hand: &[u64], page: &mut [u8; PAGE]) -> Work {
+fn to_bytes(w: Work, hand: &[u64], output: &mut Output, page: &mut [u8; PAGE]) -> Work {
     let l = w.line;
     let d = at_bytes(l, front(hand, w.held));
-    told_of(w, page, d)
+    told_of(w, output, page, d)
 }
 
-fn to_hand(w: Work, hand: &mut [u64], store: &[u64; STORE], page: &mut [u8; PAGE]) -> Work {
+fn to_hand(
+    w: Work,
+    hand: &mut [u64],
+    store: &[u64; STORE],
+    output: &mut Output,
+    page: &mut [u8; PAGE],
+) -> Work {
     let l = w.line;
     let h = shaped(l, hand, w.held, store, w.kept);
     let mut v = w;
     v.held = h.words;
-    answered(v, page, shown(hand, h))
+    answered(v, output, page, shown(hand, h))
 }
 
 // Answers a line for a site that the house lacks.
-fn if_there(w: Work, page: &mut [u8; PAGE]) -> Work {
+fn if_there(w: Work, output: &mut Output, page: &mut [u8; PAGE]) -> Work {
     if place_of(w) < SITES {
         return w;
     }
     let l = verbs::remark();
-    let mut v = told_of(w, page, absent());
+    let mut v = told_of(w, output, page, absent());
     v.line = l;
     v
 }
@@ -140,17 +162,19 @@ fn if_there(w: Work, page: &mut [u8; PAGE]) -> Work {
 // Reads a line, and obeys it where it is for no site.
 fn turn(
     v: Waiting,
+    from: &mut Source,
     text: &mut [u8; TEXT],
     hand: &mut [u64; HAND],
     store: &mut [u64; STORE],
     queues: &mut [u64; QUEUED],
     copies: &mut [u64; COPIED],
     out: &mut [u64; ROOM],
+    output: &mut Output,
     page: &mut [u8; PAGE],
 ) -> Waiting {
     let before = v.work;
     let g = v.merger;
-    let w = read_line(before, text);
+    let w = read_line(before, from, text);
     let l = w.line;
     if w.state != LINE {
         return Waiting { work: w, merger: g };
@@ -163,22 +187,23 @@ fn turn(
             store,
             queues,
             out,
+            output,
             page,
         ),
         verbs::COPY => Waiting {
-            work: to_copy(w, hand, copies, page),
+            work: to_copy(w, hand, copies, output, page),
             merger: g,
         },
         verbs::BOOKMARK => Waiting {
-            work: to_bookmarks(w, hand, out, page),
+            work: to_bookmarks(w, hand, out, output, page),
             merger: g,
         },
         verbs::BYTES => Waiting {
-            work: to_bytes(w, hand, page),
+            work: to_bytes(w, hand, output, page),
             merger: g,
         },
         verbs::HAND => Waiting {
-            work: to_hand(w, hand, store, page),
+            work: to_hand(w, hand, store, output, page),
             merger: g,
         },
         verbs::LENT => Waiting {
@@ -186,7 +211,7 @@ fn turn(
             merger: g,
         },
         verbs::SITE => Waiting {
-            work: if_there(w, page),
+            work: if_there(w, output, page),
             merger: g,
         },
         _ => Waiting { work: w, merger: g },
@@ -196,15 +221,19 @@ fn turn(
 // Goes on to the next line for a site, or to the end of the house.
 pub fn next_of_site(
     v: Waiting,
+    from: &mut Source,
     text: &mut [u8; TEXT],
     hand: &mut [u64; HAND],
     store: &mut [u64; STORE],
     queues: &mut [u64; QUEUED],
     copies: &mut [u64; COPIED],
     out: &mut [u64; ROOM],
+    output: &mut Output,
     page: &mut [u8; PAGE],
 ) -> Waiting {
-    let mut u = turn(v, text, hand, store, queues, copies, out, page);
+    let mut u = turn(
+        v, from, text, hand, store, queues, copies, out, output, page,
+    );
     let mut left = u64::MAX;
     while left > 0 {
         left -= 1;
@@ -215,7 +244,9 @@ pub fn next_of_site(
         if is_for_site(w) {
             break;
         }
-        u = turn(u, text, hand, store, queues, copies, out, page);
+        u = turn(
+            u, from, text, hand, store, queues, copies, out, output, page,
+        );
     }
     u
 }
@@ -272,11 +303,12 @@ pub fn settled(
     g: Merger,
     store: &mut [u64; STORE],
     out: &[u64; ROOM],
+    output: &mut Output,
     page: &mut [u8; PAGE],
 ) -> Waiting {
     let k = kept(w, d, store, out);
     Waiting {
-        work: told_of(k, page, d),
+        work: told_of(k, output, page, d),
         merger: g,
     }
 }

@@ -1,6 +1,9 @@
 // What stands around a probe's calls: a line is read, what a call wrote is kept, and its outcome printed.
+#![tactic(auto)]
+
 use effects::{AS_SITES, COPY_PLACE, Done, Lent, TABLE, is_logged};
 use hand::store::{keep_letters, keep_record};
+use handles::{Output, Source};
 use kinds::sizes::{BASE, HISTORY_WORDS, LISTS, LIVE_WORDS, OUTGOING, QUEUES, SITES};
 use kinds::{Answer, Key};
 use lines::WORDS;
@@ -52,9 +55,9 @@ pub fn lent_at_start(w: Work) -> Lent {
     all_lent(firsts)
 }
 
-pub fn begun(fd: i32) -> Work {
+pub fn begun() -> Work {
     Work {
-        input: Input { fd, at: 0, end: 0 },
+        input: Input { at: 0, end: 0 },
         event: 0,
         used: 0,
         state: LINE,
@@ -114,13 +117,13 @@ fn sites_of(l: Line, now: u64) -> u64 {
 }
 
 // Reads a line, unless the probe has ended.
-pub fn read_line(w: Work, text: &mut [u8; TEXT]) -> Work {
+pub fn read_line(w: Work, from: &mut Source, text: &mut [u8; TEXT]) -> Work {
     if w.state != LINE {
         return w;
     }
     let before = w.input;
     let mut words = [0u64; WORDS];
-    let r = next_scan(text, &mut words, before);
+    let r = next_scan(from, text, &mut words, before);
     let input = r.input;
     let s = r.place;
     let lent = w.lent;
@@ -159,8 +162,8 @@ fn is_poke(v: u64) -> bool {
     }
 }
 
-pub fn answered(w: Work, page: &mut [u8; PAGE], a: Answer) -> Work {
-    let said = say(page, w.used, w.event, a);
+pub fn answered(w: Work, output: &mut Output, page: &mut [u8; PAGE], a: Answer) -> Work {
+    let said = say(output, page, w.used, w.event, a);
     after(w, said)
 }
 
@@ -169,13 +172,14 @@ fn one(yes: bool) -> u64 {
 }
 
 // Prints a call's outcome: the words written, the buffer, whether the state is the same, the state.
-pub fn told_of(w: Work, page: &mut [u8; PAGE], d: Done) -> Work {
+pub fn told_of(w: Work, output: &mut Output, page: &mut [u8; PAGE], d: Done) -> Work {
     let l = w.line;
     let a = d.answer;
     if is_poke(l.verb) {
-        return answered(w, page, a);
+        return answered(w, output, page, a);
     }
     let said = say_with(
+        output,
         page,
         w.used,
         w.event,

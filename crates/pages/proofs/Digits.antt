@@ -1,4 +1,4 @@
--- A number's digits are those that `io::decimal` counts, 20 at most; results behind results are results.
+-- A number's digits are those that `decimal` counts, 20 at most; results behind results are results.
 use Prim.Native.Nat.{ℕ, zero, suc, ◌-◌, ◌/◌, ◌%◌, ◌^◌, ◌≤◌, ◌<◌}
 use mathlib.Core.Path.{◌≡◌, refl, ap, ◌∙◌}
 use mathlib.Core.Bool.{Bool}
@@ -9,7 +9,7 @@ use native.Mathlib.Numerals.{add-one}
 use borrow.Author.Tests.{lt-ltb, le-ltb, ltb-true, ltb-false}
 use lib.Dec.{ltb, lit<}
 use lib.ListN.{length, length-append}
-use Rattle.io.specs.Digits.{last_digits, hex_digit_ascii, IsDigitCount}
+use Rattle.pages.specs.Digits.{last_digits, hex_digit_ascii, IsDigitCount}
 use Rattle.laws.specs.Choice.{by_same, by_test}
 use Rattle.laws.specs.Scan.{first_below_lem, first_below_none, first_le, NoneBelow}
 use Rattle.pages.specs.Line.{bytes_of, places_of, decimal_of, results_of}

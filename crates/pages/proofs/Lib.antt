@@ -1,2 +1,4 @@
 pub mod Behind
+pub mod Counting
 pub mod Digits
+pub mod Powers

@@ -2,7 +2,7 @@
 use Rattle.std.specs.Prelude.{ℕ, ◌^◌, max, List, [], ◌∷◌, ◌++◌, ltb}
 use Prim.Native.Char.{code}
 use Prim.Native.String.{String, [] as end, ◌∷◌ as ◌then◌}
-use Rattle.io.specs.Digits.{last_digits}
+use Rattle.pages.specs.Digits.{last_digits}
 use Rattle.laws.specs.Scan.{first_below}
 use Rattle.said.specs.Said.{Said, ok, abort, no}
 

@@ -1,4 +1,7 @@
 // A line's outcome in words (H1 to H20 and Q12.8), gathered in a page.
+#![tactic(auto)]
+
+mod decimal;
 mod text;
 
 ghost use Rattle.std.specs.Prelude.{◌≡◌, ◌+◌, ◌*◌, ◌≤◌, length};
@@ -7,6 +10,7 @@ ghost use Rattle.said.specs.Said.{said_of};
 ghost use Rattle.pages.specs.Laid.{Laid, line_start, longest, full, nearly, ok_with};
 ghost use Rattle.pages.specs.Line.{outcome_of, line_of, line_with};
 
+use handles::Output;
 use kinds::Answer;
 use text::{digits, put, told, told_four, told_three, told_two};
 
@@ -31,6 +35,7 @@ pub fn is_refused(a: Answer) -> bool
     }
 }
 
+#[tactic(auto, unfolding(said::specs::Said::said_of, crate::specs::Line::outcome_of, crate::specs::Line::results_of))]
 fn outcome(page: &mut [u8], used: usize, a: Answer) -> usize
     requires { used + (ok_with 4) ≤ length page.old }
     ensures laid { Laid page.old used (outcome_of (said_of a)) page.new result }
@@ -88,10 +93,10 @@ fn line(page: &mut [u8], used: usize, event: u64, a: Answer) -> usize
 }
 
 // Writes out what is on the page.
-pub fn flush(page: &[u8; PAGE], used: usize) -> bool {
+pub fn flush(output: &mut Output, page: &[u8; PAGE], used: usize) -> bool {
     let b = &page[..];
     if used <= b.len() {
-        return io::write_all(libc::STDOUT_FILENO, &b[0..used]);
+        return output.write(&b[0..used]);
     }
     false
 }
@@ -104,7 +109,7 @@ pub struct Filled {
 }
 
 // Puts an event's line on the page, which is written out first where it is full.
-pub fn say(page: &mut [u8; PAGE], used: usize, event: u64, a: Answer) -> Filled
+pub fn say(output: &mut Output, page: &mut [u8; PAGE], used: usize, event: u64, a: Answer) -> Filled
     ensures { Laid page.old (line_start full used) (line_of event (said_of a)) page.new result.used }
 {
     if used <= FULL {
@@ -113,7 +118,7 @@ pub fn say(page: &mut [u8; PAGE], used: usize, event: u64, a: Answer) -> Filled
             ok: true,
         };
     }
-    let ok = flush(page, used);
+    let ok = flush(output, page, used);
     Filled {
         used: line(page, 0, event, a),
         ok,
@@ -141,6 +146,7 @@ fn line_with(
 
 // The same with four numbers behind the outcome.
 pub fn say_with(
+    output: &mut Output,
     page: &mut [u8; PAGE],
     used: usize,
     event: u64,
@@ -158,7 +164,7 @@ pub fn say_with(
             ok: true,
         };
     }
-    let ok = flush(page, used);
+    let ok = flush(output, page, used);
     Filled {
         used: line_with(page, 0, event, a, b, c, d, e),
         ok,

@@ -3,6 +3,8 @@ ghost use Rattle.std.specs.Prelude.{◌+◌, ◌≤◌, [], ◌∷◌, ◌++◌,
 ghost use Rattle.pages.specs.Laid.{Laid, digits as most, field, fields, ok_with};
 ghost use Rattle.pages.specs.Line.{bytes_of, decimal_of, results_of};
 
+use crate::decimal::decimal;
+
 pub fn put(page: &mut [u8], used: usize, b: &[u8]) -> usize
     requires { used + length b.now ≤ length page.old }
     ensures { Laid page.old used b.now page.new result }
@@ -21,7 +23,7 @@ pub fn digits(page: &mut [u8], used: usize, n: u64) -> usize
     ensures upper_bound { result ≤ used + most }
 {
     let mut text = [0u8; 20];
-    let k = io::decimal(n, &mut text);
+    let k = decimal(n, &mut text);
     put(page, used, &text[..k])
 }
 

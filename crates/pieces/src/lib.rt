@@ -1,4 +1,6 @@
 // Parts of lent words. Where there are too few, all are lent.
+#![tactic(auto)]
+
 ghost use Rattle.std.specs.Prelude.{◌≡◌, take};
 
 pub fn front(ws: &[u64], n: usize) -> &[u64]

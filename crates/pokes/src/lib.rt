@@ -1,4 +1,6 @@
 // Pokes: one field of a state set to any number.
+#![tactic(auto)]
+
 mod houses;
 mod sites;
 mod streams;

@@ -5,6 +5,7 @@ ghost use Rattle.kinds.specs.Sizes as sizes;
 use effects::{Lent, first_keys, start_by};
 use hand::HAND;
 use hand::store::STORE;
+use handles::{Output, Source};
 use kinds::Core;
 use kinds::sizes::{BASE, HISTORY_WORDS, LISTS, LIVE_WORDS, SITES};
 use others::{
@@ -52,7 +53,13 @@ fn start_sites(n: u64, lent: Lent) -> [Core; SITES]
 }
 
 // One house, up to the next or the end of the probe.
-fn one_house(w: Work, text: &mut [u8; TEXT], page: &mut [u8; PAGE]) -> Work {
+fn one_house(
+    w: Work,
+    from: &mut Source,
+    text: &mut [u8; TEXT],
+    output: &mut Output,
+    page: &mut [u8; PAGE],
+) -> Work {
     let mut live = [0u64; LIVES];
     let mut history = [0u64; HISTORIES];
     let mut base = [0u64; BASES];
@@ -69,12 +76,14 @@ fn one_house(w: Work, text: &mut [u8; TEXT], page: &mut [u8; PAGE]) -> Work {
         left -= 1;
         u = next_of_site(
             u,
+            from,
             text,
             &mut hand,
             &mut store,
             &mut queues,
             &mut copies,
             &mut out,
+            output,
             page,
         );
         let after = u.merger;
@@ -101,14 +110,20 @@ fn one_house(w: Work, text: &mut [u8; TEXT], page: &mut [u8; PAGE]) -> Work {
         let q = o.core;
         sites[i] = q;
         let d = o.done;
-        u = settled(v, d, after, &mut store, &out, page);
+        u = settled(v, d, after, &mut store, &out, output, page);
     }
     let last = u.work;
     last
 }
 
 // Plays the probe that the input reads: one house after the other.
-pub fn play(first: Work, text: &mut [u8; TEXT], page: &mut [u8; PAGE]) -> Work {
+pub fn play(
+    first: Work,
+    from: &mut Source,
+    text: &mut [u8; TEXT],
+    output: &mut Output,
+    page: &mut [u8; PAGE],
+) -> Work {
     let mut w = first;
     let mut left = u64::MAX;
     while left > 0 {
@@ -116,7 +131,7 @@ pub fn play(first: Work, text: &mut [u8; TEXT], page: &mut [u8; PAGE]) -> Work {
         if w.state != LINE {
             break;
         }
-        w = one_house(w, text, page);
+        w = one_house(w, from, text, output, page);
     }
     w
 }

@@ -1,4 +1,6 @@
 // What stands around a call: a line is read and what it hands in fetched; what the call wrote is kept, and its outcome printed.
+#![tactic(auto)]
+
 pub mod open;
 mod post;
 pub mod route;
@@ -9,6 +11,7 @@ ghost use Rattle.pages.specs.Laid.{Laid, line_start, full};
 ghost use Rattle.pages.specs.Line.{line_of};
 ghost use Rattle.routing.specs.Route.{none};
 
+use handles::{Output, Source};
 use kinds::Answer;
 use kinds::reason::NOTHING;
 use kinds::sizes::{OUTGOING, SITES};
@@ -18,7 +21,7 @@ pub use post::COPIES;
 use post::{STREAM, is_cursor, log, send_all};
 use route::{MERGER, NOWHERE, routed};
 use script::{Input, LINE, TEXT, UNKEPT, UNWRITTEN, next_line};
-use spool::{First, ITEM, QUEUES, STORE};
+use spool::{First, ITEM, QUEUES, STORE, Spare};
 
 // A script under way: `state` is LINE until it ends, and then says why.
 #[derive(Clone, Copy)]
@@ -50,10 +53,10 @@ pub fn ended(d: Play, state: u64) -> Play
 }
 
 // Prints a line's outcome.
-pub fn answered(d: Play, page: &mut [u8; PAGE], a: Answer) -> Play
+pub fn answered(d: Play, output: &mut Output, page: &mut [u8; PAGE], a: Answer) -> Play
     ensures { Laid page.old (line_start full d.used) (line_of d.event (said_of a)) page.new result.used }
 {
-    let said = say(page, d.used, d.event, a);
+    let said = say(output, page, d.used, d.event, a);
     let mut e = d;
     e.used = said.used;
     if !said.ok {
@@ -63,7 +66,7 @@ pub fn answered(d: Play, page: &mut [u8; PAGE], a: Answer) -> Play
 }
 
 // Writes out the answers so far where the next line has to be read from the input, so that a terminal shows them.
-pub fn shown(d: Play, page: &[u8; PAGE]) -> Play {
+pub fn shown(d: Play, output: &mut Output, page: &[u8; PAGE]) -> Play {
     let input = d.input;
     if input.at < input.end {
         return d;
@@ -71,7 +74,7 @@ pub fn shown(d: Play, page: &[u8; PAGE]) -> Play {
     if d.used == 0 {
         return d;
     }
-    let ok = flush(page, d.used);
+    let ok = flush(output, page, d.used);
     let mut e = d;
     e.used = 0;
     if !ok {
@@ -92,13 +95,18 @@ pub fn idle(d: Play) -> Ask {
 }
 
 // The item that a queue or cursor, below QUEUES, hands in next.
-fn handed(fd: i32, store: &mut [u64; STORE], queue: usize, item: &mut [u64; ITEM]) -> First
+fn handed(
+    spare: &mut Spare,
+    store: &mut [u64; STORE],
+    queue: usize,
+    item: &mut [u64; ITEM],
+) -> First
     requires { queue < none }
 {
     if is_cursor(queue) {
-        return spool::next(fd, store, STREAM, queue, item);
+        return spool::next(spare, store, STREAM, queue, item);
     }
-    spool::front(fd, store, queue, item)
+    spool::front(spare, store, queue, item)
 }
 
 // Fetches what is handed in; none gives 17.
@@ -107,9 +115,10 @@ fn fetched(
     c: Command,
     place: usize,
     queue: usize,
-    fd: i32,
+    spare: &mut Spare,
     store: &mut [u64; STORE],
     item: &mut [u64; ITEM],
+    output: &mut Output,
     page: &mut [u8; PAGE],
 ) -> Ask {
     if QUEUES <= queue {
@@ -122,7 +131,7 @@ fn fetched(
             next: 0,
         };
     }
-    let first = handed(fd, store, queue, item);
+    let first = handed(spare, store, queue, item);
     match first {
         First::Found(words, next) => Ask {
             play: d,
@@ -132,7 +141,7 @@ fn fetched(
             words,
             next,
         },
-        First::Nothing => idle(answered(d, page, Answer::Refused(NOTHING))),
+        First::Nothing => idle(answered(d, output, page, Answer::Refused(NOTHING))),
         First::Failed => idle(ended(d, UNKEPT)),
     }
 }
@@ -140,18 +149,20 @@ fn fetched(
 // Reads a line. Its place is NOWHERE where it is answered already, or the script has ended.
 pub fn next_ask(
     d: Play,
+    from: &mut Source,
     text: &mut [u8; TEXT],
-    fd: i32,
+    spare: &mut Spare,
     store: &mut [u64; STORE],
     item: &mut [u64; ITEM],
+    output: &mut Output,
     page: &mut [u8; PAGE],
 ) -> Ask {
-    let s = shown(d, page);
+    let s = shown(d, output, page);
     if s.state != LINE {
         return idle(s);
     }
     let before = s.input;
-    let line = next_line(text, before);
+    let line = next_line(from, text, before);
     let input = line.input;
     let c = line.command;
     let mut e = s;
@@ -162,13 +173,13 @@ pub fn next_ask(
     }
     let r = routed(e.sites, c);
     if NOWHERE <= r.place {
-        return idle(answered(e, page, Answer::Refused(r.code)));
+        return idle(answered(e, output, page, Answer::Refused(r.code)));
     }
-    fetched(e, c, r.place, r.queue, fd, store, item, page)
+    fetched(e, c, r.place, r.queue, spare, store, item, output, page)
 }
 
 // Goes on behind the item that was handed in: the stream keeps its own for the other copies.
-fn passed(a: Ask, fd: i32, store: &mut [u64; STORE]) -> bool {
+fn passed(a: Ask, spare: &mut Spare, store: &mut [u64; STORE]) -> bool {
     let queue = a.queue;
     if QUEUES <= queue {
         return true;
@@ -177,34 +188,34 @@ fn passed(a: Ask, fd: i32, store: &mut [u64; STORE]) -> bool {
         spool::step(store, queue, a.words, a.next);
         return true;
     }
-    spool::drop_front(fd, store, queue, a.words, a.next)
+    spool::drop_front(spare, store, queue, a.words, a.next)
 }
 
 // Keeps what a call wrote: records in the site's log or the stream, messages on their channels.
-fn kept(a: Ask, fd: i32, store: &mut [u64; STORE], words: &[u64]) -> bool {
+fn kept(a: Ask, spare: &mut Spare, store: &mut [u64; STORE], words: &[u64]) -> bool {
     if words.len() == 0 {
         return true;
     }
     let place = a.place;
     if place == MERGER {
-        return spool::push(fd, store, STREAM, words);
+        return spool::push(spare, store, STREAM, words);
     }
     if SITES <= place {
         return false;
     }
     let c = a.command;
     match c {
-        Command::Install(_) => spool::push(fd, store, log(place), words),
-        Command::Report(_) => spool::push(fd, store, log(place), words),
-        _ => send_all(fd, store, words),
+        Command::Install(_) => spool::push(spare, store, log(place), words),
+        Command::Report(_) => spool::push(spare, store, log(place), words),
+        _ => send_all(spare, store, words),
     }
 }
 
-fn kept_front(a: Ask, fd: i32, store: &mut [u64; STORE], out: &[u64], n: usize) -> bool {
+fn kept_front(a: Ask, spare: &mut Spare, store: &mut [u64; STORE], out: &[u64], n: usize) -> bool {
     if out.len() < n {
         return false;
     }
-    kept(a, fd, store, &out[0..n])
+    kept(a, spare, store, &out[0..n])
 }
 
 // Ends an asked line: a refused one leaves what was handed in as the next, and wrote nothing.
@@ -213,19 +224,20 @@ pub fn settled(
     answer: Answer,
     n: usize,
     out: &[u64; OUTGOING],
-    fd: i32,
+    spare: &mut Spare,
     store: &mut [u64; STORE],
+    output: &mut Output,
     page: &mut [u8; PAGE],
 ) -> Play {
     let d = a.play;
     if is_refused(answer) {
-        return answered(d, page, answer);
+        return answered(d, output, page, answer);
     }
-    if !passed(a, fd, store) {
+    if !passed(a, spare, store) {
         return ended(d, UNKEPT);
     }
-    if !kept_front(a, fd, store, out, n) {
+    if !kept_front(a, spare, store, out, n) {
         return ended(d, UNKEPT);
     }
-    answered(d, page, answer)
+    answered(d, output, page, answer)
 }

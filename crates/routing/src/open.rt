@@ -11,6 +11,7 @@ use numbers::{count_ok, house_of, table_ok};
 use pieces::front;
 
 // What the starts of the house will be refused with: a line that gives keys gives one for each site.
+#[tactic(auto, unfolding(rules::specs::Merger::merger_start_code, crate::specs::Open::table_given))]
 pub fn open_code(n: u64, given: u64, keys: &[u64]) -> u64
     ensures { result ≡ merger_start_code n (table_given n given keys.now) sizes.queues }
 {
@@ -30,6 +31,7 @@ pub fn open_code(n: u64, given: u64, keys: &[u64]) -> u64
     0
 }
 
+#[tactic(auto, unfolding(crate::specs::Open::table_given, rules::specs::House::even_table))]
 pub fn open_house(n: u64, given: u64, keys: &[u64]) -> House
     requires { length keys.now ≤ sizes.sites }
     ensures { result ≡ house_of n (table_given n given keys.now) }

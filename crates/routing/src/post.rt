@@ -5,7 +5,7 @@ ghost use Rattle.routing.specs.Route.{copies, channel as channelOf, log as logOf
 
 use kinds::sizes::SITES;
 use kinds::word::{FROM, LENGTH, TO};
-use spool::STORE;
+use spool::{STORE, Spare};
 
 // The queue of the merged stream, behind the channels and the logs.
 pub const STREAM: usize = SITES * SITES + SITES;
@@ -41,7 +41,7 @@ pub fn is_cursor(queue: usize) -> bool {
 }
 
 // Sends a message on its channel.
-fn send(fd: i32, store: &mut [u64; STORE], m: &[u64]) -> bool {
+fn send(spare: &mut Spare, store: &mut [u64; STORE], m: &[u64]) -> bool {
     if m.len() <= TO {
         return false;
     }
@@ -60,7 +60,7 @@ fn send(fd: i32, store: &mut [u64; STORE], m: &[u64]) -> bool {
         return false;
     }
     spool::push(
-        fd,
+        spare,
         store,
         channel((from - 1) as usize, (to - 1) as usize),
         m,
@@ -68,7 +68,7 @@ fn send(fd: i32, store: &mut [u64; STORE], m: &[u64]) -> bool {
 }
 
 // Sends the message at the front of some words, and answers its length. 0: it could not be sent.
-fn send_first(fd: i32, store: &mut [u64; STORE], words: &[u64]) -> usize
+fn send_first(spare: &mut Spare, store: &mut [u64; STORE], words: &[u64]) -> usize
     ensures { result ≤ length words.now }
 {
     if words.len() == 0 {
@@ -79,17 +79,17 @@ fn send_first(fd: i32, store: &mut [u64; STORE], words: &[u64]) -> usize
         return 0;
     }
     let end = n as usize;
-    if !send(fd, store, &words[0..end]) {
+    if !send(spare, store, &words[0..end]) {
         return 0;
     }
     end
 }
 
 // Sends each of the messages that stand directly behind one another.
-pub fn send_all(fd: i32, store: &mut [u64; STORE], words: &[u64]) -> bool {
+pub fn send_all(spare: &mut Spare, store: &mut [u64; STORE], words: &[u64]) -> bool {
     let mut at: usize = 0;
     while at < words.len() {
-        let n = send_first(fd, store, &words[at..]);
+        let n = send_first(spare, store, &words[at..]);
         if n == 0 {
             return false;
         }

@@ -46,6 +46,7 @@ fn to(place: usize) -> Route
     }
 }
 
+#[tactic(auto, unfolding(crate::specs::Route::to_site))]
 fn to_site(sites: u64, site: u64) -> Route
     ensures { result ≡ to_site sites site }
 {
@@ -56,6 +57,7 @@ fn to_site(sites: u64, site: u64) -> Route
 }
 
 // A site of a house of so many.
+#[tactic(auto, unfolding(crate::specs::Route::has_site, rules::specs::House::is_site))]
 fn has_site(sites: u64, site: u64) -> bool
     ensures { result ≡ has_site sites site }
 {
@@ -66,6 +68,7 @@ fn has_site(sites: u64, site: u64) -> bool
 }
 
 // One with a place.
+#[tactic(auto, unfolding(crate::specs::Route::is_placed))]
 fn is_placed(sites: u64, site: u64) -> bool
     ensures { result ≡ is_placed sites site }
 {
@@ -76,6 +79,7 @@ fn is_placed(sites: u64, site: u64) -> bool
 }
 
 // A number whose coordinator the house lacks is held nowhere.
+#[tactic(auto, unfolding(crate::specs::Route::to_coordinator))]
 fn to_coordinator(sites: u64, tx: u64) -> Route
     ensures { result ≡ to_coordinator sites tx }
 {
@@ -86,6 +90,7 @@ fn to_coordinator(sites: u64, tx: u64) -> Route
     to_site(sites, coordinator)
 }
 
+#[tactic(auto, unfolding(crate::specs::Route::to_enlister))]
 fn to_enlister(sites: u64, tx: u64, site: u64) -> Route
     ensures { result ≡ to_enlister sites tx site }
 {
@@ -96,6 +101,7 @@ fn to_enlister(sites: u64, tx: u64, site: u64) -> Route
 }
 
 // A message's receiver.
+#[tactic(auto, unfolding(crate::specs::Route::to_receiver))]
 fn to_receiver(sites: u64, from: u64, to: u64) -> Route
     ensures { result ≡ to_receiver sites from to }
 {
@@ -114,6 +120,7 @@ fn to_receiver(sites: u64, from: u64, to: u64) -> Route
     }
 }
 
+#[tactic(auto, unfolding(crate::specs::Route::from_log))]
 fn from_log(sites: u64, site: u64) -> Route
     ensures { result ≡ from_log sites site }
 {
@@ -128,6 +135,7 @@ fn from_log(sites: u64, site: u64) -> Route
     }
 }
 
+#[tactic(auto, unfolding(crate::specs::Route::to_copy))]
 fn to_copy(copy: u64) -> Route
     ensures { result ≡ to_copy copy }
 {
@@ -141,6 +149,7 @@ fn to_copy(copy: u64) -> Route
 }
 
 // The next record of the stream goes to a copy.
+#[tactic(auto, unfolding(crate::specs::Route::from_stream))]
 fn from_stream(copy: u64) -> Route
     ensures { result ≡ from_stream copy }
 {
@@ -158,6 +167,7 @@ fn from_stream(copy: u64) -> Route
     }
 }
 
+#[tactic(auto, unfolding(crate::specs::Route::route_of))]
 pub fn routed(sites: u64, c: Command) -> Route
     ensures { result ≡ route_of sites c }
 {

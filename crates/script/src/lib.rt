@@ -1,8 +1,11 @@
 // A script's lines, read in large blocks.
+#![tactic(auto)]
+
 ghost use Rattle.std.specs.Prelude.{◌≡◌, ◌≤◌, eqb};
 ghost use Rattle.laws.specs.Choice.{pick};
 ghost use Rattle.script.specs.Sizes as sizes;
 
+use handles::Source;
 use lines::{Command, Place, WORDS};
 
 // Bytes of a block.
@@ -25,7 +28,6 @@ pub const UNWRITTEN: u64 = 5;
 // The bytes from `at` to `end` of the block are unread.
 #[derive(Clone, Copy)]
 pub struct Input {
-    pub fd: i32,
     pub at: usize,
     pub end: usize,
 }
@@ -46,21 +48,20 @@ pub struct Line {
 }
 
 // Reads the next block.
-fn refilled(text: &mut [u8; TEXT], r: Reading) -> Reading {
-    let fd = r.input.fd;
-    let got = libc::read(fd, text);
-    let end = io::count(got, text);
-    let found = if got < 0 {
+fn refilled(from: &mut Source, text: &mut [u8; TEXT], r: Reading) -> Reading {
+    let place = r.place;
+    let got = from.read(text);
+    let end = got.unwrap_or(0);
+    let found = if got.is_none() {
         UNREADABLE
     } else if end == 0 {
         END
     } else {
         GOING
     };
-    let place = r.place;
     Reading {
         found,
-        input: Input { fd, at: 0, end },
+        input: Input { at: 0, end },
         place,
     }
 }
@@ -69,7 +70,6 @@ fn refilled(text: &mut [u8; TEXT], r: Reading) -> Reading {
 fn scanned(text: &[u8; TEXT], words: &mut [u64; WORDS], r: Reading) -> Reading
     requires { (r.input.at ≤ r.input.end) × (r.input.end ≤ sizes.text) }
 {
-    let fd = r.input.fd;
     let end = r.input.end;
     let place = r.place;
     let m = lines::read(place, words, text, r.input.at, end);
@@ -78,29 +78,30 @@ fn scanned(text: &[u8; TEXT], words: &mut [u64; WORDS], r: Reading) -> Reading
     if at < end {
         return Reading {
             found: LINE,
-            input: Input {
-                fd,
-                at: at + 1,
-                end,
-            },
+            input: Input { at: at + 1, end },
             place: next,
         };
     }
     Reading {
         found: GOING,
-        input: Input { fd, at, end },
+        input: Input { at, end },
         place: next,
     }
 }
 
-fn read_on(text: &mut [u8; TEXT], words: &mut [u64; WORDS], r: Reading) -> Reading {
+fn read_on(
+    from: &mut Source,
+    text: &mut [u8; TEXT],
+    words: &mut [u64; WORDS],
+    r: Reading,
+) -> Reading {
     let at = r.input.at;
     let end = r.input.end;
     if end <= at {
-        return refilled(text, r);
+        return refilled(from, text, r);
     }
     if TEXT < end {
-        return refilled(text, r);
+        return refilled(from, text, r);
     }
     scanned(text, words, r)
 }
@@ -122,7 +123,12 @@ fn found_in(found: u64, s: Place) -> u64
 }
 
 // Reads a line: its scan, whose ended words are put in `words`, and what was found.
-pub fn next_scan(text: &mut [u8; TEXT], words: &mut [u64; WORDS], input: Input) -> Reading {
+pub fn next_scan(
+    from: &mut Source,
+    text: &mut [u8; TEXT],
+    words: &mut [u64; WORDS],
+    input: Input,
+) -> Reading {
     let place = lines::start();
     let mut r = Reading {
         found: GOING,
@@ -135,7 +141,7 @@ pub fn next_scan(text: &mut [u8; TEXT], words: &mut [u64; WORDS], input: Input) 
         if left == 0 {
             break;
         }
-        r = read_on(text, words, r);
+        r = read_on(from, text, words, r);
         left -= 1;
     }
     let s = r.place;
@@ -147,9 +153,9 @@ pub fn next_scan(text: &mut [u8; TEXT], words: &mut [u64; WORDS], input: Input) 
     }
 }
 
-pub fn next_line(text: &mut [u8; TEXT], input: Input) -> Line {
+pub fn next_line(from: &mut Source, text: &mut [u8; TEXT], input: Input) -> Line {
     let mut words = [0u64; WORDS];
-    let r = next_scan(text, &mut words, input);
+    let r = next_scan(from, text, &mut words, input);
     let s = r.place;
     let input = r.input;
     let command = lines::told(s, &words);

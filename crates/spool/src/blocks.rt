@@ -2,7 +2,7 @@
 ghost use Rattle.std.specs.Prelude.{◌≡◌, ◌+◌, ◌*◌, ◌%◌, ◌<◌, ◌≤◌};
 ghost use Rattle.spool.specs.Sizes as sizes;
 
-use crate::file::{load, save};
+use crate::file::{Spare, load, save};
 use crate::{BLOCK, CELLS, FREE, LINK, MADE, SLOTS, STORE, TAGS};
 
 // Addresses and block numbers stay below.
@@ -30,7 +30,7 @@ pub fn offset_of(at: u64) -> usize
 }
 
 // Brings block b into its slot, whose block goes to the file first. The words of a fresh block are of no interest.
-pub fn bring(fd: i32, store: &mut [u64; STORE], b: u64, fresh: bool) -> bool {
+pub fn bring(spare: &mut Spare, store: &mut [u64; STORE], b: u64, fresh: bool) -> bool {
     let tag = TAGS + slot_of(b);
     let old = store[tag];
     if old == b {
@@ -38,7 +38,7 @@ pub fn bring(fd: i32, store: &mut [u64; STORE], b: u64, fresh: bool) -> bool {
     }
     let place = place_of(b);
     if old != 0 {
-        if !save(fd, store, place, old) {
+        if !save(spare, store, place, old) {
             return false;
         }
     }
@@ -46,7 +46,7 @@ pub fn bring(fd: i32, store: &mut [u64; STORE], b: u64, fresh: bool) -> bool {
     if fresh {
         return true;
     }
-    load(fd, store, place, b)
+    load(spare, store, place, b)
 }
 
 // The address of a block's first word; 0 for a number that no block has.
@@ -60,7 +60,7 @@ fn address_of(b: u64) -> u64
 }
 
 // The address of the word at `at`: behind a block's last word comes the first of the next. 0: the file fails.
-pub fn follow(fd: i32, store: &mut [u64; STORE], at: u64) -> u64
+pub fn follow(spare: &mut Spare, store: &mut [u64; STORE], at: u64) -> u64
     ensures { result < 1125899906842624 }
 {
     if LIMIT <= at {
@@ -70,14 +70,14 @@ pub fn follow(fd: i32, store: &mut [u64; STORE], at: u64) -> u64
         return at;
     }
     let b = at / BLOCK as u64;
-    if !bring(fd, store, b, false) {
+    if !bring(spare, store, b, false) {
         return 0;
     }
     address_of(store[place_of(b) + LINK])
 }
 
 // A block that no queue has. 0: the file fails.
-pub fn new_block(fd: i32, store: &mut [u64; STORE]) -> u64
+pub fn new_block(spare: &mut Spare, store: &mut [u64; STORE]) -> u64
     ensures { result ≤ 4398046511103 }
 {
     let free = store[FREE];
@@ -85,7 +85,7 @@ pub fn new_block(fd: i32, store: &mut [u64; STORE]) -> u64
         return 0;
     }
     if free != 0 {
-        if !bring(fd, store, free, false) {
+        if !bring(spare, store, free, false) {
             return 0;
         }
         store[FREE] = store[place_of(free) + LINK];
@@ -96,14 +96,14 @@ pub fn new_block(fd: i32, store: &mut [u64; STORE]) -> u64
         return 0;
     }
     store[MADE] = made + 1;
-    if !bring(fd, store, made + 1, true) {
+    if !bring(spare, store, made + 1, true) {
         return 0;
     }
     made + 1
 }
 
 // The address to write at: where a block is full, the first of a new one that is linked behind it. 0: the file fails.
-pub fn room(fd: i32, store: &mut [u64; STORE], at: u64) -> u64
+pub fn room(spare: &mut Spare, store: &mut [u64; STORE], at: u64) -> u64
     ensures { result < 1125899906842624 }
 {
     if LIMIT <= at {
@@ -112,12 +112,12 @@ pub fn room(fd: i32, store: &mut [u64; STORE], at: u64) -> u64
     if offset_of(at) < LINK {
         return at;
     }
-    let b = new_block(fd, store);
+    let b = new_block(spare, store);
     if b == 0 {
         return 0;
     }
     let full = at / BLOCK as u64;
-    if !bring(fd, store, full, false) {
+    if !bring(spare, store, full, false) {
         return 0;
     }
     store[place_of(full) + LINK] = b;
@@ -125,8 +125,8 @@ pub fn room(fd: i32, store: &mut [u64; STORE], at: u64) -> u64
 }
 
 // Lets block b go, and answers the one that it was linked to. 0: the file fails.
-pub fn release(fd: i32, store: &mut [u64; STORE], b: u64) -> u64 {
-    if !bring(fd, store, b, false) {
+pub fn release(spare: &mut Spare, store: &mut [u64; STORE], b: u64) -> u64 {
+    if !bring(spare, store, b, false) {
         return 0;
     }
     let link = place_of(b) + LINK;

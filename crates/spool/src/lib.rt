@@ -1,6 +1,8 @@
 // Queues of messages and records, in any number. An item is some words, of which the first is their count. Items lie in blocks that
 // are linked by their last word; a block whose items are all gone is used anew. What does not fit into the lent store's slots is
 // kept in a file with no name, so a house with little under way makes no call of the system.
+#![tactic(auto)]
+
 mod blocks;
 mod bytes;
 mod file;
@@ -9,7 +11,7 @@ ghost use Rattle.std.specs.Prelude.{◌≡◌, ◌+◌, ◌*◌, ◌<◌, ◌≤
 ghost use Rattle.spool.specs.Sizes as sizes;
 
 use blocks::{LIMIT, bring, follow, new_block, offset_of, place_of, release, room};
-pub use file::open;
+pub use file::{Spare, open};
 
 // Words of a block, and the position of its link: the number of the next block, from 1; 0 for none.
 pub const BLOCK: usize = 256;
@@ -98,16 +100,22 @@ fn copy_in(words: &[u64], from: usize, store: &mut [u64; STORE], to: usize, n: u
 }
 
 // Copies on, to the end of the block or to n words. No progress: the file fails.
-fn read_run(fd: i32, store: &mut [u64; STORE], r: Run, item: &mut [u64; ITEM], n: usize) -> Run
+fn read_run(
+    spare: &mut Spare,
+    store: &mut [u64; STORE],
+    r: Run,
+    item: &mut [u64; ITEM],
+    n: usize,
+) -> Run
     requires { (r.done ≤ n) × (n ≤ sizes.item) }
     ensures { result.done ≤ n }
 {
-    let at = follow(fd, store, r.at);
+    let at = follow(spare, store, r.at);
     if at == 0 {
         return r;
     }
     let b = at / BLOCK as u64;
-    if !bring(fd, store, b, false) {
+    if !bring(spare, store, b, false) {
         return r;
     }
     let from = offset_of(at);
@@ -119,12 +127,18 @@ fn read_run(fd: i32, store: &mut [u64; STORE], r: Run, item: &mut [u64; ITEM], n
     }
 }
 
-fn read_words(fd: i32, store: &mut [u64; STORE], at: u64, item: &mut [u64; ITEM], n: usize) -> First
+fn read_words(
+    spare: &mut Spare,
+    store: &mut [u64; STORE],
+    at: u64,
+    item: &mut [u64; ITEM],
+    n: usize,
+) -> First
     requires { n ≤ sizes.item }
 {
     let mut r = Run { at, done: 0 };
     while r.done < n {
-        let next = read_run(fd, store, r, item, n);
+        let next = read_run(spare, store, r, item, n);
         if next.done <= r.done {
             return First::Failed;
         }
@@ -134,36 +148,41 @@ fn read_words(fd: i32, store: &mut [u64; STORE], at: u64, item: &mut [u64; ITEM]
 }
 
 // The item at an address.
-fn item_at(fd: i32, store: &mut [u64; STORE], at: u64, item: &mut [u64; ITEM]) -> First {
-    let first = follow(fd, store, at);
+fn item_at(spare: &mut Spare, store: &mut [u64; STORE], at: u64, item: &mut [u64; ITEM]) -> First {
+    let first = follow(spare, store, at);
     if first == 0 {
         return First::Failed;
     }
     let b = first / BLOCK as u64;
-    if !bring(fd, store, b, false) {
+    if !bring(spare, store, b, false) {
         return First::Failed;
     }
     let n = store[place_of(b) + offset_of(first)];
     if n > ITEM as u64 {
         return First::Failed;
     }
-    read_words(fd, store, first, item, n as usize)
+    read_words(spare, store, first, item, n as usize)
 }
 
 // Copies the first item of a queue to the start of `item`. It stays the first.
-pub fn front(fd: i32, store: &mut [u64; STORE], queue: usize, item: &mut [u64; ITEM]) -> First
+pub fn front(
+    spare: &mut Spare,
+    store: &mut [u64; STORE],
+    queue: usize,
+    item: &mut [u64; ITEM],
+) -> First
     requires { queue < sizes.queues }
 {
     if store[row(queue, WORDS)] == 0 {
         return First::Nothing;
     }
     let at = store[row(queue, HEAD)];
-    item_at(fd, store, at, item)
+    item_at(spare, store, at, item)
 }
 
 // Copies the item of a queue that is next for a cursor. It stays the next.
 pub fn next(
-    fd: i32,
+    spare: &mut Spare,
     store: &mut [u64; STORE],
     queue: usize,
     cursor: usize,
@@ -176,10 +195,10 @@ pub fn next(
         return First::Nothing;
     }
     if read == 0 {
-        return front(fd, store, queue, item);
+        return front(spare, store, queue, item);
     }
     let at = store[row(cursor, HEAD)];
-    item_at(fd, store, at, item)
+    item_at(spare, store, at, item)
 }
 
 // Moves a cursor on past its next item, as `next` found it.
@@ -192,7 +211,7 @@ pub fn step(store: &mut [u64; STORE], cursor: usize, n: usize, next: u64)
 }
 
 // Lets the blocks from b on go, up to block `last`.
-fn release_to(fd: i32, store: &mut [u64; STORE], b: u64, last: u64) -> bool {
+fn release_to(spare: &mut Spare, store: &mut [u64; STORE], b: u64, last: u64) -> bool {
     let mut at = b;
     // The longest item lies in fewer blocks.
     let mut left: u64 = ITEM as u64;
@@ -200,14 +219,20 @@ fn release_to(fd: i32, store: &mut [u64; STORE], b: u64, last: u64) -> bool {
         if left == 0 {
             return false;
         }
-        at = release(fd, store, at);
+        at = release(spare, store, at);
         left -= 1;
     }
     true
 }
 
 // Takes the first item of a queue away, as `front` found it.
-pub fn drop_front(fd: i32, store: &mut [u64; STORE], queue: usize, n: usize, next: u64) -> bool
+pub fn drop_front(
+    spare: &mut Spare,
+    store: &mut [u64; STORE],
+    queue: usize,
+    n: usize,
+    next: u64,
+) -> bool
     requires { queue < sizes.queues }
 {
     let words = store[row(queue, WORDS)];
@@ -217,20 +242,20 @@ pub fn drop_front(fd: i32, store: &mut [u64; STORE], queue: usize, n: usize, nex
     let b = store[row(queue, HEAD)] / BLOCK as u64;
     store[row(queue, HEAD)] = next;
     store[row(queue, WORDS)] = words - n as u64;
-    release_to(fd, store, b, next / BLOCK as u64)
+    release_to(spare, store, b, next / BLOCK as u64)
 }
 
 // Copies on, to the end of the block or of the words. No progress: the file fails.
-fn write_run(fd: i32, store: &mut [u64; STORE], r: Run, words: &[u64]) -> Run
+fn write_run(spare: &mut Spare, store: &mut [u64; STORE], r: Run, words: &[u64]) -> Run
     requires { r.done ≤ length words.now }
     ensures { result.done ≤ length words.now }
 {
-    let at = room(fd, store, r.at);
+    let at = room(spare, store, r.at);
     if at == 0 {
         return r;
     }
     let b = at / BLOCK as u64;
-    if !bring(fd, store, b, false) {
+    if !bring(spare, store, b, false) {
         return r;
     }
     let to = offset_of(at);
@@ -243,13 +268,13 @@ fn write_run(fd: i32, store: &mut [u64; STORE], r: Run, words: &[u64]) -> Run
 }
 
 // Gives a queue its first block.
-fn first_block(fd: i32, store: &mut [u64; STORE], queue: usize) -> bool
+fn first_block(spare: &mut Spare, store: &mut [u64; STORE], queue: usize) -> bool
     requires { queue < sizes.queues }
 {
     if store[row(queue, TAIL)] != 0 {
         return true;
     }
-    let b = new_block(fd, store);
+    let b = new_block(spare, store);
     if b == 0 {
         return false;
     }
@@ -259,10 +284,10 @@ fn first_block(fd: i32, store: &mut [u64; STORE], queue: usize) -> bool
 }
 
 // Puts an item at the end of a queue. False: the file fails.
-pub fn push(fd: i32, store: &mut [u64; STORE], queue: usize, words: &[u64]) -> bool
+pub fn push(spare: &mut Spare, store: &mut [u64; STORE], queue: usize, words: &[u64]) -> bool
     requires { queue < sizes.queues }
 {
-    if !first_block(fd, store, queue) {
+    if !first_block(spare, store, queue) {
         return false;
     }
     let mut r = Run {
@@ -270,7 +295,7 @@ pub fn push(fd: i32, store: &mut [u64; STORE], queue: usize, words: &[u64]) -> b
         done: 0,
     };
     while r.done < words.len() {
-        let next = write_run(fd, store, r, words);
+        let next = write_run(spare, store, r, words);
         if next.done <= r.done {
             return false;
         }

@@ -90,17 +90,24 @@ replaced w v g queues tables tables' i x h low here only merger queued mine othe
         ∙ h.copy j q
         ∙ sym (others (j + 1) (λ e. z (omega (arith, e))))
 
-pub copy_steps : (w : World) (g : Merger) (queues tables tables' : List ℕ) (c : Command) (k : Call) (i : ℕ) (m : List ℕ) (a : Answer)
+copy_step_of : (w : World) (g : Merger) (queues tables tables' : List ℕ) (i : ℕ) (m : List ℕ) (a : Answer) (c : Command) (k : Call)
     → StreamMatches w g queues tables → i < copies → OfCopy c (i + 1) m k → a ≡ (copying_of c (own sizes.copy i tables) m).answer
     → own sizes.copy i tables' ≡ (copying_of c (own sizes.copy i tables) m).copy → Only sizes.copy i tables tables'
     → StreamMatches (step w k).world g queues tables' × (a ≡ (step w k).answer)
 unfolding step replay_step copy_step copying_of upd
-copy_steps w g queues tables tables' c k i m a h low (replay number _ _) answer here only =
+copy_step_of w g queues tables tables' i m a c k h low (replay number _ _) answer here only =
     let e = h.copy i low in (
       replaced w (step w k).world g queues tables tables' i _ h low (rw e at here) only refl refl
           (rw (eq-eqb (i + 1) (i + 1) refl)) (λ j n. rw (ne_eqb j (i + 1) n)),
       rw e at answer,
     )
-copy_steps w g queues tables tables' c k i m a h low (value number key _ _) answer here only =
+copy_step_of w g queues tables tables' i m a c k h low (value number key _ _) answer here only =
     let e = h.copy i low in
     (replaced w w g queues tables tables' i _ h low (rw e at here) only refl refl refl (λ j n. refl), rw e at answer)
+
+pub copy_steps : (w : World) (g : Merger) (queues tables tables' : List ℕ) (c : Command) (k : Call) (i : ℕ) (m : List ℕ) (a : Answer)
+    → StreamMatches w g queues tables → i < copies → OfCopy c (i + 1) m k → a ≡ (copying_of c (own sizes.copy i tables) m).answer
+    → own sizes.copy i tables' ≡ (copying_of c (own sizes.copy i tables) m).copy → Only sizes.copy i tables tables'
+    → StreamMatches (step w k).world g queues tables' × (a ≡ (step w k).answer)
+copy_steps w g queues tables tables' c k i m a h low o answer here only =
+    copy_step_of w g queues tables tables' i m a c k h low o answer here only

@@ -31,6 +31,7 @@ pub fn start_merger(house: House, queues: &mut [u64; QUEUES]) -> Merger
 }
 
 // A merger's call. The first n words of m are the record to queue.
+#[tactic(auto, unfolding(crate::specs::Asked::merging_of))]
 pub fn at_merger(
     g: Merger,
     c: Command,
@@ -64,6 +65,7 @@ pub fn start_copies(tables: &mut [u64])
 }
 
 // A call of copy i, less 1. The first n words of m are the record to replay.
+#[tactic(auto, unfolding(crate::specs::Asked::copying_of))]
 pub fn at_copy(c: Command, i: usize, tables: &mut [u64], m: &[u64], n: usize) -> Answer
     requires { (i < copies) × (length tables.old ≡ all_copies) }
     ensures value { result ≡ (copying_of c (own sizes.copy i tables.old) (take n m.now)).answer }

@@ -1,4 +1,6 @@
 // The lines that no site takes part in: those of the merger, and of the copies that its stream goes to.
+#![tactic(auto)]
+
 mod asked;
 
 ghost use Rattle.std.specs.Prelude.{◌≡◌, ◌-◌, ltb};
@@ -7,12 +9,13 @@ ghost use Rattle.routing.specs.Route.{first_copy, copies};
 
 pub use asked::{ALL_COPIES, start_copies, start_merger};
 use asked::{at_copy, at_merger};
+use handles::Output;
 use kinds::Merger;
 use kinds::sizes::{OUTGOING, QUEUES};
 use pages::PAGE;
 use routing::route::FIRST_COPY;
 use routing::{Ask, COPIES, Play, settled};
-use spool::{ITEM, STORE};
+use spool::{ITEM, STORE, Spare};
 
 // What a line of the merger leaves.
 #[derive(Clone, Copy)]
@@ -25,11 +28,12 @@ pub struct Streamed {
 pub fn merged(
     a: Ask,
     g: Merger,
-    fd: i32,
+    spare: &mut Spare,
     store: &mut [u64; STORE],
     item: &[u64; ITEM],
     queues: &mut [u64; QUEUES],
     out: &mut [u64; OUTGOING],
+    output: &mut Output,
     page: &mut [u8; PAGE],
 ) -> Streamed {
     let c = a.command;
@@ -37,7 +41,7 @@ pub fn merged(
     let merger = o.merger;
     let answer = o.answer;
     Streamed {
-        play: settled(a, answer, o.words, out, fd, store, page),
+        play: settled(a, answer, o.words, out, spare, store, output, page),
         merger,
     }
 }
@@ -55,11 +59,12 @@ fn copy_in(place: usize) -> usize
 // Ends a line of a copy; any other is answered already.
 pub fn copied(
     a: Ask,
-    fd: i32,
+    spare: &mut Spare,
     store: &mut [u64; STORE],
     item: &[u64; ITEM],
     tables: &mut [u64; ALL_COPIES],
     out: &[u64; OUTGOING],
+    output: &mut Output,
     page: &mut [u8; PAGE],
 ) -> Play {
     let i = copy_in(a.place);
@@ -69,5 +74,5 @@ pub fn copied(
     }
     let c = a.command;
     let answer = at_copy(c, i, tables, item, a.words);
-    settled(a, answer, 0, out, fd, store, page)
+    settled(a, answer, 0, out, spare, store, output, page)
 }

@@ -1,4 +1,6 @@
 // Checksums of words and of states, below the prime 2^32 − 5.
+#![tactic(auto)]
+
 pub mod seen;
 pub mod whole;
 

@@ -1,6 +1,8 @@
 // The program `timing STEP COUNT`: plays saves, then makes the call of a step of the next one again and again, so that its time can
 // be taken from outside. It prints how many words the calls wrote and how many were refused. A third argument is how many saves come
 // before.
+#![tactic(auto)]
+
 mod again;
 mod worst;
 
@@ -8,16 +10,20 @@ ghost use Rattle.std.specs.Prelude.{◌≤◌};
 
 use again::{Tally, time_step};
 use kinds::sizes::{COPY, OUTGOING, QUEUES};
-use libc::{STDERR_FILENO, STDOUT_FILENO};
 use lines::{Place, WORDS};
 use rounds::play::{BASES, GATHERINGS, HISTORIES, LIVES, Store, played};
 use rounds::step::{COMMIT, LAST_STEP, LAST_TIMED, WORST};
+use std::env::FillError;
+use std::rt::Env;
 use worst::with_worst;
 
 // Enough saves to fill the histories.
 const SAVES: u64 = 40;
 
 const MOST_SAVES: u64 = 1000000;
+
+// Bytes of the longest argument.
+const NAME: usize = 4096;
 
 // An argument as a number; whether it is one.
 #[derive(Clone, Copy)]
@@ -45,16 +51,15 @@ fn number_in(text: &[u8]) -> Number {
     }
 }
 
-fn argument(i: usize) -> Number {
-    let mut text = io::buffer();
-    let n = os::arg(i, &mut text);
-    if os::errno() != 0 {
-        return Number {
+fn argument(rt: &impl Env, i: usize) -> Number {
+    let mut text = [0u8; NAME];
+    match rt.arg(i, &mut text) {
+        Ok(n) => number_in(&text[..n]),
+        Err(_) => Number {
             ok: false,
             value: 0,
-        };
+        },
     }
-    number_in(&text[..n])
 }
 
 // How many steps of its save come before a step.
@@ -122,58 +127,68 @@ fn time(step: u64, count: u64, steps: u64) -> Tally {
     )
 }
 
-fn say(t: Tally) {
-    io::print_decimal(STDOUT_FILENO, t.words);
-    io::write_all(STDOUT_FILENO, b" words, ");
-    io::print_decimal(STDOUT_FILENO, t.refused);
-    io::write_all(STDOUT_FILENO, b" refused\n");
+fn say(rt: &impl Print, t: Tally) {
+    let words = t.words;
+    let refused = t.refused;
+    let _ = println!(rt; "{words} words, {refused} refused");
 }
 
-fn complain(what: &[u8]) {
-    io::write_all(STDERR_FILENO, b"timing: ");
-    io::write_all(STDERR_FILENO, what);
-    io::write_all(STDERR_FILENO, b"\n");
+fn complain(rt: &impl Eprint, what: &str) {
+    let _ = eprintln!(rt; "timing: {what}");
 }
 
 // How many saves come first: the third argument, if there is one.
-fn saves_asked() -> Number {
-    if os::arg_count() < 4 {
+fn saves_asked(rt: &impl Env) -> Number {
+    let mut none = [0u8; 0];
+    if let Err(FillError::NotPresent) = rt.arg(3, &mut none) {
         return Number {
             ok: true,
             value: SAVES,
         };
     }
-    argument(3)
+    argument(rt, 3)
 }
 
-fn run(step: u64, count: u64, saves: u64) {
+fn run<R: Print + Eprint>(rt: &R, step: u64, count: u64, saves: u64) {
     if LAST_TIMED < step {
-        complain(b"the first argument has to be the number of a step, 0 to 31");
+        complain(
+            rt,
+            "the first argument has to be the number of a step, 0 to 31",
+        );
         return;
     }
     if MOST_SAVES < saves {
-        complain(b"the third argument has to be at most 1000000");
+        complain(rt, "the third argument has to be at most 1000000");
         return;
     }
     let steps = saves * LAST_STEP + before(step);
-    say(time(step, count, steps));
+    say(rt, time(step, count, steps));
 }
 
-fn main() {
-    let step = argument(1);
-    let count = argument(2);
-    let saves = saves_asked();
+fn main(rt: HostRuntime) {
+    let step = argument(&rt, 1);
+    let count = argument(&rt, 2);
+    let saves = saves_asked(&rt);
     if !step.ok {
-        complain(b"the first argument has to be the number of a step, 0 to 31");
+        complain(
+            &rt,
+            "the first argument has to be the number of a step, 0 to 31",
+        );
         return;
     }
     if !count.ok {
-        complain(b"the second argument has to be how often to make the call");
+        complain(
+            &rt,
+            "the second argument has to be how often to make the call",
+        );
         return;
     }
     if !saves.ok {
-        complain(b"the third argument has to be how many saves come before, or is left out");
+        complain(
+            &rt,
+            "the third argument has to be how many saves come before, or is left out",
+        );
         return;
     }
-    run(step.value, count.value, saves.value);
+    run(&rt, step.value, count.value, saves.value);
 }

@@ -1,4 +1,6 @@
 // Lines of a probe: a verb and up to five numbers. Any other line is a remark.
+#![tactic(auto)]
+
 pub mod verb;
 
 use lines::{Place, WORDS};
