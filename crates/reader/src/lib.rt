@@ -1,5 +1,8 @@
 // A copy in the byte buffers of a C program (Q1.1 to Q1.7): the three calls that C makes. The record's bytes for them are written by
 // `record_bytes` (Q1.8).
+
+#![tactic(auto)]
+
 mod record;
 mod replay;
 
