@@ -1,5 +1,7 @@
 // A copy in the byte buffers of a C program (Q1.1 to Q1.7): the three calls, which crate reader_c exports to C. The record's bytes for
 // them are written by `record_bytes` (Q1.8).
+#![tactic(auto)]
+
 mod record;
 mod replay;
 
