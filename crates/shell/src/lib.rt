@@ -1,4 +1,7 @@
 // What every call of a site does around its step: a part is taken out of the lent words, and put back.
+
+#![tactic(auto)]
+
 ghost use Rattle.std.specs.Prelude.{◌≡◌, List, ℕ, ◌<◌, length};
 ghost use Rattle.kinds.specs.Sizes as sizes;
 ghost use Rattle.rules.specs.Effect.{Change, taken_of, turn_at, changed, refused as refusedOf};

@@ -1,4 +1,7 @@
 // The twenty-one calls of the store. A caller uses this crate, and `kinds` for the types and sizes.
+
+#![tactic(auto)]
+
 pub use bookmarks::{offset, page, pages};
 pub use copy::{replay, start as start_copy, value};
 pub use deliver::message::message;

@@ -1,5 +1,8 @@
 // Whether a handed state is possible: its counts, keys, masks and desks are within the sizes of a house, and what goes out in messages
 // is of the house.
+
+#![tactic(auto)]
+
 ghost use Rattle.std.specs.Prelude.{true, ◌≡◌, ◌+◌, ◌≤◌, eqb, length, get_or};
 ghost use Rattle.laws.specs.Choice.{pick};
 ghost use Rattle.laws.specs.Scan.{all_below};

@@ -1,5 +1,4 @@
 -- The part that stands at the place, with the channel's count stepped.
-use borrow.Author.Rules.{rules}
 use Rattle.rules.specs.Deliver.{arrived}
 use Rattle.shell.proofs.arrived.Goals as goal
 

@@ -1,5 +1,4 @@
 -- A new part for a desk, with the channel's count stepped.
-use borrow.Author.Rules.{rules}
 use Rattle.rules.specs.Deliver.{join_turn}
 use Rattle.shell.proofs.join_turn.Goals as goal
 

@@ -1,6 +1,6 @@
 -- Only the channel's count is another.
-use mathlib.Core.Path.{◌≡◌, refl, sym, ◌∙◌}
-use lib.ListN.{length, length-map}
+use mathlib.Core.Path.{◌≡◌, refl}
+use lib.ListN.{length}
 use Rattle.kinds.specs.Sizes as sizes
 use Rattle.rules.specs.Deliver.{passed}
 use Rattle.lent.specs.Leaves.{left_counted}

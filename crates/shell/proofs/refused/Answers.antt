@@ -1,7 +1,6 @@
 -- A refusal is an answer that alters nothing.
 use mathlib.Core.Path.{refl}
 use mathlib.Core.List.{[]}
-use borrow.Author.Rules.{rules}
 use Rattle.shell.proofs.refused.Goals as goal
 
 pub returns : goal.returns

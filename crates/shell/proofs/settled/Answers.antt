@@ -1,9 +1,9 @@
 -- The part's words are laid at its place and its seat is set; the counters and channels are the step's.
 use Prim.Native.Nat.{ℕ, ◌*◌, ◌<◌}
-use mathlib.Core.Path.{◌≡◌, refl, sym, ◌∙◌}
+use mathlib.Core.Path.{◌≡◌, refl}
 use mathlib.Core.List.{List}
 use borrow.Author.Rules.{rules}
-use lib.ListN.{length, length-map, set}
+use lib.ListN.{length, set}
 use Rattle.laws.specs.Overlay.{put_at}
 use Rattle.kinds.specs.Sizes as sizes
 use Rattle.kinds.specs.declared.Core.{Core}

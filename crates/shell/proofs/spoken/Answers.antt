@@ -1,6 +1,6 @@
 -- Only the counters and channels are the step's.
-use mathlib.Core.Path.{◌≡◌, refl, sym, ◌∙◌}
-use lib.ListN.{length, length-map}
+use mathlib.Core.Path.{◌≡◌, refl}
+use lib.ListN.{length}
 use Rattle.kinds.specs.Sizes as sizes
 use Rattle.rules.specs.Effect.{taken_of}
 use Rattle.rules.specs.Deliver.{spoken}

@@ -1,5 +1,4 @@
 -- The part that stands at the place, with the core's counters and channels.
-use borrow.Author.Rules.{rules}
 use Rattle.rules.specs.Effect.{turn_at}
 use Rattle.shell.proofs.turn_at.Goals as goal
 

@@ -1,6 +1,6 @@
 -- The core stays, and so does what it is read as.
-use mathlib.Core.Path.{◌≡◌, refl, sym, ◌∙◌}
-use lib.ListN.{length, length-map}
+use mathlib.Core.Path.{◌≡◌, refl}
+use lib.ListN.{length}
 use Rattle.kinds.specs.Sizes as sizes
 use Rattle.lent.specs.Leaves.{left_same}
 use borrow.Author.Rules.{rules}

@@ -1,7 +1,5 @@
 -- The site, then the serial.
 use mathlib.Core.Path.{sym, ◌∙◌}
-use borrow.Author.Rules.{rules}
-use borrow.Author.Tests.{not-true, not-false}
 use Rattle.laws.specs.Choice.{pick_self}
 use Rattle.rules.specs.Valid.{counters_ok}
 use Rattle.valid.proofs.counters_ok.Goals as goal

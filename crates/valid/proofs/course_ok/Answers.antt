@@ -3,8 +3,7 @@ use Prim.Native.Nat.{◌+◌, ◌*◌, ◌≤◌}
 use mathlib.Core.Path.{◌≡◌, sym, ◌∙◌}
 use mathlib.Core.Bool.{true}
 use native.Mathlib.Omega.{arith}
-use borrow.Author.Rules.{rules}
-use borrow.Author.Tests.{le-leb, lt-leb, not-true, not-false}
+use borrow.Author.Tests.{le-leb, lt-leb}
 use lib.ListN.{get_or}
 use lib.Dec.{leb}
 use Rattle.laws.specs.Choice.{pick_self}
@@ -51,7 +50,7 @@ returns-then-listed-eq0 c =
     let heard-ok : (let a = c.args in is_mask a.o (get_or a.w.now (a.at + word.place_heard) 0) ≡ true) = sym c.is_mask-2.ensures ∙ c.if-not-is_mask-2.false in
     let a = c.args in
     let lists = participants (get_or a.w.now (a.at + word.place_heard) 0) + 1 in
-    simp ( stage-ok, mask-ok, heard-ok, sym c.in_mask.ensures ∙ c.if-in_mask.false, le-leb (get_or a.w.now (a.at + word.place_listed) 0) (sizes.conc_entries * lists) (omega (arith, c.if-listed-eq0.true)), )
+    simp (stage-ok, mask-ok, heard-ok, sym c.in_mask.ensures ∙ c.if-in_mask.false, le-leb (get_or a.w.now (a.at + word.place_listed) 0) (sizes.conc_entries * lists) (omega (arith, c.if-listed-eq0.true)))
 
 pub overflow_add-lists : goal.overflow_add-lists
 overflow_add-lists c =
@@ -71,4 +70,4 @@ returns c =
     let stage-ok : leb c.args.seat.stage stage.rejected ≡ true = le-leb _ _ c.if-stage-gt-REJECTED.false in
     let mask-ok : (let a = c.args in is_mask a.o (get_or a.w.now (a.at + word.place_mask) 0) ≡ true) = sym c.is_mask.ensures ∙ c.if-not-is_mask.false in
     let heard-ok : (let a = c.args in is_mask a.o (get_or a.w.now (a.at + word.place_heard) 0) ≡ true) = sym c.is_mask-2.ensures ∙ c.if-not-is_mask-2.false in
-    simp ( stage-ok, mask-ok, heard-ok, sym c.in_mask.ensures ∙ c.if-in_mask.false, ← c.participants.ensures, pick_self, )
+    simp (stage-ok, mask-ok, heard-ok, sym c.in_mask.ensures ∙ c.if-in_mask.false, ← c.participants.ensures, pick_self)

@@ -1,7 +1,5 @@
 -- The desk, and the count of keys written against the desk's limit.
 use mathlib.Core.Path.{sym, ◌∙◌}
-use borrow.Author.Rules.{rules}
-use borrow.Author.Tests.{not-true, not-false}
 use Rattle.laws.specs.Choice.{pick_self}
 use Rattle.rules.specs.Valid.{desk_ok}
 use Rattle.lent.specs.Layout.{keys_from}

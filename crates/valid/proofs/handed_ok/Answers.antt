@@ -2,8 +2,7 @@
 use mathlib.Core.Path.{◌≡◌, sym, ◌∙◌}
 use mathlib.Core.Bool.{true}
 use native.Mathlib.Omega.{arith}
-use borrow.Author.Rules.{rules}
-use borrow.Author.Tests.{not-true, not-false, eq-eqb, ne_eqb}
+use borrow.Author.Tests.{eq-eqb, ne_eqb}
 use Rattle.laws.specs.Choice.{pick_self}
 use Rattle.rules.specs.Valid.{site_ok, handed_ok}
 use Rattle.rules.specs.ValidLaws.{valid_site}
@@ -26,7 +25,7 @@ lists_ok-requires c =
     let a = c.args in
     let lengths = lent_lengths a.p a.live.now a.history.now site-good in
     let v = valid_site _ site-good in
-    record { few_sites = rw (lent_house_lem a.p.house a.live.now a.history.now lengths) at v.house.few_sites; live = lengths.live; whole = c.if-lists-ne-LISTS.false; few = λ i h. let k = (v.part i h).course in omega (arith, k.listed, k.heard_few, place_listed_lem a.p.seats a.live.now i h); }
+    record { few_sites = rw (lent_house_lem a.p.house a.live.now a.history.now lengths) at v.house.few_sites; live = lengths.live; whole = c.if-lists-ne-LISTS.false; few = λ i h. let k = (v.part i h).course in omega (arith, k.listed, k.heard_few, place_listed_lem a.p.seats a.live.now i h) }
 
 pub returns : goal.returns
 unfolding handed_ok

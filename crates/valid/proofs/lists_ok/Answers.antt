@@ -1,12 +1,11 @@
-use Prim.Native.Nat.{◌-◌, ◌*◌, ◌≤◌}
+use Prim.Native.Nat.{◌*◌}
 use mathlib.Core.Path.{◌≡◌, sym, ◌∙◌}
 use native.Mathlib.Omega.{arith}
 use borrow.Author.Count.{below_more}
 use borrow.Author.Rules.{rules}
-use borrow.Author.Tests.{not-true, not-false}
 use lib.ListN.{get_or}
 use Rattle.laws.specs.Overlay.{length_rest, rest_is}
-use Rattle.laws.specs.Scan.{EachBelow, each_none, not_all_below, all_end}
+use Rattle.laws.specs.Scan.{each_none, not_all_below, all_end}
 use Rattle.kinds.specs.Sizes as sizes
 use Rattle.kinds.specs.State.{past_sub}
 use Rattle.rules.specs.Valid.{list_at, gathered_ok, lists_ok}

@@ -1,18 +1,11 @@
 -- The lists passed are possible, and one that is not ends the loop.
-use Prim.Native.Nat.{◌-◌, ◌*◌, ◌≤◌}
-use mathlib.Core.Path.{◌≡◌, sym, ◌∙◌}
-use native.Mathlib.Omega.{arith}
-use borrow.Author.Count.{below_more}
-use borrow.Author.Rules.{rules}
-use borrow.Author.Tests.{not-true, not-false}
+use Prim.Native.Nat.{◌-◌, ◌≤◌}
 use lib.ListN.{get_or}
-use Rattle.laws.specs.Overlay.{length_rest, rest_is}
-use Rattle.laws.specs.Scan.{EachBelow, each_none, not_all_below, all_end}
+use Rattle.laws.specs.Scan.{EachBelow}
 use Rattle.kinds.specs.Sizes as sizes
 use Rattle.kinds.specs.State.{past_sub}
-use Rattle.rules.specs.Valid.{list_at, gathered_ok, lists_ok}
-use Rattle.lent.specs.Layout.{sub_from, live_of}
-use Rattle.lent.specs.Laws.{live_at}
+use Rattle.rules.specs.Valid.{list_at, gathered_ok}
+use Rattle.lent.specs.Layout.{live_of}
 use Rattle.valid.proofs.lists_ok.Given as goal
 
 abbrev pub invariant-loop-i : goal.invariant-loop-i

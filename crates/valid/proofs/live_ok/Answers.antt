@@ -1,11 +1,8 @@
-use Prim.Native.Nat.{◌-◌, ◌≤◌}
 use mathlib.Core.Path.{◌≡◌, sym, ◌∙◌}
 use native.Mathlib.Omega.{arith}
 use borrow.Author.Count.{below_more}
 use borrow.Author.Rules.{rules}
-use borrow.Author.Tests.{not-true, not-false}
-use Rattle.laws.specs.Scan.{EachBelow, each_none, not_all_below, all_end}
-use Rattle.kinds.specs.Sizes as sizes
+use Rattle.laws.specs.Scan.{each_none, not_all_below, all_end}
 use Rattle.rules.specs.Live.{part_at}
 use Rattle.rules.specs.Valid.{sub_ok, live_ok}
 use Rattle.lent.specs.Layout.{live_of}

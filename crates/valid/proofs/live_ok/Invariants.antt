@@ -1,16 +1,10 @@
 -- The parts passed are good, and one that is not ends the loop.
 use Prim.Native.Nat.{◌-◌, ◌≤◌}
-use mathlib.Core.Path.{◌≡◌, sym, ◌∙◌}
-use native.Mathlib.Omega.{arith}
-use borrow.Author.Count.{below_more}
-use borrow.Author.Rules.{rules}
-use borrow.Author.Tests.{not-true, not-false}
-use Rattle.laws.specs.Scan.{EachBelow, each_none, not_all_below, all_end}
+use Rattle.laws.specs.Scan.{EachBelow}
 use Rattle.kinds.specs.Sizes as sizes
 use Rattle.rules.specs.Live.{part_at}
-use Rattle.rules.specs.Valid.{sub_ok, live_ok}
+use Rattle.rules.specs.Valid.{sub_ok}
 use Rattle.lent.specs.Layout.{live_of}
-use Rattle.lent.specs.Laws.{live_at}
 use Rattle.valid.proofs.live_ok.Given as goal
 
 abbrev pub invariant-loop-i : goal.invariant-loop-i

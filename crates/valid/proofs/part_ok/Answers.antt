@@ -2,8 +2,7 @@
 use Prim.Native.Nat.{◌+◌}
 use mathlib.Core.Path.{◌≡◌, sym, ◌∙◌}
 use mathlib.Core.Bool.{true}
-use borrow.Author.Rules.{rules}
-use borrow.Author.Tests.{not-true, not-false, eq-eqb, ne_eqb}
+use borrow.Author.Tests.{eq-eqb, ne_eqb}
 use lib.ListN.{get_or}
 use Rattle.laws.specs.Choice.{pick_self}
 use Rattle.kinds.specs.Word as word
@@ -47,4 +46,4 @@ returns c =
     let keys-told : (let a = c.args in c.keys_ok_in.result ≡ keys_ok a.o a.own (keys_from a.w.now (a.at + word.place_keys))) = c.keys_ok_in.ensures c.args.o c.args.own c.requires.1 in
     let keys-good : (let a = c.args in keys_ok a.o a.own (keys_from a.w.now (a.at + word.place_keys)) ≡ true) = sym keys-told ∙ c.if-not-keys_ok_in.false in
     let desk-good : (let a = c.args in desk_ok (get_or a.w.now (a.at + word.place_desk) 0) (keys_from a.w.now (a.at + word.place_keys)) ≡ true) = sym c.desk_ok.ensures ∙ c.if-not-desk_ok.false in
-    simp ( course-good, keys-good, desk-good, ne_eqb _ _ c.if-stage-eq-FREE.false, ← c.is_tx.ensures, pick_self, )
+    simp (course-good, keys-good, desk-good, ne_eqb _ _ c.if-stage-eq-FREE.false, ← c.is_tx.ensures, pick_self)

@@ -3,8 +3,6 @@ use Prim.Native.Nat.{ℕ, ◌+◌, ◌-◌, ◌≤◌}
 use mathlib.Core.Path.{◌≡◌, sym, ap, ◌∙◌}
 use mathlib.Core.Bool.{true}
 use native.Mathlib.Omega.{arith}
-use borrow.Author.Rules.{rules}
-use borrow.Author.Tests.{not-true, not-false}
 use Rattle.laws.specs.Choice.{pick_self}
 use Rattle.kinds.specs.declared.House.{House}
 use Rattle.rules.specs.House.{GoodTable, house_ok, first_key, end_key, in_range}
@@ -74,7 +72,7 @@ unfolding site_ok
 returns-then-not-live_ok c =
     let house-good : house_ok c.lent_house-house.result ≡ true = sym c.house_ok.ensures ∙ c.if-not-house_ok.false in
     let counters-good : (counters_ok c.lent_house-house.result c.args.p.counters ≡ true) = sym c.counters_ok.ensures ∙ c.if-not-counters_ok.false in
-    simp ( ← c.lent_house-house.ensures, house-good, counters-good, sym c.live_ok.ensures ∙ c.if-not-live_ok.true, )
+    simp (← c.lent_house-house.ensures, house-good, counters-good, sym c.live_ok.ensures ∙ c.if-not-live_ok.true)
 
 pub history_ok-requires : goal.history_ok-requires
 history_ok-requires c =
@@ -91,4 +89,4 @@ unfolding site_ok
 returns c =
     let house-good : house_ok c.lent_house-house.result ≡ true = sym c.house_ok.ensures ∙ c.if-not-house_ok.false in
     let counters-good : (counters_ok c.lent_house-house.result c.args.p.counters ≡ true) = sym c.counters_ok.ensures ∙ c.if-not-counters_ok.false in
-    simp ( ← c.lent_house-house.ensures, house-good, counters-good, sym c.live_ok.ensures ∙ c.if-not-live_ok.false, ← c.history_ok.ensures, pick_self, )
+    simp (← c.lent_house-house.ensures, house-good, counters-good, sym c.live_ok.ensures ∙ c.if-not-live_ok.false, ← c.history_ok.ensures, pick_self)

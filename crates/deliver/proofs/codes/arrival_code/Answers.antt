@@ -1,5 +1,5 @@
 -- Each return is the first cause, or none.
-use borrow.Author.Tests.{le-ltb, lt-ltb, not-false, not-true}
+use borrow.Author.Tests.{le-ltb, lt-ltb}
 use Rattle.rules.specs.Deliver.{arrival_code}
 use Rattle.kinds.specs.Sizes as sizes
 use Rattle.deliver.proofs.codes.arrival_code.Goals as goal
@@ -18,10 +18,10 @@ pub returns-then-not-fine : goal.returns-then-not-fine
 unfolding arrival_code
 returns-then-not-fine c =
     let a = c.args in
-    simp ( le-ltb a.room sizes.outgoing c.if-room-lt-OUTGOING.false, c.if-not-ok.false, c.if-not-fine.true, )
+    simp (le-ltb a.room sizes.outgoing c.if-room-lt-OUTGOING.false, c.if-not-ok.false, c.if-not-fine.true)
 
 pub returns : goal.returns
 unfolding arrival_code
 returns c =
     let a = c.args in
-    simp ( le-ltb a.room sizes.outgoing c.if-room-lt-OUTGOING.false, c.if-not-ok.false, c.if-not-fine.false, )
+    simp (le-ltb a.room sizes.outgoing c.if-room-lt-OUTGOING.false, c.if-not-ok.false, c.if-not-fine.false)

@@ -1,5 +1,4 @@
 -- A CONC of a transaction that is held goes to its handler; for any other only the count is stepped. Its kind bounds its entries.
-use borrow.Author.Rules.{rules}
 use Rattle.laws.specs.Overlay.{overlay_none}
 use Rattle.kinds.specs.declared.Site.{Site}
 use Rattle.rules.specs.Deliver.{passed}

@@ -1,5 +1,4 @@
 -- A VOTE of a transaction that is held goes to its handler; for any other only the count is stepped.
-use borrow.Author.Rules.{rules}
 use borrow.Author.Tests.{le-ltb, lt-ltb}
 use Rattle.laws.specs.Overlay.{overlay_none}
 use Rattle.kinds.specs.Sizes as sizes

@@ -2,12 +2,11 @@
 use Prim.Native.Nat.{ℕ}
 use mathlib.Core.Path.{◌≡◌, ◌∙◌}
 use native.Mathlib.Omega.{arith}
-use borrow.Author.Rules.{rules}
 use Rattle.kinds.specs.Kind as kind
 use Rattle.kinds.specs.declared.Site.{Site}
 use Rattle.rules.specs.Deliver.{take_kind}
 use Rattle.rules.specs.DispatchLaws.{given_kind, kind_abort, kind_cert, kind_commit, kind_join, kind_joined, kind_prepare, kind_vote}
-use Rattle.rules.specs.DispatchLaws.{quiet_abort, quiet_commit, quiet_joined, some_kind}
+use Rattle.rules.specs.DispatchLaws.{quiet_abort, quiet_commit, quiet_joined}
 use Rattle.rules.specs.Effect.{Effect}
 use Rattle.lent.specs.Lent.{site_of}
 use Rattle.handlers.specs.Held.{Reached}

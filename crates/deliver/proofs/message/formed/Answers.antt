@@ -1,6 +1,4 @@
 -- Of an invalid site nothing is said.
-use borrow.Author.Rules.{rules}
-use borrow.Author.Tests.{not-false, not-true}
 use mathlib.Core.Path.{◌∙◌, sym}
 use mathlib.Core.Bool.{true≢false}
 use Rattle.deliver.proofs.message.formed.Goals as goal

@@ -1,5 +1,4 @@
 -- A PREPARE of a transaction that is held goes to its handler; any other is voted 5.
-use borrow.Author.Rules.{rules}
 use borrow.Author.Tests.{le-ltb, lt-ltb}
 use Rattle.kinds.specs.Sizes as sizes
 use Rattle.rules.specs.DispatchLaws.{prepared_or}

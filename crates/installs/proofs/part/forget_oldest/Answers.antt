@@ -1,6 +1,5 @@
 -- Below 32 installs nothing is forgotten; from then on the entry in the way is.
 use mathlib.Core.Path.{◌≡◌, ap, ◌∙◌}
-use borrow.Author.Rules.{rules}
 use borrow.Author.Tests.{le-leb, lt-leb}
 use Rattle.kinds.specs.Sizes as sizes
 use Rattle.kinds.specs.declared.Entry.{Entry}

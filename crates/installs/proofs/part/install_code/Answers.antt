@@ -1,7 +1,7 @@
 -- The tests are those of the causes; that something is due is tested once, before the count.
 use mathlib.Core.Path.{◌≡◌}
 use mathlib.Core.Bool.{true, false}
-use borrow.Author.Tests.{eq-eqb, le-leb, le-ltb, lt-leb, lt-ltb, ne_eqb, not-false, not-true}
+use borrow.Author.Tests.{eq-eqb, le-leb, le-ltb, lt-leb, lt-ltb, ne_eqb}
 use lib.Dec.{eqb, ltb}
 use Rattle.rules.specs.Install.{install_code}
 use Rattle.kinds.specs.Sizes as sizes

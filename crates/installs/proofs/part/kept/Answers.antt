@@ -1,9 +1,9 @@
 -- The part's entry is laid into the next slot, and its place is laid free; the counter has one install more.
 use Prim.Native.Nat.{ℕ, ◌+◌, ◌*◌, ◌<◌}
-use mathlib.Core.Path.{◌≡◌, sym, ◌∙◌}
+use mathlib.Core.Path.{◌≡◌}
 use mathlib.Core.List.{List}
 use borrow.Author.Rules.{rules}
-use lib.ListN.{length, length-map, set}
+use lib.ListN.{length, set}
 use Rattle.laws.specs.Overlay.{put_at}
 use Rattle.kinds.specs.Sizes as sizes
 use Rattle.kinds.specs.State.{no_sub, sub_at, with_installs}
@@ -54,4 +54,4 @@ put_entry-requires c = (c.requires.lengths.0.history, rw c.next_slot-slot.ensure
 pub returns : goal.returns
 returns c =
     let seats : length c.args.p.seats ≡ sizes.live = search rules in
-    λ base. let a = c.args in leaves a.p a.live.now a.history.now a.place _ a.b _ _ _ _ _ base (record { part = c.requires.place_lt_live.1; freed = c.no_sub-free.ensures; sits = c.seat_of-seat.ensures; kept = c.entry_of.ensures; next = c.next_slot-slot.ensures; live = c.put_part.ensures; history = c.put_entry.ensures; }) seats c.requires.lengths.0 c.requires.place_lt_live.0
+    λ base. let a = c.args in leaves a.p a.live.now a.history.now a.place _ a.b _ _ _ _ _ base (record { part = c.requires.place_lt_live.1; freed = c.no_sub-free.ensures; sits = c.seat_of-seat.ensures; kept = c.entry_of.ensures; next = c.next_slot-slot.ensures; live = c.put_part.ensures; history = c.put_entry.ensures }) seats c.requires.lengths.0 c.requires.place_lt_live.0

@@ -1,8 +1,6 @@
 -- An impossible site is not asked; of a possible one it is the queue's least.
 use mathlib.Core.Path.{sym, ◌∙◌}
 use mathlib.Core.Bool.{true≢false}
-use borrow.Author.Rules.{rules}
-use borrow.Author.Tests.{not-false, not-true}
 use Rattle.installs.proofs.part.least_place.Goals as goal
 
 pub returns-then-not-ok : goal.returns-then-not-ok

@@ -1,5 +1,4 @@
 -- The header has the part's words and the count that was handed in.
-use borrow.Author.Rules.{rules}
 use Rattle.rules.specs.Install.{part_head}
 use Rattle.installs.proofs.part.part_head.Goals as goal
 

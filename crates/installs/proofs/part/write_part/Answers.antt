@@ -1,7 +1,6 @@
 -- The words lent to the writer are the writes by key ascending, so what it writes is the part record.
 use Prim.Native.Nat.{ℕ, ◌*◌, ◌≤◌}
 use mathlib.Core.List.{List}
-use borrow.Author.Rules.{rules}
 use lib.ListN.{length-take, replicate, take}
 use mathlib.Core.Path.{◌≡◌}
 use native.Mathlib.Omega.{arith}

@@ -1,7 +1,6 @@
 -- Refused, or the state number in its record.
 use mathlib.Core.Path.{◌≡◌, sym, ◌∙◌}
 use mathlib.Core.List.{[]}
-use borrow.Author.Rules.{rules}
 use lib.ListN.{length}
 use Rattle.laws.specs.Overlay.{overlay_none}
 use Rattle.kinds.specs.declared.Site.{Site}

@@ -1,5 +1,5 @@
 -- The tests are those of the causes.
-use borrow.Author.Tests.{le-ltb, lt-ltb, not-false, not-true}
+use borrow.Author.Tests.{le-ltb, lt-ltb}
 use Rattle.rules.specs.Install.{report_code}
 use Rattle.kinds.specs.Sizes as sizes
 use Rattle.installs.proofs.state.report_code.Goals as goal

@@ -1,5 +1,4 @@
 -- A record with no writes.
-use borrow.Author.Rules.{rules}
 use Rattle.rules.specs.Install.{state_words}
 use Rattle.installs.proofs.state.write_state.Goals as goal
 
