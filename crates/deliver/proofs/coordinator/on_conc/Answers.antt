@@ -25,7 +25,8 @@ unfolding passed
 returns-then-place-ge-LIVE c =
     let handed : Site = let a = c.args in site_of a.p a.live.now a.history.now in
     let a = c.args in
-    sends a.lists.now (c.passed.ensures a.live.now a.history.now) a.out.now a.out.now (kind_conc_other handed a.h a.es.now a.lists.now a.place c.if-place-ge-LIVE.true) (overlay_none a.out.now)
+    let r = sends a.lists.now (c.passed.ensures a.live.now a.history.now) a.out.now a.out.now (kind_conc_other handed a.h a.es.now a.lists.now a.place c.if-place-ge-LIVE.true) (overlay_none a.out.now) in
+    record { replied = r.0; lists_after = r.1.0; out_after = r.1.1 }
 
 pub take_conc-requires : goal.take_conc-requires
 unfolding most_entries

@@ -19,11 +19,12 @@ reached : (c : Start) → (let a = c.args in Reached a.p a.live.now a.history.no
 reached c =
     reaches c.args.p c.args.live.now c.args.history.now c.requires.incoming
 
-of-kind : (c : Start) → (let handed : Site = let a = c.args in site_of a.p a.live.now a.history.now in     let rule : ℕ → Effect = λ k. let a = c.args in take_kind k handed a.h a.es.now a.lists.now a.place in (k : ℕ) {e : Effect} → c.args.h.kind ≡ k → rule k ≡ e → rule c.args.h.kind ≡ e)
-of-kind c k q t =
-    let handed : Site = let a = c.args in site_of a.p a.live.now a.history.now in
+of_kind : (c : Start) (k : ℕ) (e : Effect) → c.args.h.kind ≡ k
+    → (let a = c.args in take_kind k (site_of a.p a.live.now a.history.now) a.h a.es.now a.lists.now a.place ≡ e)
+    → (let a = c.args in take_kind c.args.h.kind (site_of a.p a.live.now a.history.now) a.h a.es.now a.lists.now a.place ≡ e)
+of_kind c k e q t =
     let a = c.args in
-    given_kind handed a.h a.es.now a.lists.now a.place q ∙ t
+    given_kind (site_of a.p a.live.now a.history.now) a.h a.es.now a.lists.now a.place q ∙ t
 
 pub take_join-requires : goal.take_join-requires
 take_join-requires c =
@@ -43,12 +44,12 @@ on_prepare-requires c =
 pub on_conc-requires : goal.on_conc-requires
 on_conc-requires c =
     let pre = c.requires in
-    record { incoming = (pre.incoming, c.in-9-to-18446744073709551615.keys4); lists_len = pre.lists_len }
+    record { incoming = (pre.incoming, c.in-4.is); lists_len = pre.lists_len }
 
 pub on_cert-requires : goal.on_cert-requires
 on_cert-requires c =
     let pre = c.requires in
-    record { incoming = (pre.incoming, c.in-9-to-18446744073709551615.keys5); outgoing_in_bounds = pre.lists_len.1 }
+    record { incoming = (pre.incoming, c.in-5.is); outgoing_in_bounds = pre.lists_len.1 }
 
 pub on_vote-requires : goal.on_vote-requires
 on_vote-requires c =
@@ -67,68 +68,73 @@ on_abort-requires c =
 
 pub returns-in-1 : goal.returns-in-1
 returns-in-1 c =
-    let of-kind = of-kind (goal.at.returns-in-1 c).Start in
+    let at_start = (goal.at.returns-in-1 c).Start in
     let a = c.args in
-    let t = of-kind kind.join c.in-9-to-18446744073709551615.keys1 (kind_join _ _ _ _ _) in
-    sends a.lists.now c.take_join.ensures.replied a.out.now _ t c.take_join.ensures.out_after
+    let t = of_kind at_start kind.join _ c.in-1.is (kind_join _ _ _ _ _) in
+    let r = sends a.lists.now c.take_join.ensures.replied a.out.now _ t c.take_join.ensures.out_after in
+    record { replied = r.0; lists_after = r.1.0; out_after = r.1.1 }
 
 pub returns-in-2 : goal.returns-in-2
 returns-in-2 c =
     let handed : Site = let a = c.args in site_of a.p a.live.now a.history.now in
-    let of-kind = of-kind (goal.at.returns-in-2 c).Start in
+    let at_start = (goal.at.returns-in-2 c).Start in
     let a = c.args in
-    let t = of-kind kind.joined c.in-9-to-18446744073709551615.keys2 (kind_joined _ _ _ _ _) in
-    quiet a.lists.now c.on_joined.ensures a.out.now t (quiet_joined handed a.h a.place)
+    let t = of_kind at_start kind.joined _ c.in-2.is (kind_joined _ _ _ _ _) in
+    let r = quiet a.lists.now c.on_joined.ensures a.out.now t (quiet_joined handed a.h a.place) in
+    record { replied = r.0; lists_after = r.1.0; out_after = r.1.1 }
 
 pub returns-in-3 : goal.returns-in-3
 returns-in-3 c =
-    let of-kind = of-kind (goal.at.returns-in-3 c).Start in
+    let at_start = (goal.at.returns-in-3 c).Start in
     let a = c.args in
-    let t = of-kind kind.prepare c.in-9-to-18446744073709551615.keys3 (kind_prepare _ _ _ _ _) in
-    sends a.lists.now c.on_prepare.ensures.replied a.out.now _ t c.on_prepare.ensures.out_after
+    let t = of_kind at_start kind.prepare _ c.in-3.is (kind_prepare _ _ _ _ _) in
+    let r = sends a.lists.now c.on_prepare.ensures.replied a.out.now _ t c.on_prepare.ensures.out_after in
+    record { replied = r.0; lists_after = r.1.0; out_after = r.1.1 }
 
 pub returns-in-4 : goal.returns-in-4
 returns-in-4 c =
     let handed : Site = let a = c.args in site_of a.p a.live.now a.history.now in
     let a = c.args in
-    rw (given_kind handed a.h a.es.now a.lists.now a.place c.in-9-to-18446744073709551615.keys4) c.on_conc.ensures
+    rw (given_kind handed a.h a.es.now a.lists.now a.place c.in-4.is) c.on_conc.ensures
 
 pub returns-in-5 : goal.returns-in-5
 returns-in-5 c =
-    let of-kind = of-kind (goal.at.returns-in-5 c).Start in
+    let at_start = (goal.at.returns-in-5 c).Start in
     let a = c.args in
-    let t = of-kind kind.cert c.in-9-to-18446744073709551615.keys5 (kind_cert _ _ _ _ _) in
-    sends a.lists.now c.on_cert.ensures.replied a.out.now _ t c.on_cert.ensures.out_after
+    let t = of_kind at_start kind.cert _ c.in-5.is (kind_cert _ _ _ _ _) in
+    let r = sends a.lists.now c.on_cert.ensures.replied a.out.now _ t c.on_cert.ensures.out_after in
+    record { replied = r.0; lists_after = r.1.0; out_after = r.1.1 }
 
 pub returns-in-6 : goal.returns-in-6
 returns-in-6 c =
-    let of-kind = of-kind (goal.at.returns-in-6 c).Start in
+    let at_start = (goal.at.returns-in-6 c).Start in
     let a = c.args in
-    let t = of-kind kind.vote c.in-9-to-18446744073709551615.keys6 (kind_vote _ _ _ _ _) in
-    sends a.lists.now c.on_vote.ensures.replied a.out.now _ t c.on_vote.ensures.out_after
+    let t = of_kind at_start kind.vote _ c.in-6.is (kind_vote _ _ _ _ _) in
+    let r = sends a.lists.now c.on_vote.ensures.replied a.out.now _ t c.on_vote.ensures.out_after in
+    record { replied = r.0; lists_after = r.1.0; out_after = r.1.1 }
 
 pub returns-in-7 : goal.returns-in-7
 returns-in-7 c =
     let handed : Site = let a = c.args in site_of a.p a.live.now a.history.now in
-    let of-kind = of-kind (goal.at.returns-in-7 c).Start in
+    let at_start = (goal.at.returns-in-7 c).Start in
     let a = c.args in
-    let t = of-kind kind.commit c.in-9-to-18446744073709551615.keys7 (kind_commit _ _ _ _ _) in
-    quiet a.lists.now c.on_commit.ensures a.out.now t (quiet_commit handed a.h a.place)
+    let t = of_kind at_start kind.commit _ c.in-7.is (kind_commit _ _ _ _ _) in
+    let r = quiet a.lists.now c.on_commit.ensures a.out.now t (quiet_commit handed a.h a.place) in
+    record { replied = r.0; lists_after = r.1.0; out_after = r.1.1 }
 
 pub returns-in-8 : goal.returns-in-8
 returns-in-8 c =
     let handed : Site = let a = c.args in site_of a.p a.live.now a.history.now in
-    let of-kind = of-kind (goal.at.returns-in-8 c).Start in
+    let at_start = (goal.at.returns-in-8 c).Start in
     let a = c.args in
-    let t = of-kind kind.abort c.in-9-to-18446744073709551615.keys8 (kind_abort _ _ _ _ _) in
-    quiet a.lists.now c.on_abort.ensures a.out.now t (quiet_abort handed a.h a.place)
+    let t = of_kind at_start kind.abort _ c.in-8.is (kind_abort _ _ _ _ _) in
+    let r = quiet a.lists.now c.on_abort.ensures a.out.now t (quiet_abort handed a.h a.place) in
+    record { replied = r.0; lists_after = r.1.0; out_after = r.1.1 }
 
 pub returns-in-0 : goal.returns-in-0
-returns-in-0 c = absurd (omega (arith, c.requires.incoming.low_kind, c.in-9-to-18446744073709551615.keys9))
+returns-in-0 c = absurd (omega (arith, c.requires.incoming.low_kind_lem, c.in-0.is))
 
 pub returns-in-9-to-18446744073709551615 : goal.returns-in-9-to-18446744073709551615
 returns-in-9-to-18446744073709551615 c =
     let i = c.requires.incoming in
-    let r = c.in-9-to-18446744073709551615.rest in
-    let s = r.0.0.0.0 in
-    absurd (some_kind _ i.low_kind i.high_kind s.0.0.0.0.1 s.0.0.0.1 s.0.0.1 s.0.1 s.1 r.0.0.0.1 r.0.0.1 r.0.1)
+    absurd (omega (arith, i.low_kind_lem, i.high_kind_lem))

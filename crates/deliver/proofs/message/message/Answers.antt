@@ -20,7 +20,7 @@ use Rattle.rules.specs.Message.{message_entries, message_head, message_ok}
 use Rattle.rules.specs.Valid.{handed_ok}
 use Rattle.rules.specs.ValidLaws.{valid_site, handed_site, handed_length}
 use Rattle.lent.specs.Lent.{site_of}
-use Rattle.deliver.proofs.message.message.Goals.{After-arrival_code-first, After-next_code-next, After-place_of-place, After-taken-1, Else-first-ne0}
+use Rattle.deliver.proofs.message.message.Goals.{After-arrival_code-first, After-next_code-next, After-place_of-place, Else-first-ne0}
 use Rattle.deliver.proofs.message.message.Goals as goal
 
 -- a valid site's words are looked at by its house
@@ -44,11 +44,6 @@ passed c =
     let a = c.args in
     let ok = c.handed_ok-ok in
     checked handed (length a.out.now) a.lists.now a.m.now ok.result c.formed-fine.result ok.ensures fine (sym c.arrival_code-first.ensures ∙ c.if-first-ne0.false)
-
--- the header that is read
-from-same : (c : After-taken-1) → c.read_head-h.result.from ≡ (message_head c.args.m.now).from
-from-same c =
-    ap (λ (h : MessageHead). h.from) c.read_head-h.ensures
 
 -- the code of the channel is the rule's
 next-same : (s : Site) (m : List ℕ) (h : MessageHead) (n : ℕ) → h ≡ message_head m
@@ -92,19 +87,19 @@ read_head-h-requires c =
 pub overflow_sub-from : goal.overflow_sub-from
 overflow_sub-from c =
     let passed = passed (goal.at.overflow_sub-from c).Else-first-ne0 in
-    let from-same = from-same (goal.at.overflow_sub-from c).After-taken-1 in
+    let from-same : c.read_head-h.result.from ≡ (message_head c.args.m.now).from = ap (λ (h : MessageHead). h.from) c.read_head-h.ensures in
     omega (arith, passed.from_low, from-same)
 
 pub offset_bounds-taken-from : goal.offset_bounds-taken-from
 offset_bounds-taken-from c =
     let passed = passed (goal.at.offset_bounds-taken-from c).Else-first-ne0 in
-    let from-same = from-same (goal.at.offset_bounds-taken-from c).After-taken-1 in
+    let from-same : c.read_head-h.result.from ≡ (message_head c.args.m.now).from = ap (λ (h : MessageHead). h.from) c.read_head-h.ensures in
     omega (arith, passed.from_high, from-same)
 
 pub bounds-taken-from : goal.bounds-taken-from
 bounds-taken-from c =
     let passed = passed (goal.at.bounds-taken-from c).Else-first-ne0 in
-    let from-same = from-same (goal.at.bounds-taken-from c).After-taken-1 in
+    let from-same : c.read_head-h.result.from ≡ (message_head c.args.m.now).from = ap (λ (h : MessageHead). h.from) c.read_head-h.ensures in
     let k = passed in
     omega (arith, k.from_low, k.from_high, from-same)
 
@@ -128,6 +123,7 @@ slice_bounds-take_kind-start c =
 
 clear : (c : After-place_of-place) → (let handed : Site = let a = c.args in site_of a.p a.live.now a.history.now in next_in handed c.args.m.now ≡ 0)
 clear c =
+    let handed : Site = let a = c.args in site_of a.p a.live.now a.history.now in
     let next_is : c.next_code-next.result ≡ next_in handed c.args.m.now = next-same handed c.args.m.now _ _ c.read_head-h.ensures c.next_code-next.ensures in
     sym next_is ∙ c.if-next-ne0.false
 
@@ -144,10 +140,10 @@ take_kind-requires c =
     let rest = rest (goal.at.take_kind-requires c).After-place_of-place in
     let m = c.args.m.now in
     let k = passed in
-    let low : c.read_head-h.result.channel < 18446744073709551616 = c.read_head-h.ok.1.1.1.1.1.0.1 in
+    let low : c.read_head-h.result.channel < 18446744073709551616 = search rules in
     let channel = ap (λ (h : MessageHead). h.channel) c.read_head-h.ensures in
     let last : (message_head m).channel ≤ sizes.last = omega (arith, low, channel) in
-    record { incoming = comes handed m _ _ c.read_head-h.ensures rest (incoming handed m (handed_site _ _ k.handed) k.formed-fine last clear); lists_len = (handed_length _ _ k.handed, k.long) }
+    record { incoming = comes handed m _ _ c.read_head-h.ensures rest (incoming handed m (handed_site _ _ k.handed) k.formed last clear); lists_len = (handed_length _ _ k.handed, k.long) }
 
 pub returns : goal.returns
 returns c =
