@@ -1,4 +1,7 @@
 // The history of the last installed parts: what is remembered, and the search for the version that a snapshot sees.
+
+#![tactic(auto)]
+
 ghost use Rattle.std.specs.Prelude.{◌≡◌, ℕ, ◌+◌, ◌≤◌, ◌<◌, length, get_or};
 ghost use Rattle.kinds.specs.Sizes as sizes;
 ghost use Rattle.rules.specs.History.{remembered as rememberedOf, forgotten as forgottenOf, slot_of, is_forgotten, within as withinOf};

@@ -1,5 +1,8 @@
 // The keys that a part read and wrote, by value and in words, and dependence of two parts. A list of keys is copied before it is lent:
 // 128 bytes, where lending a field copies all 400 of the part's keys.
+
+#![tactic(auto)]
+
 pub mod order;
 mod words;
 

@@ -1,4 +1,7 @@
 // The types of the store's state, messages, records and answers, and every size of a house.
+
+#![tactic(auto)]
+
 pub mod desk;
 pub mod kind;
 pub mod reason;

@@ -1,4 +1,7 @@
 // The live table: sixteen places. A scan asks their seats; the other words of a part are read in place.
+
+#![tactic(auto)]
+
 ghost use Rattle.std.specs.Prelude.{◌≡◌, true, List, ℕ, ◌+◌, ◌*◌, ◌≤◌, ◌<◌, leb, eqb, length};
 ghost use Rattle.laws.specs.Choice.{pick};
 ghost use Rattle.kinds.specs.Sizes as sizes;

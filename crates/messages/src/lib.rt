@@ -1,4 +1,7 @@
 // Messages in lent words: their check, their header as a value, and the writers.
+
+#![tactic(auto)]
+
 mod entries;
 mod head;
 mod layout;

@@ -1,5 +1,8 @@
 // Houses and their tables of first keys, as S1, S2 and Q3.1 to Q3.5 say; transaction numbers, masks and pairs, as S3 to S6 number
 // them; desks, as Q10.1 and Q10.4 do.
+
+#![tactic(auto)]
+
 ghost use Rattle.std.specs.Prelude.{◌≡◌, ◌≤◌, ◌<◌, length};
 ghost use Rattle.laws.specs.Pair.{precedes as precedesOf};
 ghost use Rattle.rules.specs.House.{count_ok, table_ok, rest_ok, house_ok, house_of, is_site, is_key, home_of, first_key, end_key};

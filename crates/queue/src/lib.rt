@@ -1,4 +1,7 @@
 // The queue: the live parts that voted yes, by (commit number if decided, else mark; coordinator; transaction).
+
+#![tactic(auto)]
+
 ghost use Rattle.std.specs.Prelude.{◌≡◌, List, ℕ, ◌-◌, min, length};
 ghost use Rattle.kinds.specs.Sizes as sizes;
 ghost use Rattle.rules.specs.Queue.{comes_first, least_queued, is_installable, state_bound, state_number};

@@ -1,4 +1,7 @@
 // The words of the merger's queues: 16 places of 57 words for each site, the head first, lent beside the merger.
+
+#![tactic(auto)]
+
 pub mod joined;
 pub mod place;
 pub mod pop;

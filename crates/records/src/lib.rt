@@ -1,4 +1,7 @@
 // Records in lent words: the checks of the three kinds, the header as a value, and the writer.
+
+#![tactic(auto)]
+
 mod head;
 mod layout;
 mod write;

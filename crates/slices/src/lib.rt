@@ -1,4 +1,7 @@
 // Lent words copied and cleared.
+
+#![tactic(auto)]
+
 ghost use Rattle.std.specs.Prelude.{◌≡◌, ◌≤◌, length, replicate};
 ghost use Rattle.laws.specs.Overlay.{overlay};
 

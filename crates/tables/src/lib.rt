@@ -1,4 +1,7 @@
 // A site's tables in lent words: parts and remembered installs read and written (S7 to S9).
+
+#![tactic(auto)]
+
 ghost use Rattle.std.specs.Prelude.{◌≡◌, ◌+◌, ◌*◌, ◌≤◌, ◌<◌, length, get_or};
 ghost use Rattle.laws.specs.Overlay.{put_at};
 ghost use Rattle.kinds.specs.Sizes as sizes;

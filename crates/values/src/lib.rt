@@ -1,4 +1,7 @@
 // A value in lent words (Q12.1): where it is read, and how it is put; and whether it fits (Q12.5).
+
+#![tactic(auto)]
+
 ghost use Rattle.std.specs.Prelude.{◌≡◌, ◌+◌, ◌≤◌, length};
 ghost use Rattle.kinds.specs.Sizes as sizes;
 ghost use Rattle.rules.specs.Value.{value_at, put_value, fits as fits_of};

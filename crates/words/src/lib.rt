@@ -1,4 +1,7 @@
 // Words in lent bytes (Q1.2): eight bytes to a word, the least significant first.
+
+#![tactic(auto)]
+
 mod eight;
 
 ghost use Rattle.std.specs.Prelude.{◌≡◌, ◌+◌, ◌*◌, ◌/◌, ◌≤◌, ◌<◌, length, get_or, set, replicate};

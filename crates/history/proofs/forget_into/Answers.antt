@@ -1,16 +1,11 @@
-use Prim.Native.Nat.{ℕ, ◌*◌, ◌-◌, ◌≤◌, ◌<◌}
+use Prim.Native.Nat.{◌<◌}
 use mathlib.Core.Path.{◌≡◌, refl, sym, ◌∙◌}
-use mathlib.Core.List.{List}
 use native.Mathlib.Omega.{arith}
 use borrow.Author.Rules.{rules}
-use lib.ListN.{length, get_or}
+use lib.ListN.{get_or}
 use Rattle.laws.specs.Scan.{fold_below, fold_more}
 use Rattle.kinds.specs.Sizes as sizes
-use Rattle.kinds.specs.State.{fresh}
-use Rattle.kinds.specs.declared.Keys.{Keys}
-use Rattle.rules.specs.Value.{put_value}
 use Rattle.rules.specs.History.{forget_into}
-use Rattle.history.proofs.forget_into.Invariants.{forgotten}
 use Rattle.history.proofs.forget_into.Goals as goal
 
 pub loop-i-init : goal.loop-i-init
@@ -30,7 +25,7 @@ put_value-requires c =
 pub loop-i-preserved : goal.loop-i-preserved
 loop-i-preserved c =
     let l = c.loop-i in
-    ( c.put_value.auto.ws ∙ l.invariant.0, (omega arith, c.put_value.ensures ∙ rw l.invariant.1.1 (sym (fold_more _ _ _))), )
+    (c.put_value.auto.ws ∙ l.invariant.0, (omega arith, c.put_value.ensures ∙ rw l.invariant.1.1 (sym (fold_more _ _ _))))
 
 pub returns : goal.returns
 unfolding forget_into

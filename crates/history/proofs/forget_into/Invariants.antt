@@ -1,16 +1,13 @@
 -- After i writes the base values are the fold over them.
-use Prim.Native.Nat.{ℕ, ◌*◌, ◌-◌, ◌≤◌, ◌<◌}
-use mathlib.Core.Path.{◌≡◌, refl, sym, ◌∙◌}
+use Prim.Native.Nat.{ℕ, ◌*◌, ◌-◌, ◌≤◌}
+use mathlib.Core.Path.{◌≡◌}
 use mathlib.Core.List.{List}
-use native.Mathlib.Omega.{arith}
-use borrow.Author.Rules.{rules}
 use lib.ListN.{length, get_or}
-use Rattle.laws.specs.Scan.{fold_below, fold_more}
+use Rattle.laws.specs.Scan.{fold_below}
 use Rattle.kinds.specs.Sizes as sizes
 use Rattle.kinds.specs.State.{fresh}
 use Rattle.kinds.specs.declared.Keys.{Keys}
 use Rattle.rules.specs.Value.{put_value}
-use Rattle.rules.specs.History.{forget_into}
 use Rattle.history.proofs.forget_into.Given as goal
 
 -- the base values with the first i writes

@@ -1,6 +1,5 @@
 -- What is above the history's length.
 use native.Mathlib.Omega.{arith}
-use borrow.Author.Rules.{rules}
 use Rattle.rules.specs.History.{forgotten}
 use Rattle.history.proofs.forgotten.Goals as goal
 

@@ -1,5 +1,4 @@
 -- One test.
-use borrow.Author.Rules.{rules}
 use Rattle.rules.specs.History.{is_forgotten}
 use Rattle.history.proofs.is_forgotten.Goals as goal
 

@@ -1,13 +1,10 @@
-use Prim.Native.Nat.{◌-◌, ◌≤◌, ◌<◌}
+use Prim.Native.Nat.{◌<◌}
 use mathlib.Core.Path.{◌≡◌, sym, ◌∙◌}
-use mathlib.Core.Bool.{false}
 use native.Mathlib.Omega.{arith}
 use borrow.Author.Count.{below_more}
 use borrow.Author.Rules.{rules}
 use borrow.Author.Tests.{le-leb, lt-leb}
-use lib.Dec.{leb}
-use Rattle.laws.specs.Choice.{pick}
-use Rattle.laws.specs.Scan.{NoneBelow, any_below_lem, any_end}
+use Rattle.laws.specs.Scan.{any_below_lem, any_end}
 use Rattle.kinds.specs.Sizes as sizes
 use Rattle.rules.specs.History.{recall, is_newer}
 use Rattle.rules.specs.HistoryLaws.{remembered_few, within_remembered}
@@ -54,7 +51,7 @@ pub loop-i-preserved : goal.loop-i-preserved
 loop-i-preserved c =
     let told : (let a = c.args in c.wrote_key_in.result ≡ wrote_key (recall (history_of a.h.now) a.installs c.loop-i.i).keys a.k) = let a = c.args in rw (← recall_keys a.h.now a.installs c.loop-i.i _ c.recall_slot-slot.ensures) c.wrote_key_in.ensures in
     let l = c.loop-i in
-    ( search rules, (omega arith, below_more _ _ l.invariant.1.1 (rw (le-leb _ _ l.invariant.1.0) (sym told ∙ c.if-wrote_key_in.false))), )
+    (search rules, (omega arith, below_more _ _ l.invariant.1.1 (rw (le-leb _ _ l.invariant.1.0) (sym told ∙ c.if-wrote_key_in.false))))
 
 pub returns : goal.returns
 unfolding is_newer

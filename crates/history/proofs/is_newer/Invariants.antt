@@ -1,20 +1,12 @@
 -- No install from the snapshot on that was passed wrote the key; one that did ends the loop.
-use Prim.Native.Nat.{◌-◌, ◌≤◌, ◌<◌}
-use mathlib.Core.Path.{◌≡◌, sym, ◌∙◌}
+use Prim.Native.Nat.{◌-◌, ◌≤◌}
 use mathlib.Core.Bool.{false}
-use native.Mathlib.Omega.{arith}
-use borrow.Author.Count.{below_more}
-use borrow.Author.Rules.{rules}
-use borrow.Author.Tests.{le-leb, lt-leb}
 use lib.Dec.{leb}
 use Rattle.laws.specs.Choice.{pick}
-use Rattle.laws.specs.Scan.{NoneBelow, any_below_lem, any_end}
-use Rattle.kinds.specs.Sizes as sizes
-use Rattle.rules.specs.History.{recall, is_newer}
-use Rattle.rules.specs.HistoryLaws.{remembered_few, within_remembered}
+use Rattle.laws.specs.Scan.{NoneBelow}
+use Rattle.rules.specs.History.{recall}
 use Rattle.rules.specs.Keys.{wrote_key}
 use Rattle.lent.specs.Layout.{history_of}
-use Rattle.lent.specs.Read.{recall_keys, slot_lies, slot_few}
 use Rattle.history.proofs.is_newer.Given as goal
 
 abbrev pub invariant-loop-i : goal.invariant-loop-i

@@ -1,6 +1,5 @@
 -- The sum is at most the installs, or 32.
 use native.Mathlib.Omega.{arith}
-use borrow.Author.Rules.{rules}
 use Rattle.rules.specs.History.{forgotten}
 use Rattle.history.proofs.recall_slot.Goals as goal
 

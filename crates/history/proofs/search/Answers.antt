@@ -1,13 +1,10 @@
-use Prim.Native.Nat.{ℕ, suc, ◌+◌, ◌*◌, ◌-◌, ◌≤◌, ◌<◌}
+use Prim.Native.Nat.{suc, ◌+◌, ◌*◌, ◌-◌, ◌≤◌, ◌<◌}
 use mathlib.Core.Path.{◌≡◌, refl, sym, ◌∙◌}
-use mathlib.Core.List.{List}
 use native.Mathlib.Omega.{arith}
-use borrow.Author.Rules.{rules}
 use Rattle.kinds.specs.Sizes as sizes
 use Rattle.kinds.specs.Word as word
-use Rattle.kinds.specs.declared.Search.{Search}
 use Rattle.rules.specs.Value.{base_value}
-use Rattle.rules.specs.History.{recall, walk, search_in}
+use Rattle.rules.specs.History.{recall, search_in}
 use Rattle.rules.specs.HistoryLaws.{within_few}
 use Rattle.rules.specs.SearchLaws.{walk_end, walk_hit, walk_on}
 use Rattle.lent.specs.Layout.{keys_from, history_of}
@@ -46,7 +43,7 @@ wrote_value_in-value-requires c =
     let few : c.within-visible.result ≤ sizes.history = omega (arith, within_few c.args.installs c.args.p, c.within-visible.ensures) in
     let low : c.recall_slot-slot.result < sizes.history = omega (arith, c.recall_slot-slot.ensures) in
     let slots = c.requires.slots in
-    record { lie = slot_lies c.args.h.now _ slots (low); few = slot_few c.args.h.now _ slots (low); wrote = sym c.wrote_key_in.ensures ∙ c.if-wrote_key_in.true; }
+    record { lie = slot_lies c.args.h.now _ slots (low); few = slot_few c.args.h.now _ slots (low); wrote = sym c.wrote_key_in.ensures ∙ c.if-wrote_key_in.true }
 
 pub overflow_add-hit : goal.overflow_add-hit
 overflow_add-hit c =

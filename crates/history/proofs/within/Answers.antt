@@ -1,6 +1,5 @@
 -- All that is remembered, or the snapshot less what is forgotten.
 use native.Mathlib.Omega.{arith}
-use borrow.Author.Rules.{rules}
 use Rattle.rules.specs.History.{remembered, forgotten, within}
 use Rattle.history.proofs.within.Goals as goal
 

@@ -1,5 +1,5 @@
-use Rattle.std.proofs.Common.{◌≡◌, ◌-◌, ◌≤◌, false, eqb, get_or, sym, refl, ◌∙◌, arith, rules, below_more, eq-eqb, ne_eqb}
-use Rattle.laws.specs.Scan.{any_below, NoneBelow, none_none, any_below_lem, any_end}
+use Rattle.std.proofs.Common.{sym, refl, ◌∙◌, arith, rules, below_more, eq-eqb, ne_eqb}
+use Rattle.laws.specs.Scan.{none_none, any_below_lem, any_end}
 use Rattle.rules.specs.Keys.{common_key}
 use Rattle.keys.proofs.common_key.Goals as goal
 

@@ -1,7 +1,6 @@
 -- No pair passed is equal while both loops run; the label leaves them with one that is.
-use Rattle.std.proofs.Common.{◌≡◌, ◌-◌, ◌≤◌, false, eqb, get_or, sym, refl, ◌∙◌, arith, rules, below_more, eq-eqb, ne_eqb}
-use Rattle.laws.specs.Scan.{any_below, NoneBelow, none_none, any_below_lem, any_end}
-use Rattle.rules.specs.Keys.{common_key}
+use Rattle.std.proofs.Common.{◌≡◌, ◌-◌, ◌≤◌, false, eqb, get_or}
+use Rattle.laws.specs.Scan.{any_below, NoneBelow}
 use Rattle.keys.proofs.common_key.Given as goal
 
 abbrev pub invariant-loop-j : goal.invariant-loop-j

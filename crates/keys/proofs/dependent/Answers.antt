@@ -1,5 +1,5 @@
 -- Each return is the first of the three searches that finds a key, or the last one's answer.
-use Rattle.std.proofs.Common.{sym, ◌∙◌, rules}
+use Rattle.std.proofs.Common.{sym, ◌∙◌}
 use Rattle.laws.specs.Choice.{pick_self}
 use Rattle.rules.specs.Keys.{dependent}
 use Rattle.keys.proofs.dependent.Goals as goal
@@ -14,4 +14,4 @@ returns-then-common_key-2 c = simp (sym c.common_key.ensures ∙ c.if-common_key
 
 pub returns : goal.returns
 unfolding dependent
-returns c = simp ( sym c.common_key.ensures ∙ c.if-common_key.false, sym c.common_key-2.ensures ∙ c.if-common_key-2.false, c.common_key-3.ensures, pick_self, )
+returns c = simp (sym c.common_key.ensures ∙ c.if-common_key.false, sym c.common_key-2.ensures ∙ c.if-common_key-2.false, c.common_key-3.ensures, pick_self)

@@ -1,7 +1,6 @@
 -- The keys passed are not `k`, and the first that is ends the loop.
-use Rattle.std.proofs.Common.{◌-◌, ◌≤◌, eqb, get_or, arith, rules, below_more, eq-eqb, ne_eqb}
-use Rattle.laws.specs.Scan.{NoneBelow, none_none, first_below_lem, first_end}
-use Rattle.rules.specs.Keys.{key_place}
+use Rattle.std.proofs.Common.{◌-◌, ◌≤◌, eqb, get_or}
+use Rattle.laws.specs.Scan.{NoneBelow}
 use Rattle.keys.proofs.key_place.Given as goal
 
 abbrev pub invariant-loop-i : goal.invariant-loop-i

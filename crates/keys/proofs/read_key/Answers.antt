@@ -1,6 +1,4 @@
 -- The place is below the count exactly where the key was read.
-use Rattle.std.proofs.Common.{◌≡◌, length, sym, ◌∙◌, arith}
-use lib.ListN.{length-map}
 use Rattle.rules.specs.Keys.{read_key}
 use Rattle.keys.proofs.read_key.Goals as goal
 

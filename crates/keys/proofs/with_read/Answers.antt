@@ -1,5 +1,5 @@
 -- A key that was read changes nothing; one that was not goes behind the others, where there is room.
-use Rattle.std.proofs.Common.{◌<◌, sym, ◌∙◌, arith, rules}
+use Rattle.std.proofs.Common.{◌<◌, sym, ◌∙◌, arith}
 use Rattle.kinds.specs.Sizes as sizes
 use Rattle.rules.specs.Keys.{with_read}
 use Rattle.keys.proofs.with_read.Goals as goal

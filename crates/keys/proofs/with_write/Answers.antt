@@ -1,5 +1,5 @@
 -- The place says whether the key was written: over it, or behind the others, where there is room.
-use Rattle.std.proofs.Common.{◌≡◌, ℕ, ◌<◌, ◌≤◌, true, false, arith, rules, le-ltb, lt-ltb}
+use Rattle.std.proofs.Common.{◌≡◌, ℕ, ◌<◌, ◌≤◌, true, false, arith, le-ltb, lt-ltb}
 use Rattle.kinds.specs.Sizes as sizes
 use Rattle.rules.specs.Keys.{key_place, wrote_key, with_write}
 use Rattle.kinds.specs.declared.Keys.{Keys}

@@ -1,5 +1,5 @@
 -- The key was written, so its place is below the count.
-use Rattle.std.proofs.Common.{◌<◌, arith, rules, ltb-true}
+use Rattle.std.proofs.Common.{◌<◌, arith, ltb-true}
 use Rattle.rules.specs.Keys.{wrote_key, wrote_value}
 use Rattle.keys.proofs.wrote_value.Goals as goal
 

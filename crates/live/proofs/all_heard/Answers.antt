@@ -1,5 +1,4 @@
 -- Ones of the replies within the mask against those wanted.
-use borrow.Author.Rules.{rules}
 use Rattle.rules.specs.Live.{all_heard}
 use Rattle.live.proofs.all_heard.Goals as goal
 

@@ -1,6 +1,5 @@
-use borrow.Author.Count.{below_more}
-use borrow.Author.Tests.{eq-eqb, ne_eqb}
-use Rattle.std.proofs.Common.{arith, rules}
+use borrow.Author.Tests.{eq-eqb}
+use Rattle.std.proofs.Common.{rules}
 use Rattle.laws.specs.Scan.{none_none, first_below_lem, first_end}
 use Rattle.lent.specs.Seats.{free_in}
 use Rattle.live.proofs.free_in.Goals as goal

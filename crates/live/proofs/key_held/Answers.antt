@@ -1,10 +1,8 @@
-use Prim.Native.Nat.{◌-◌, ◌≤◌}
 use mathlib.Core.Path.{◌≡◌, sym, ap, ◌∙◌}
 use native.Mathlib.Omega.{arith}
 use borrow.Author.Count.{below_more}
 use borrow.Author.Rules.{rules}
-use Rattle.laws.specs.Scan.{NoneBelow, none_none, any_below_lem, any_end}
-use Rattle.kinds.specs.Sizes as sizes
+use Rattle.laws.specs.Scan.{none_none, any_below_lem, any_end}
 use Rattle.rules.specs.Live.{part_at, other_holds, key_held}
 use Rattle.lent.specs.Layout.{live_of}
 use Rattle.lent.specs.Laws.{live_at}

@@ -1,6 +1,4 @@
-use borrow.Author.Count.{below_more}
-use borrow.Author.Tests.{eq-eqb, ne_eqb}
-use Rattle.std.proofs.Common.{arith, rules}
+use Rattle.std.proofs.Common.{rules}
 use Rattle.laws.specs.Scan.{none_none, first_below_lem, first_end}
 use Rattle.lent.specs.Seats.{place_in}
 use Rattle.live.proofs.place_in.Goals as goal

@@ -1,6 +1,5 @@
 -- The next site's first key, or 2,048 where there is none.
 use borrow.Author.Tests.{lt-ltb, le-ltb}
-use borrow.Author.Rules.{rules}
 use Rattle.numbers.proofs.end_key.Goals as goal
 
 pub returns-then-s-sites : goal.returns-then-s-sites

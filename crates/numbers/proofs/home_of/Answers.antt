@@ -1,10 +1,10 @@
-use Prim.Native.Nat.{ℕ, ◌+◌, ◌-◌, ◌≤◌}
+use Prim.Native.Nat.{ℕ, ◌+◌, ◌-◌}
 use mathlib.Core.Path.{◌≡◌}
 use native.Mathlib.Omega.{arith}
 use borrow.Author.Count.{below_more}
 use borrow.Author.Rules.{rules}
 use borrow.Author.Tests.{lt-ltb, le-ltb}
-use Rattle.laws.specs.Scan.{NoneBelow, none_none, first_below, first_below_lem, first_end}
+use Rattle.laws.specs.Scan.{none_none, first_below, first_below_lem, first_end}
 use Rattle.kinds.specs.Sizes as sizes
 use Rattle.rules.specs.House.{ends_above, is_key, home_of}
 use Rattle.numbers.proofs.home_of.Goals as goal

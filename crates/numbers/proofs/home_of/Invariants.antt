@@ -1,13 +1,8 @@
 -- The sites passed end at or below the key, and the first that does not ends the loop.
-use Prim.Native.Nat.{ℕ, ◌+◌, ◌-◌, ◌≤◌}
-use mathlib.Core.Path.{◌≡◌}
-use native.Mathlib.Omega.{arith}
-use borrow.Author.Count.{below_more}
-use borrow.Author.Rules.{rules}
-use borrow.Author.Tests.{lt-ltb, le-ltb}
-use Rattle.laws.specs.Scan.{NoneBelow, none_none, first_below, first_below_lem, first_end}
+use Prim.Native.Nat.{◌-◌, ◌≤◌}
+use Rattle.laws.specs.Scan.{NoneBelow}
 use Rattle.kinds.specs.Sizes as sizes
-use Rattle.rules.specs.House.{ends_above, is_key, home_of}
+use Rattle.rules.specs.House.{ends_above}
 use Rattle.numbers.proofs.home_of.Given as goal
 
 abbrev pub invariant-loop-i : goal.invariant-loop-i

@@ -1,5 +1,4 @@
 -- The table lies over eight places of 0.
-use borrow.Author.Rules.{rules}
 use Rattle.numbers.proofs.house_of.Goals as goal
 
 pub returns : goal.returns

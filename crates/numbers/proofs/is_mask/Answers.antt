@@ -2,7 +2,6 @@
 use native.Mathlib.Omega.{arith}
 use Rattle.laws.specs.Digits.{one_shifted}
 use Rattle.rules.specs.House.{is_mask}
-use borrow.Author.Rules.{rules}
 use Rattle.numbers.proofs.is_mask.Goals as goal
 
 pub returns : goal.returns

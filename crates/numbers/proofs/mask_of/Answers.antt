@@ -3,7 +3,6 @@ use Prim.Native.Nat.{◌-◌}
 use native.Mathlib.Omega.{arith}
 use Rattle.laws.specs.Digits.{one_shifted}
 use Rattle.rules.specs.House.{mask_of}
-use borrow.Author.Rules.{rules}
 use Rattle.numbers.proofs.mask_of.Goals as goal
 
 pub returns : goal.returns

@@ -1,7 +1,6 @@
 -- One fewer than the participants, this site among them.
 use mathlib.Core.Path.{◌≡◌}
 use native.Mathlib.Omega.{arith}
-use borrow.Author.Rules.{rules}
 use lib.Bits.{bit_or}
 use Rattle.rules.specs.House.{mask_of, participants, replies_wanted}
 use Rattle.numbers.proofs.replies_wanted.Goals as goal

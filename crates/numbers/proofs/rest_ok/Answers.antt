@@ -1,13 +1,7 @@
-use Prim.Native.Nat.{◌-◌, ◌≤◌}
-use mathlib.Core.Bool.{true}
 use borrow.Author.Count.{below_more}
 use borrow.Author.Rules.{rules}
 use borrow.Author.Tests.{lt-ltb, le-ltb, eq-eqb, ne_eqb}
-use lib.ListN.{get_or}
-use lib.Dec.{ltb, eqb}
-use Rattle.laws.specs.Choice.{pick}
-use Rattle.laws.specs.Scan.{EachBelow, not_all_below, all_end}
-use Rattle.kinds.specs.Sizes as sizes
+use Rattle.laws.specs.Scan.{not_all_below, all_end}
 use Rattle.rules.specs.House.{rest_ok}
 use Rattle.numbers.proofs.rest_ok.Goals as goal
 
@@ -23,7 +17,7 @@ returns-then-t-i-ne0 c =
 pub loop-i-preserved : goal.loop-i-preserved
 loop-i-preserved c =
     let l = c.loop-i in
-    ( search rules, search rules, below_more _ _ l.invariant.2 (rw (le-ltb l.i _ l.invariant.0) (eq-eqb _ _ c.if-t-i-ne0.false)), )
+    (search rules, search rules, below_more _ _ l.invariant.2 (rw (le-ltb l.i _ l.invariant.0) (eq-eqb _ _ c.if-t-i-ne0.false)))
 
 pub returns : goal.returns
 unfolding rest_ok

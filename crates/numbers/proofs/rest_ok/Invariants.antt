@@ -1,15 +1,11 @@
 -- The places passed are 0, and one that is not ends the loop.
 use Prim.Native.Nat.{◌-◌, ◌≤◌}
 use mathlib.Core.Bool.{true}
-use borrow.Author.Count.{below_more}
-use borrow.Author.Rules.{rules}
-use borrow.Author.Tests.{lt-ltb, le-ltb, eq-eqb, ne_eqb}
 use lib.ListN.{get_or}
 use lib.Dec.{ltb, eqb}
 use Rattle.laws.specs.Choice.{pick}
-use Rattle.laws.specs.Scan.{EachBelow, not_all_below, all_end}
+use Rattle.laws.specs.Scan.{EachBelow}
 use Rattle.kinds.specs.Sizes as sizes
-use Rattle.rules.specs.House.{rest_ok}
 use Rattle.numbers.proofs.rest_ok.Given as goal
 
 abbrev pub invariant-loop-i : goal.invariant-loop-i

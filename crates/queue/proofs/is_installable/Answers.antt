@@ -1,5 +1,4 @@
 -- The two tests in order: the seat's stage is the part's.
-use borrow.Author.Rules.{rules}
 use borrow.Author.Tests.{lt-ltb, le-ltb}
 use Rattle.laws.specs.Choice.{pick_self}
 use Rattle.kinds.specs.Sizes as sizes

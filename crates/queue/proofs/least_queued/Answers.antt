@@ -1,8 +1,7 @@
-use Prim.Native.Nat.{ℕ, ◌+◌, ◌-◌, ◌*◌, ◌≤◌, ◌<◌}
+use Prim.Native.Nat.{ℕ, ◌+◌, ◌*◌, ◌<◌}
 use mathlib.Core.Path.{◌≡◌, sym, ◌∙◌}
 use mathlib.Core.Bool.{true, false}
 use mathlib.Core.List.{List}
-use mathlib.Core.Logic.{⊎_elim}
 use native.Mathlib.Omega.{arith}
 use borrow.Author.Rules.{rules}
 use lib.ListN.{get_or}
@@ -61,11 +60,11 @@ loop-i-preserved c =
     let low = c.loop-i-test.true in
     let k = sym (first_at a.seats a.live.now l.i l.best l.least l.first low l.invariant.1.1) ∙ sym asks.ensures in
     elim c.if-comes_first.branch [
-      then-comes_first w ↦ (
+      | then-comes_first w ↦ (
         omega arith,
         (w.best-is ∙ comes live l.i l.best l.invariant.1.0 (k ∙ w.if-comes_first.true), best-here _ _ l.i _ _ _ low w.best-is w.least-is w.first-is),
       )
-    | else-comes_first w ↦ (
+      | else-comes_first w ↦ (
         omega arith,
         (w.best-is ∙ stays live l.i l.best l.invariant.1.0 (k ∙ w.if-comes_first.false), rw (w.best-is, w.least-is, w.first-is) l.invariant.1.1),
       )

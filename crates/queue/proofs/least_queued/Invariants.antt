@@ -1,22 +1,10 @@
 -- After i places `best` is the least of them, and `least` and `first` are the number and the transaction of the part there.
-use Prim.Native.Nat.{ℕ, ◌+◌, ◌-◌, ◌*◌, ◌≤◌, ◌<◌}
-use mathlib.Core.Path.{◌≡◌, sym, ◌∙◌}
-use mathlib.Core.Bool.{true, false}
-use mathlib.Core.List.{List}
-use mathlib.Core.Logic.{⊎_elim}
-use native.Mathlib.Omega.{arith}
-use borrow.Author.Rules.{rules}
-use lib.ListN.{get_or}
+use Prim.Native.Nat.{◌-◌, ◌≤◌}
+use mathlib.Core.Path.{◌≡◌}
 use Rattle.kinds.specs.Sizes as sizes
-use Rattle.kinds.specs.Word as word
-use Rattle.kinds.specs.declared.Seat.{Seat}
-use Rattle.kinds.specs.declared.Sub.{Sub}
-use Rattle.rules.specs.Live.{part_at}
-use Rattle.rules.specs.Queue.{comes_first, better_place, least_queued}
-use Rattle.rules.proofs.QueueLaws.{queued_none, queued_more}
+use Rattle.rules.specs.Queue.{least_queued}
 use Rattle.lent.specs.Layout.{live_of}
-use Rattle.lent.specs.Seats.{seat_at, seat_stage, seat_tx, place_number_lem}
-use Rattle.queue.specs.Asked.{asked, Best, first_asked}
+use Rattle.queue.specs.Asked.{Best}
 use Rattle.queue.proofs.least_queued.Given as goal
 
 abbrev pub invariant-loop-i : goal.invariant-loop-i

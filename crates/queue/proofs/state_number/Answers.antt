@@ -1,4 +1,4 @@
-use Prim.Native.Nat.{ℕ, ◌-◌, ◌*◌, ◌+◌, ◌≤◌, ◌<◌}
+use Prim.Native.Nat.{ℕ, ◌*◌, ◌+◌, ◌<◌}
 use mathlib.Core.Path.{◌≡◌, sym, ap, ◌∙◌}
 use mathlib.Core.List.{List}
 use native.Mathlib.Omega.{arith}
@@ -8,7 +8,7 @@ use Rattle.kinds.specs.Sizes as sizes
 use Rattle.kinds.specs.Word as word
 use Rattle.kinds.specs.declared.Seat.{Seat}
 use Rattle.rules.specs.Live.{part_at}
-use Rattle.rules.specs.Queue.{state_bound, state_number}
+use Rattle.rules.specs.Queue.{state_bound}
 use Rattle.rules.proofs.QueueLaws.{state_none, state_more}
 use Rattle.lent.specs.Layout.{live_of}
 use Rattle.lent.specs.Seats.{seat_at, seat_stage, place_number_lem}

@@ -1,10 +1,9 @@
-use Prim.Native.Nat.{◌-◌, ◌≤◌}
 use mathlib.Core.Path.{◌≡◌, refl}
 use native.Mathlib.Omega.{arith}
 use borrow.Author.Rules.{rules}
-use lib.ListN.{length, take, length-set}
+use lib.ListN.{take, length-set}
 use lib.Seq.{take_all}
-use Rattle.laws.specs.Overlay.{overlay, overlay_none, overlay_copied}
+use Rattle.laws.specs.Overlay.{overlay_none, overlay_copied}
 use Rattle.slices.proofs.copy_words.Goals as goal
 
 pub loop-i-init : goal.loop-i-init
@@ -14,7 +13,7 @@ pub loop-i-preserved : goal.loop-i-preserved
 loop-i-preserved c =
     let a = c.args in
     let l = c.loop-i in
-    ( search rules, ( simp length-set l.invariant.1.0, overlay_copied a.out.now a.src.now l.out l.i l.invariant.1.1 (omega arith) (omega arith), ), )
+    (search rules, (simp length-set l.invariant.1.0, overlay_copied a.out.now a.src.now l.out l.i l.invariant.1.1 (omega arith) (omega arith)))
 
 pub returns : goal.returns
 returns c =

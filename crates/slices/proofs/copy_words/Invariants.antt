@@ -1,11 +1,8 @@
 -- After i words the slice is the first i of `src` laid over it.
 use Prim.Native.Nat.{◌-◌, ◌≤◌}
-use mathlib.Core.Path.{◌≡◌, refl}
-use native.Mathlib.Omega.{arith}
-use borrow.Author.Rules.{rules}
-use lib.ListN.{length, take, length-set}
-use lib.Seq.{take_all}
-use Rattle.laws.specs.Overlay.{overlay, overlay_none, overlay_copied}
+use mathlib.Core.Path.{◌≡◌}
+use lib.ListN.{length, take}
+use Rattle.laws.specs.Overlay.{overlay}
 use Rattle.slices.proofs.copy_words.Given as goal
 
 abbrev pub invariant-loop-i : goal.invariant-loop-i

@@ -1,5 +1,4 @@
 -- The entry of a slot is read from the words of the slot.
-use borrow.Author.Rules.{rules}
 use Rattle.lent.specs.Layout.{entry_from}
 use Rattle.lent.specs.Laws.{history_at}
 use Rattle.tables.proofs.entry_at.Goals as goal

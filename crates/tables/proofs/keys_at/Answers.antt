@@ -1,5 +1,4 @@
 -- Each field is read from its word or words.
-use borrow.Author.Rules.{rules}
 use Rattle.lent.specs.Layout.{keys_from}
 use Rattle.tables.proofs.keys_at.Goals as goal
 

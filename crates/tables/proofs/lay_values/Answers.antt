@@ -1,13 +1,12 @@
-use Prim.Native.Nat.{◌*◌, ◌-◌, ◌≤◌}
+use Prim.Native.Nat.{◌*◌}
 use mathlib.Core.Path.{◌≡◌}
 use native.Mathlib.Omega.{arith}
 use borrow.Author.Rules.{rules}
 use lib.ListN.{length, take}
 use lib.Seq.{take_all}
 use Rattle.kinds.specs.Sizes as sizes
-use Rattle.rules.specs.Value.{value_words}
 use Rattle.lent.specs.Rows.{flat}
-use Rattle.tables.proofs.Laid.{Laid, laid_none, laid_length, laid_values}
+use Rattle.tables.proofs.Laid.{laid_none, laid_length, laid_values}
 use Rattle.tables.proofs.lay_values.Goals as goal
 
 pub loop-i-init : goal.loop-i-init

@@ -1,14 +1,10 @@
 -- After i turns the words of the first i values are laid.
 use Prim.Native.Nat.{◌*◌, ◌-◌, ◌≤◌}
-use mathlib.Core.Path.{◌≡◌}
-use native.Mathlib.Omega.{arith}
-use borrow.Author.Rules.{rules}
-use lib.ListN.{length, take}
-use lib.Seq.{take_all}
+use lib.ListN.{take}
 use Rattle.kinds.specs.Sizes as sizes
 use Rattle.rules.specs.Value.{value_words}
 use Rattle.lent.specs.Rows.{flat}
-use Rattle.tables.proofs.Laid.{Laid, laid_none, laid_length, laid_values}
+use Rattle.tables.proofs.Laid.{Laid}
 use Rattle.tables.proofs.lay_values.Given as goal
 
 abbrev pub invariant-loop-i : goal.invariant-loop-i

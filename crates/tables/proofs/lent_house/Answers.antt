@@ -1,6 +1,5 @@
 -- The house, or none.
 use mathlib.Core.Path.{sym, ◌∙◌}
-use borrow.Author.Rules.{rules}
 use Rattle.lent.specs.Lent.{lent_house}
 use Rattle.tables.proofs.lent_house.Goals as goal
 

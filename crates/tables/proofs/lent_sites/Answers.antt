@@ -1,6 +1,5 @@
 -- The number of sites, or 0.
 use mathlib.Core.Path.{sym, ◌∙◌}
-use borrow.Author.Rules.{rules}
 use Rattle.lent.specs.Lent.{lent_sites}
 use Rattle.tables.proofs.lent_sites.Goals as goal
 

@@ -1,5 +1,4 @@
 -- The part of a place is read from its seat and the words of the place.
-use borrow.Author.Rules.{rules}
 use Rattle.lent.specs.Layout.{sub_from}
 use Rattle.lent.specs.Laws.{live_at}
 use Rattle.tables.proofs.part_at.Goals as goal

@@ -1,8 +1,7 @@
-use Prim.Native.Nat.{ℕ, ◌+◌, ◌-◌, ◌≤◌, ◌<◌}
+use Prim.Native.Nat.{◌<◌}
 use mathlib.Core.Path.{◌≡◌, refl, sym, ◌∙◌}
 use native.Mathlib.Omega.{arith}
-use borrow.Author.Rules.{rules}
-use lib.ListN.{get_or, length, length-set}
+use lib.ListN.{length-set}
 use lib.Seq.{get_or-set_same, get_or-set_other}
 use Rattle.laws.specs.Scan.{split_last}
 use Rattle.kinds.specs.Sizes as sizes
@@ -17,7 +16,7 @@ pub loop-i-preserved : goal.loop-i-preserved
 loop-i-preserved c =
     let a = c.args in
     let l = c.loop-i in
-    ( omega arith, ( simp length-set l.invariant.1.0, λ j h. split_last {i = j} {n = l.i} (omega arith) (λ (q : j ≡ l.i). rw q (get_or-set_same l.r l.i _ 0 (omega arith))) (λ (q : j < l.i). get_or-set_other l.r l.i j _ 0 (λ z. omega arith) ∙ l.invariant.1.1 j q), ), )
+    (omega arith, (simp length-set l.invariant.1.0, λ j h. split_last {i = j} {n = l.i} (omega arith) (λ (q : j ≡ l.i). rw q (get_or-set_same l.r l.i _ 0 (omega arith))) (λ (q : j < l.i). get_or-set_other l.r l.i j _ 0 (λ z. omega arith) ∙ l.invariant.1.1 j q)))
 
 pub returns : goal.returns
 unfolding words_from

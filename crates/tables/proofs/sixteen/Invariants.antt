@@ -1,14 +1,8 @@
 -- The first i words of the array are those from `at` on.
 use Prim.Native.Nat.{ℕ, ◌+◌, ◌-◌, ◌≤◌, ◌<◌}
-use mathlib.Core.Path.{◌≡◌, refl, sym, ◌∙◌}
-use native.Mathlib.Omega.{arith}
-use borrow.Author.Rules.{rules}
-use lib.ListN.{get_or, length, length-set}
-use lib.Seq.{get_or-set_same, get_or-set_other}
-use Rattle.laws.specs.Scan.{split_last}
+use mathlib.Core.Path.{◌≡◌}
+use lib.ListN.{get_or, length}
 use Rattle.kinds.specs.Sizes as sizes
-use Rattle.lent.specs.Rows.{rows_same, rows_read}
-use Rattle.lent.specs.Layout.{words_from}
 use Rattle.tables.proofs.sixteen.Given as goal
 
 abbrev pub invariant-loop-i : goal.invariant-loop-i

@@ -1,13 +1,11 @@
-use Prim.Native.Nat.{ℕ, ◌+◌, ◌*◌, ◌-◌, ◌≤◌, ◌<◌}
+use Prim.Native.Nat.{◌<◌}
 use mathlib.Core.Path.{◌≡◌, refl, sym, ◌∙◌}
 use native.Mathlib.Omega.{arith}
-use borrow.Author.Rules.{rules}
-use lib.ListN.{get_or, length, length-set}
+use lib.ListN.{length-set}
 use lib.Seq.{get_or-set_same, get_or-set_other}
 use Rattle.laws.specs.Scan.{split_last}
 use Rattle.kinds.specs.Sizes as sizes
 use Rattle.kinds.specs.State.{fresh}
-use Rattle.rules.specs.Value.{value_at}
 use Rattle.lent.specs.Rows.{rows_same, rows_read}
 use Rattle.lent.specs.Layout.{values_from}
 use Rattle.tables.proofs.sixteen_values.Goals as goal
@@ -18,7 +16,7 @@ loop-i-init c = (omega arith, (refl, λ j h. absurd (omega arith)))
 pub loop-i-preserved : goal.loop-i-preserved
 loop-i-preserved c =
     let l = c.loop-i in
-    ( omega arith, ( simp length-set l.invariant.1.0, λ j h. split_last {i = j} {n = l.i} (omega arith) (λ (q : j ≡ l.i). rw q (get_or-set_same l.r l.i _ fresh (omega arith) ∙ c.value_at-v.ensures)) (λ (q : j < l.i). get_or-set_other l.r l.i j _ fresh (λ z. omega arith) ∙ l.invariant.1.1 j q), ), )
+    (omega arith, (simp length-set l.invariant.1.0, λ j h. split_last {i = j} {n = l.i} (omega arith) (λ (q : j ≡ l.i). rw q (get_or-set_same l.r l.i _ fresh (omega arith) ∙ c.value_at-v.ensures)) (λ (q : j < l.i). get_or-set_other l.r l.i j _ fresh (λ z. omega arith) ∙ l.invariant.1.1 j q)))
 
 pub returns : goal.returns
 unfolding values_from

@@ -1,16 +1,10 @@
 -- The first i values of the array are those from `at` on.
 use Prim.Native.Nat.{ℕ, ◌+◌, ◌*◌, ◌-◌, ◌≤◌, ◌<◌}
-use mathlib.Core.Path.{◌≡◌, refl, sym, ◌∙◌}
-use native.Mathlib.Omega.{arith}
-use borrow.Author.Rules.{rules}
-use lib.ListN.{get_or, length, length-set}
-use lib.Seq.{get_or-set_same, get_or-set_other}
-use Rattle.laws.specs.Scan.{split_last}
+use mathlib.Core.Path.{◌≡◌}
+use lib.ListN.{get_or, length}
 use Rattle.kinds.specs.Sizes as sizes
 use Rattle.kinds.specs.State.{fresh}
 use Rattle.rules.specs.Value.{value_at}
-use Rattle.lent.specs.Rows.{rows_same, rows_read}
-use Rattle.lent.specs.Layout.{values_from}
 use Rattle.tables.proofs.sixteen_values.Given as goal
 
 abbrev pub invariant-loop-i : goal.invariant-loop-i

@@ -1,7 +1,6 @@
 -- Start plus length passes the last number where the length passes what is left of it behind the start.
 use Prim.Native.Nat.{◌+◌}
 use native.Mathlib.Omega.{arith}
-use borrow.Author.Rules.{rules}
 use borrow.Author.Tests.{lt-leb, le-leb}
 use Rattle.kinds.specs.Sizes as sizes
 use Rattle.rules.specs.Value.{fits}

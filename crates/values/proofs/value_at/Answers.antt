@@ -1,6 +1,5 @@
 -- The value's words are read where they stand.
 use mathlib.Core.Path.{refl}
-use borrow.Author.Rules.{rules}
 use Rattle.rules.specs.Value.{value_at}
 use Rattle.values.proofs.value_at.Goals as goal
 

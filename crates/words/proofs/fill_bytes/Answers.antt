@@ -1,10 +1,9 @@
 use borrow.Author.Fill.{fill_none, fill_more}
 use borrow.Author.Rules.{rules}
-use lib.ListN.{length, drop, replicate, length-set, drop_of_length-le}
-use mathlib.Core.List.{[], ◌++◌, append-nil}
+use lib.ListN.{length, drop, length-set, drop_of_length-le}
+use mathlib.Core.List.{[], append-nil}
 use mathlib.Core.Path.{◌≡◌, refl}
 use native.Mathlib.Omega.{arith}
-use Prim.Native.Nat.{◌-◌, ◌≤◌}
 use Rattle.words.proofs.fill_bytes.Goals as goal
 
 pub loop-i-init : goal.loop-i-init
@@ -13,7 +12,7 @@ loop-i-init c = (search rules, (refl, fill_none _ 0))
 pub loop-i-preserved : goal.loop-i-preserved
 loop-i-preserved c =
     let l = c.loop-i in
-    ( search rules, (simp length-set l.invariant.1.0, rw l.invariant.1.1 (fill_more l.i 0 c.args.b.now (omega arith))), )
+    (search rules, (simp length-set l.invariant.1.0, rw l.invariant.1.1 (fill_more l.i 0 c.args.b.now (omega arith))))
 
 pub returns : goal.returns
 returns c =

@@ -1,12 +1,11 @@
 use borrow.Author.Rules.{rules}
-use lib.ListN.{length, take, length-set}
+use lib.ListN.{take, length-set}
 use lib.Seq.{take_all}
 use mathlib.Core.Path.{◌≡◌, refl}
 use native.Mathlib.Omega.{arith}
-use Prim.Native.Nat.{◌-◌, ◌/◌, ◌≤◌}
 use Rattle.laws.specs.ByteLaws.{length_words}
 use Rattle.laws.specs.Bytes.{words_of}
-use Rattle.laws.specs.Overlay.{overlay, overlay_none, overlay_copied}
+use Rattle.laws.specs.Overlay.{overlay_none, overlay_copied}
 use Rattle.words.proofs.read_words.Goals as goal
 
 pub loop-i-init : goal.loop-i-init

@@ -1,13 +1,9 @@
 -- After i words the slice is the first i words of the bytes laid over it.
-use borrow.Author.Rules.{rules}
-use lib.ListN.{length, take, length-set}
-use lib.Seq.{take_all}
-use mathlib.Core.Path.{◌≡◌, refl}
-use native.Mathlib.Omega.{arith}
+use lib.ListN.{length, take}
+use mathlib.Core.Path.{◌≡◌}
 use Prim.Native.Nat.{◌-◌, ◌/◌, ◌≤◌}
-use Rattle.laws.specs.ByteLaws.{length_words}
 use Rattle.laws.specs.Bytes.{words_of}
-use Rattle.laws.specs.Overlay.{overlay, overlay_none, overlay_copied}
+use Rattle.laws.specs.Overlay.{overlay}
 use Rattle.words.proofs.read_words.Given as goal
 
 abbrev pub invariant-loop-i : goal.invariant-loop-i

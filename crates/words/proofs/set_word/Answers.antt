@@ -1,5 +1,4 @@
 -- The word's bytes are laid where they stand; the rest stays.
-use borrow.Author.Rules.{rules}
 use lib.ListN.{length}
 use native.Mathlib.Omega.{arith}
 use Prim.Native.Nat.{◌*◌, ◌/◌}

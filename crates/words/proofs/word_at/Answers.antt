@@ -1,5 +1,4 @@
 -- The word is read from the eight bytes where it stands.
-use borrow.Author.Rules.{rules}
 use mathlib.Core.Path.{◌∙◌}
 use Rattle.laws.specs.ByteLaws.{word_at}
 use Rattle.laws.specs.Overlay.{rest_is}

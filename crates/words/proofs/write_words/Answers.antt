@@ -4,10 +4,10 @@ use lib.Seq.{take_all, length-take-le}
 use mathlib.Core.Path.{◌≡◌, refl, sym, ◌∙◌}
 use native.Mathlib.Numerals.{add-one}
 use native.Mathlib.Omega.{arith}
-use Prim.Native.Nat.{◌+◌, ◌-◌, ◌*◌, ◌≤◌}
+use Prim.Native.Nat.{◌+◌, ◌*◌, ◌≤◌}
 use Rattle.laws.specs.ByteLaws.{bytes_more, length_bytes}
 use Rattle.laws.specs.Bytes.{bytes_of, word_bytes}
-use Rattle.laws.specs.Overlay.{overlay, overlay_none, overlay_all, behind, length_rest}
+use Rattle.laws.specs.Overlay.{overlay_none, overlay_all, behind, length_rest}
 use Rattle.words.proofs.write_words.Goals as goal
 
 pub loop-i-init : goal.loop-i-init

@@ -1,14 +1,9 @@
 -- After i words the bytes of the first i are laid over the front.
-use borrow.Author.Rules.{rules}
-use lib.ListN.{length, take, get_or}
-use lib.Seq.{take_all, length-take-le}
-use mathlib.Core.Path.{◌≡◌, refl, sym, ◌∙◌}
-use native.Mathlib.Numerals.{add-one}
-use native.Mathlib.Omega.{arith}
-use Prim.Native.Nat.{◌+◌, ◌-◌, ◌*◌, ◌≤◌}
-use Rattle.laws.specs.ByteLaws.{bytes_more, length_bytes}
-use Rattle.laws.specs.Bytes.{bytes_of, word_bytes}
-use Rattle.laws.specs.Overlay.{overlay, overlay_none, overlay_all, behind, length_rest}
+use lib.ListN.{length, take}
+use mathlib.Core.Path.{◌≡◌}
+use Prim.Native.Nat.{◌-◌, ◌≤◌}
+use Rattle.laws.specs.Bytes.{bytes_of}
+use Rattle.laws.specs.Overlay.{overlay}
 use Rattle.words.proofs.write_words.Given as goal
 
 abbrev pub invariant-loop-i : goal.invariant-loop-i

@@ -1,5 +1,5 @@
-use Rattle.std.proofs.Common.{◌≡◌, ◌+◌, ◌-◌, ◌≤◌, eqb, get_or, arith, rules, below_more, eq-eqb, ne_eqb}
-use Rattle.laws.specs.Scan.{NoneBelow, none_none, first_below_lem, first_end}
+use Rattle.std.proofs.Common.{◌≡◌, ◌+◌, get_or, arith, rules, below_more, eq-eqb, ne_eqb}
+use Rattle.laws.specs.Scan.{none_none, first_below_lem, first_end}
 use Rattle.kinds.specs.Sizes as sizes
 use Rattle.rules.specs.Keys.{key_place}
 use Rattle.lent.specs.Layout.{words_from}

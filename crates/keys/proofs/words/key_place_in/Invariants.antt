@@ -1,10 +1,8 @@
 -- The words passed are not `k`, and the first that is ends the loop.
-use Rattle.std.proofs.Common.{◌≡◌, ◌+◌, ◌-◌, ◌≤◌, eqb, get_or, arith, rules, below_more, eq-eqb, ne_eqb}
-use Rattle.laws.specs.Scan.{NoneBelow, none_none, first_below_lem, first_end}
+use Rattle.std.proofs.Common.{◌-◌, ◌≤◌, eqb, get_or}
+use Rattle.laws.specs.Scan.{NoneBelow}
 use Rattle.kinds.specs.Sizes as sizes
-use Rattle.rules.specs.Keys.{key_place}
 use Rattle.lent.specs.Layout.{words_from}
-use Rattle.lent.specs.Read.{words_at}
 use Rattle.keys.proofs.words.key_place_in.Given as goal
 
 abbrev pub invariant-loop-i : goal.invariant-loop-i

@@ -1,7 +1,6 @@
-use Rattle.std.proofs.Common.{◌≡◌, ℕ, ◌+◌, ◌-◌, ◌≤◌, get_or, ◌∙◌, arith, rules, below_more}
-use Rattle.laws.specs.Scan.{EachBelow, each_none, not_all_below, all_end}
+use Rattle.std.proofs.Common.{◌≡◌, ℕ, ◌+◌, get_or, ◌∙◌, arith, rules, below_more}
+use Rattle.laws.specs.Scan.{each_none, not_all_below, all_end}
 use Rattle.kinds.specs.Sizes as sizes
-use Rattle.rules.specs.House.{within}
 use Rattle.lent.specs.Layout.{words_from}
 use Rattle.lent.specs.Read.{words_at}
 use Rattle.keys.specs.Range.{keys_within, inside, outside}

@@ -1,6 +1,5 @@
-use Rattle.std.proofs.Common.{◌≡◌, ◌-◌, ◌≤◌, get_or, sym, ap, ◌∙◌, arith, rules, below_more}
-use borrow.Author.Tests.{not-true, not-false}
-use Rattle.laws.specs.Scan.{EachBelow, each_none, not_all_below, all_end}
+use Rattle.std.proofs.Common.{◌≡◌, get_or, sym, ap, ◌∙◌, arith, rules, below_more}
+use Rattle.laws.specs.Scan.{each_none, not_all_below, all_end}
 use Rattle.kinds.specs.Sizes as sizes
 use Rattle.kinds.specs.State.{fresh}
 use Rattle.rules.specs.Value.{fits, values_fit}

@@ -1,12 +1,10 @@
 -- The values passed fit, and one that does not ends the loop.
-use Rattle.std.proofs.Common.{◌≡◌, ◌-◌, ◌≤◌, get_or, sym, ap, ◌∙◌, arith, rules, below_more}
-use borrow.Author.Tests.{not-true, not-false}
-use Rattle.laws.specs.Scan.{EachBelow, each_none, not_all_below, all_end}
+use Rattle.std.proofs.Common.{◌-◌, ◌≤◌, get_or}
+use Rattle.laws.specs.Scan.{EachBelow}
 use Rattle.kinds.specs.Sizes as sizes
 use Rattle.kinds.specs.State.{fresh}
-use Rattle.rules.specs.Value.{fits, values_fit}
+use Rattle.rules.specs.Value.{fits}
 use Rattle.lent.specs.Layout.{values_from}
-use Rattle.lent.specs.Values.{values_at}
 use Rattle.keys.proofs.words.values_fit_in.Given as goal
 
 abbrev pub invariant-loop-i : goal.invariant-loop-i

@@ -1,10 +1,7 @@
-use Prim.Native.Nat.{◌-◌, ◌≤◌}
 use mathlib.Core.Path.{sym, ◌∙◌}
 use borrow.Author.Count.{below_more}
 use borrow.Author.Rules.{rules}
-use borrow.Author.Tests.{not-true, not-false}
-use Rattle.laws.specs.Scan.{EachBelow, each_none, not_all_below, all_end}
-use Rattle.rules.specs.Message.{entry_ok}
+use Rattle.laws.specs.Scan.{each_none, not_all_below, all_end}
 use Rattle.messages.proofs.entries.entries_ok.Goals as goal
 
 pub loop-i-init : goal.loop-i-init
@@ -14,7 +11,7 @@ pub returns-then-not-entry_ok : goal.returns-then-not-entry_ok
 returns-then-not-entry_ok c = not_all_below _ _ _ c.loop-i-test.true (sym c.entry_ok.ensures ∙ c.if-not-entry_ok.true)
 
 pub loop-i-preserved : goal.loop-i-preserved
-loop-i-preserved c = ( search rules, below_more _ _ c.loop-i.invariant.1 (sym c.entry_ok.ensures ∙ c.if-not-entry_ok.false), )
+loop-i-preserved c = (search rules, below_more _ _ c.loop-i.invariant.1 (sym c.entry_ok.ensures ∙ c.if-not-entry_ok.false))
 
 pub returns : goal.returns
 returns c = all_end _ _ _ c.loop-i-test.false c.loop-i.invariant.1

@@ -1,10 +1,6 @@
 -- The entries passed are possible, and one that is not ends the loop.
 use Prim.Native.Nat.{◌-◌, ◌≤◌}
-use mathlib.Core.Path.{sym, ◌∙◌}
-use borrow.Author.Count.{below_more}
-use borrow.Author.Rules.{rules}
-use borrow.Author.Tests.{not-true, not-false}
-use Rattle.laws.specs.Scan.{EachBelow, each_none, not_all_below, all_end}
+use Rattle.laws.specs.Scan.{EachBelow}
 use Rattle.rules.specs.Message.{entry_possible}
 use Rattle.messages.proofs.entries.entries_possible.Given as goal
 

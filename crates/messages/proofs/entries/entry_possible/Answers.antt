@@ -2,7 +2,7 @@
 use mathlib.Core.Bool.{true}
 use mathlib.Core.Path.{◌≡◌, sym, ◌∙◌}
 use borrow.Author.Rules.{rules}
-use borrow.Author.Tests.{le-leb, not-true, not-false}
+use borrow.Author.Tests.{le-leb}
 use Rattle.laws.specs.Choice.{pick_self}
 use Rattle.rules.specs.House.{is_tx}
 use Rattle.rules.specs.Message.{entry_tx, entry_possible}
@@ -16,10 +16,10 @@ pub returns-then-not-is_mask : goal.returns-then-not-is_mask
 unfolding entry_possible
 returns-then-not-is_mask c =
     let tx_is : (is_tx c.args.o (entry_tx c.args.es.now c.args.i) ≡ true) = sym c.is_tx.ensures ∙ c.if-not-is_tx.false in
-    search ( ← c.is_mask.ensures, c.if-not-is_mask.true, tx_is, rules, )
+    search (← c.is_mask.ensures, c.if-not-is_mask.true, tx_is, rules)
 
 pub returns : goal.returns
 unfolding entry_possible
 returns c =
     let tx_is : (is_tx c.args.o (entry_tx c.args.es.now c.args.i) ≡ true) = sym c.is_tx.ensures ∙ c.if-not-is_tx.false in
-    search ( ← c.is_mask.ensures, c.if-not-is_mask.false, tx_is, pick_self, le-leb, rules, )
+    search (← c.is_mask.ensures, c.if-not-is_mask.false, tx_is, pick_self, le-leb, rules)

@@ -3,7 +3,7 @@ use mathlib.Core.Bool.{true}
 use mathlib.Core.Path.{◌≡◌, sym, ◌∙◌}
 use native.Mathlib.Omega.{arith}
 use borrow.Author.Rules.{rules}
-use borrow.Author.Tests.{le-leb, not-true, not-false}
+use borrow.Author.Tests.{le-leb}
 use lib.Dec.{eqb}
 use Rattle.laws.specs.Choice.{pick, pick_self}
 use Rattle.rules.specs.Message.{ends_ok, carries_clock, head_ok}
@@ -34,11 +34,11 @@ unfolding head_ok
 returns-then-not-argument_ok c =
     let ends-are : ends_ok c.args.o c.args.h ≡ true = sym c.ends_ok.ensures ∙ c.if-not-ends_ok.false in
     let clock_is : pick (carries_clock c.args.h.kind) true (eqb c.args.h.clock 0) ≡ true = sym c.clock_ok.ensures ∙ c.if-not-clock_ok.false in
-    search ( ← c.argument_ok.ensures, c.if-not-argument_ok.true, clock_is, ends-are, rules, )
+    search (← c.argument_ok.ensures, c.if-not-argument_ok.true, clock_is, ends-are, rules)
 
 pub returns : goal.returns
 unfolding head_ok
 returns c =
     let ends-are : ends_ok c.args.o c.args.h ≡ true = sym c.ends_ok.ensures ∙ c.if-not-ends_ok.false in
     let clock_is : pick (carries_clock c.args.h.kind) true (eqb c.args.h.clock 0) ≡ true = sym c.clock_ok.ensures ∙ c.if-not-clock_ok.false in
-    search ( ← c.most_entries-most.ensures, ← c.argument_ok.ensures, c.if-not-argument_ok.false, clock_is, ends-are, pick_self, le-leb, rules, )
+    search (← c.most_entries-most.ensures, ← c.argument_ok.ensures, c.if-not-argument_ok.false, clock_is, ends-are, pick_self, le-leb, rules)

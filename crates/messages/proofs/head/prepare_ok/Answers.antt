@@ -2,7 +2,6 @@
 use mathlib.Core.Bool.{true}
 use mathlib.Core.Path.{◌≡◌, sym, ◌∙◌}
 use borrow.Author.Rules.{rules}
-use borrow.Author.Tests.{not-true, not-false}
 use Rattle.laws.specs.Choice.{pick_self}
 use Rattle.rules.specs.House.{is_mask}
 use Rattle.messages.proofs.head.prepare_ok.Goals as goal
@@ -18,4 +17,4 @@ returns-then-not-in_mask c =
 pub returns : goal.returns
 returns c =
     let mask_is : is_mask c.args.o c.args.mask ≡ true = sym c.is_mask.ensures ∙ c.if-not-is_mask.false in
-    search ( ← c.in_mask.ensures, c.if-not-in_mask.false, mask_is, pick_self, rules, )
+    search (← c.in_mask.ensures, c.if-not-in_mask.false, mask_is, pick_self, rules)

@@ -2,7 +2,6 @@
 use mathlib.Core.Path.{◌≡◌, sym, ap, ◌∙◌}
 use native.Mathlib.Omega.{arith}
 use borrow.Author.Rules.{rules}
-use borrow.Author.Tests.{not-true, not-false}
 use lib.ListN.{get_or}
 use Rattle.laws.specs.Choice.{pick_self}
 use Rattle.laws.specs.Overlay.{length_rest, rest_is}
@@ -25,7 +24,7 @@ read_head-h-requires c =
 
 pub returns-then-not-head_ok : goal.returns-then-not-head_ok
 unfolding message_ok
-returns-then-not-head_ok c = simp ( ← c.shape_ok.ensures, c.if-not-shape_ok.false, ← c.read_head-h.ensures, ← c.head_ok.ensures, c.if-not-head_ok.true, )
+returns-then-not-head_ok c = simp (← c.shape_ok.ensures, c.if-not-shape_ok.false, ← c.read_head-h.ensures, ← c.head_ok.ensures, c.if-not-head_ok.true)
 
 pub slice_bounds-entries_ok-count : goal.slice_bounds-entries_ok-count
 slice_bounds-entries_ok-count c =
@@ -53,4 +52,4 @@ entries_ok-requires c =
 
 pub returns : goal.returns
 unfolding message_ok message_entries
-returns c = simp ( ← c.shape_ok.ensures, c.if-not-shape_ok.false, ← c.read_head-h.ensures, ← c.head_ok.ensures, c.if-not-head_ok.false, pick_self, ) (c.entries_ok.ensures ∙ rw rest_is)
+returns c = simp (← c.shape_ok.ensures, c.if-not-shape_ok.false, ← c.read_head-h.ensures, ← c.head_ok.ensures, c.if-not-head_ok.false, pick_self) (c.entries_ok.ensures ∙ rw rest_is)

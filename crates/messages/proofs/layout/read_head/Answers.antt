@@ -1,6 +1,5 @@
 -- Each field is read at the position that the layout gives it.
 use mathlib.Core.Path.{refl}
-use borrow.Author.Rules.{rules}
 use Rattle.rules.specs.Message.{message_head}
 use Rattle.messages.proofs.layout.read_head.Goals as goal
 

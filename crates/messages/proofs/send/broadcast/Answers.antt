@@ -1,10 +1,10 @@
-use Prim.Native.Nat.{◌+◌, ◌-◌, ◌≤◌}
+use Prim.Native.Nat.{◌+◌, ◌≤◌}
 use mathlib.Core.List.{◌++◌}
 use mathlib.Core.Path.{◌≡◌, refl, ap, ◌∙◌}
 use native.Mathlib.Omega.{arith}
 use borrow.Author.Rules.{rules}
 use lib.ListN.{length, length-append}
-use Rattle.laws.specs.Overlay.{overlay, overlay_none, length_overlay, length_rest, behind}
+use Rattle.laws.specs.Overlay.{overlay_none, length_overlay, length_rest, behind}
 use Rattle.kinds.specs.Sizes as sizes
 use Rattle.rules.specs.Send.{words_to, messages_to}
 use Rattle.rules.specs.SendLaws.{messages_none, messages_more, messages_fit}
@@ -18,34 +18,34 @@ loop-i-init c =
 
 pub offset_bounds-out-at : goal.offset_bounds-out-at
 offset_bounds-out-at c =
-    let room : c.loop-i.at + length (words_to c.args.h c.args.sent c.args.mask c.args.es.now c.loop-i.i) ≤ sizes.outgoing = let a = c.args in let p = c.requires in omega ( arith, messages_fit a.h a.sent a.mask a.es.now p.es_len.0 p.es_len.1 c.loop-i.i p.outgoing_in_bounds.1.0 p.outgoing_in_bounds.1.1 c.loop-i-test.true, ) in
+    let room : c.loop-i.at + length (words_to c.args.h c.args.sent c.args.mask c.args.es.now c.loop-i.i) ≤ sizes.outgoing = let a = c.args in let p = c.requires in omega (arith, messages_fit a.h a.sent a.mask a.es.now p.es_len.0 p.es_len.1 c.loop-i.i p.outgoing_in_bounds.1.0 p.outgoing_in_bounds.1.1 c.loop-i-test.true) in
     omega (arith, room)
 
 pub slice_bounds-write_to-count : goal.slice_bounds-write_to-count
 slice_bounds-write_to-count c =
-    let room : c.loop-i.at + length (words_to c.args.h c.args.sent c.args.mask c.args.es.now c.loop-i.i) ≤ sizes.outgoing = let a = c.args in let p = c.requires in omega ( arith, messages_fit a.h a.sent a.mask a.es.now p.es_len.0 p.es_len.1 c.loop-i.i p.outgoing_in_bounds.1.0 p.outgoing_in_bounds.1.1 c.loop-i-test.true, ) in
+    let room : c.loop-i.at + length (words_to c.args.h c.args.sent c.args.mask c.args.es.now c.loop-i.i) ≤ sizes.outgoing = let a = c.args in let p = c.requires in omega (arith, messages_fit a.h a.sent a.mask a.es.now p.es_len.0 p.es_len.1 c.loop-i.i p.outgoing_in_bounds.1.0 p.outgoing_in_bounds.1.1 c.loop-i-test.true) in
     omega (arith, room)
 
 pub slice_bounds-write_to-start : goal.slice_bounds-write_to-start
 slice_bounds-write_to-start c =
-    let room : c.loop-i.at + length (words_to c.args.h c.args.sent c.args.mask c.args.es.now c.loop-i.i) ≤ sizes.outgoing = let a = c.args in let p = c.requires in omega ( arith, messages_fit a.h a.sent a.mask a.es.now p.es_len.0 p.es_len.1 c.loop-i.i p.outgoing_in_bounds.1.0 p.outgoing_in_bounds.1.1 c.loop-i-test.true, ) in
+    let room : c.loop-i.at + length (words_to c.args.h c.args.sent c.args.mask c.args.es.now c.loop-i.i) ≤ sizes.outgoing = let a = c.args in let p = c.requires in omega (arith, messages_fit a.h a.sent a.mask a.es.now p.es_len.0 p.es_len.1 c.loop-i.i p.outgoing_in_bounds.1.0 p.outgoing_in_bounds.1.1 c.loop-i-test.true) in
     omega (arith, room)
 
 pub write_to-at-requires : goal.write_to-at-requires
 write_to-at-requires c =
-    let room : c.loop-i.at + length (words_to c.args.h c.args.sent c.args.mask c.args.es.now c.loop-i.i) ≤ sizes.outgoing = let a = c.args in let p = c.requires in omega ( arith, messages_fit a.h a.sent a.mask a.es.now p.es_len.0 p.es_len.1 c.loop-i.i p.outgoing_in_bounds.1.0 p.outgoing_in_bounds.1.1 c.loop-i-test.true, ) in
+    let room : c.loop-i.at + length (words_to c.args.h c.args.sent c.args.mask c.args.es.now c.loop-i.i) ≤ sizes.outgoing = let a = c.args in let p = c.requires in omega (arith, messages_fit a.h a.sent a.mask a.es.now p.es_len.0 p.es_len.1 c.loop-i.i p.outgoing_in_bounds.1.0 p.outgoing_in_bounds.1.1 c.loop-i-test.true) in
     let l = c.loop-i in
     let p = c.requires in
     record { i_lt_sites = (search rules, omega (arith, length_rest l.out l.at, room)); counts_low = p.counts_low; es_len = p.es_len }
 
 pub overflow_add-at : goal.overflow_add-at
 overflow_add-at c =
-    let room : c.loop-i.at + length (words_to c.args.h c.args.sent c.args.mask c.args.es.now c.loop-i.i) ≤ sizes.outgoing = let a = c.args in let p = c.requires in omega ( arith, messages_fit a.h a.sent a.mask a.es.now p.es_len.0 p.es_len.1 c.loop-i.i p.outgoing_in_bounds.1.0 p.outgoing_in_bounds.1.1 c.loop-i-test.true, ) in
+    let room : c.loop-i.at + length (words_to c.args.h c.args.sent c.args.mask c.args.es.now c.loop-i.i) ≤ sizes.outgoing = let a = c.args in let p = c.requires in omega (arith, messages_fit a.h a.sent a.mask a.es.now p.es_len.0 p.es_len.1 c.loop-i.i p.outgoing_in_bounds.1.0 p.outgoing_in_bounds.1.1 c.loop-i-test.true) in
     omega (arith, room)
 
 pub loop-i-preserved : goal.loop-i-preserved
 loop-i-preserved c =
-    let room : c.loop-i.at + length (words_to c.args.h c.args.sent c.args.mask c.args.es.now c.loop-i.i) ≤ sizes.outgoing = let a = c.args in let p = c.requires in omega ( arith, messages_fit a.h a.sent a.mask a.es.now p.es_len.0 p.es_len.1 c.loop-i.i p.outgoing_in_bounds.1.0 p.outgoing_in_bounds.1.1 c.loop-i-test.true, ) in
+    let room : c.loop-i.at + length (words_to c.args.h c.args.sent c.args.mask c.args.es.now c.loop-i.i) ≤ sizes.outgoing = let a = c.args in let p = c.requires in omega (arith, messages_fit a.h a.sent a.mask a.es.now p.es_len.0 p.es_len.1 c.loop-i.i p.outgoing_in_bounds.1.0 p.outgoing_in_bounds.1.1 c.loop-i-test.true) in
     let a = c.args in
     let l = c.loop-i in
     let k = c.write_to-at in

@@ -1,14 +1,10 @@
 -- After i sites the words to them stand one behind another, and at most seven messages fit.
-use Prim.Native.Nat.{◌+◌, ◌-◌, ◌≤◌}
-use mathlib.Core.List.{◌++◌}
-use mathlib.Core.Path.{◌≡◌, refl, ap, ◌∙◌}
-use native.Mathlib.Omega.{arith}
-use borrow.Author.Rules.{rules}
-use lib.ListN.{length, length-append}
-use Rattle.laws.specs.Overlay.{overlay, overlay_none, length_overlay, length_rest, behind}
+use Prim.Native.Nat.{◌-◌, ◌≤◌}
+use mathlib.Core.Path.{◌≡◌}
+use lib.ListN.{length}
+use Rattle.laws.specs.Overlay.{overlay}
 use Rattle.kinds.specs.Sizes as sizes
-use Rattle.rules.specs.Send.{words_to, messages_to}
-use Rattle.rules.specs.SendLaws.{messages_none, messages_more, messages_fit}
+use Rattle.rules.specs.Send.{messages_to}
 use Rattle.messages.proofs.send.broadcast.Given as goal
 
 abbrev pub invariant-loop-i : goal.invariant-loop-i

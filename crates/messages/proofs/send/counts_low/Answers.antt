@@ -1,16 +1,8 @@
-use Prim.Native.Nat.{ℕ, ◌-◌, ◌≤◌}
-use mathlib.Core.Bool.{Bool, true}
-use mathlib.Core.List.{List}
 use mathlib.Core.Path.{sym, ◌∙◌}
 use borrow.Author.Count.{below_more}
 use borrow.Author.Rules.{rules}
-use borrow.Author.Tests.{not-true, not-false}
-use lib.Dec.{ltb}
-use lib.ListN.{get_or}
-use Rattle.laws.specs.Choice.{pick}
-use Rattle.laws.specs.Scan.{EachBelow, each_none, not_all_below, all_end}
-use Rattle.kinds.specs.Sizes as sizes
-use Rattle.rules.specs.Send.{is_recipient, counts_low}
+use Rattle.laws.specs.Scan.{each_none, not_all_below, all_end}
+use Rattle.rules.specs.Send.{counts_low}
 use Rattle.messages.proofs.send.counts_low.Invariants.{low}
 use Rattle.messages.proofs.send.counts_low.Goals as goal
 
@@ -24,7 +16,7 @@ returns-then-not-count_low c =
     not_all_below (low a.sent a.mask a.sender) _ _ c.loop-i-test.true (sym c.count_low.ensures ∙ c.if-not-count_low.true)
 
 pub loop-i-preserved : goal.loop-i-preserved
-loop-i-preserved c = ( search rules, below_more _ _ c.loop-i.invariant.1 (sym c.count_low.ensures ∙ c.if-not-count_low.false), )
+loop-i-preserved c = (search rules, below_more _ _ c.loop-i.invariant.1 (sym c.count_low.ensures ∙ c.if-not-count_low.false))
 
 pub returns : goal.returns
 unfolding counts_low

@@ -2,16 +2,12 @@
 use Prim.Native.Nat.{ℕ, ◌-◌, ◌≤◌}
 use mathlib.Core.Bool.{Bool, true}
 use mathlib.Core.List.{List}
-use mathlib.Core.Path.{sym, ◌∙◌}
-use borrow.Author.Count.{below_more}
-use borrow.Author.Rules.{rules}
-use borrow.Author.Tests.{not-true, not-false}
 use lib.Dec.{ltb}
 use lib.ListN.{get_or}
 use Rattle.laws.specs.Choice.{pick}
-use Rattle.laws.specs.Scan.{EachBelow, each_none, not_all_below, all_end}
+use Rattle.laws.specs.Scan.{EachBelow}
 use Rattle.kinds.specs.Sizes as sizes
-use Rattle.rules.specs.Send.{is_recipient, counts_low}
+use Rattle.rules.specs.Send.{is_recipient}
 use Rattle.messages.proofs.send.counts_low.Given as goal
 
 abbrev pub low : List ℕ → ℕ → ℕ → ℕ → Bool

@@ -1,9 +1,7 @@
-use Prim.Native.Nat.{◌-◌, ◌≤◌}
 use mathlib.Core.Path.{◌≡◌, sym, ◌∙◌}
 use native.Mathlib.Omega.{arith}
 use borrow.Author.Rules.{rules}
 use Rattle.kinds.specs.Sizes as sizes
-use Rattle.rules.specs.Send.{step_recipients}
 use Rattle.rules.specs.SendLaws.{steps_none, steps_more, steps_behind}
 use Rattle.messages.proofs.send.step_recipients.Goals as goal
 

@@ -1,11 +1,8 @@
 -- After i sites the counts are those of the rule at i; the next site's is still as it was sent.
 use Prim.Native.Nat.{◌-◌, ◌≤◌}
-use mathlib.Core.Path.{◌≡◌, sym, ◌∙◌}
-use native.Mathlib.Omega.{arith}
-use borrow.Author.Rules.{rules}
+use mathlib.Core.Path.{◌≡◌}
 use Rattle.kinds.specs.Sizes as sizes
 use Rattle.rules.specs.Send.{step_recipients}
-use Rattle.rules.specs.SendLaws.{steps_none, steps_more, steps_behind}
 use Rattle.messages.proofs.send.step_recipients.Given as goal
 
 abbrev pub invariant-loop-i : goal.invariant-loop-i

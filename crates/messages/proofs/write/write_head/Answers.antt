@@ -1,6 +1,5 @@
 -- Ten stores from word 0 on lay ten words over the slice.
 use native.Mathlib.Omega.{arith}
-use borrow.Author.Rules.{rules}
 use lib.ListN.{length-set}
 use Rattle.laws.specs.Overlay.{overlay_sets}
 use Rattle.rules.specs.Message.{head_words}

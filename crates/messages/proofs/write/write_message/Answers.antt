@@ -1,7 +1,6 @@
 -- The entries are laid directly behind the header.
 use mathlib.Core.Path.{refl}
 use native.Mathlib.Omega.{arith}
-use borrow.Author.Rules.{rules}
 use Rattle.laws.specs.Overlay.{behind}
 use Rattle.kinds.specs.Sizes as sizes
 use Rattle.rules.specs.Message.{head_words, message_words}
@@ -13,4 +12,4 @@ returns c =
     let a = c.args in
     let w = c.write_head in
     let k = c.copy_words in
-    ( omega arith, behind a.out.now (head_words a.h) a.es.now w.new.out k.new.out sizes.message_header refl (omega arith) w.ensures k.ensures, )
+    (omega arith, behind a.out.now (head_words a.h) a.es.now w.new.out k.new.out sizes.message_header refl (omega arith) w.ensures k.ensures)

@@ -1,6 +1,5 @@
 -- Nothing where the mask does not name the site, else the words behind the part's header.
 use borrow.Author.Rules.{rules}
-use borrow.Author.Tests.{not-false, not-true}
 use lib.ListN.{length, length-drop}
 use mathlib.Core.Path.{◌∙◌, ap, refl, sym}
 use native.Mathlib.Omega.{arith}
@@ -50,7 +49,7 @@ copy_words-requires c =
     let args = c.args in
     let p = part_fits _ _ _ pre.head_fits (sym in-mask.ensures ∙ if1.false) in
     let m = queued-part.result.now in
-    omega ( arith, ap length queued-part.ensures, length_rest m sizes.record_header, length-drop sizes.record_header m, length-drop sizes.record_header (queued_part args.queues.now args.i 0), )
+    omega (arith, ap length queued-part.ensures, length_rest m sizes.record_header, length-drop sizes.record_header m, length-drop sizes.record_header (queued_part args.queues.now args.i 0))
 
 pub returns : goal.returns
 unfolding part_writes record_writes

@@ -1,10 +1,10 @@
-use Prim.Native.Nat.{◌*◌, ◌+◌, ◌-◌, ◌≤◌}
+use Prim.Native.Nat.{◌*◌, ◌+◌, ◌≤◌}
 use borrow.Author.Rules.{rules}
 use lib.ListN.{length, length-append}
 use mathlib.Core.List.{◌++◌}
 use mathlib.Core.Path.{◌∙◌, ◌≡◌, ap, refl}
 use native.Mathlib.Omega.{arith}
-use Rattle.laws.specs.Overlay.{behind, length_overlay, length_rest, overlay, overlay_none}
+use Rattle.laws.specs.Overlay.{behind, length_overlay, length_rest, overlay_none}
 use Rattle.laws.specs.Scan.{fold_below}
 use Rattle.rules.specs.Merger.{joined_writes, part_writes}
 use Rattle.rules.specs.MergerWords.{head_fits, heads_fewer, joined_more, joined_writes_lem, part_writes_lem}
@@ -60,7 +60,7 @@ loop-i-preserved c =
     let p = part_writes_lem a.queues.now a.mask l.i (head_fits _ _ _ _ pre.heads_fit loop-test.true) in
     let r = room in
     let e = behind a.out.now ws w l.out Copy-Writes.new.out l.at l.invariant.1.1.0 (omega arith) l.invariant.1.1.1 Copy-Writes.ensures.out_after in
-    ( omega arith, ( ap length e ∙ length_overlay a.out.now (ws ++ w) (omega (arith, length-append ws w)), (rw m (omega (arith, length-append ws w)), rw m e), ), )
+    (omega arith, (ap length e ∙ length_overlay a.out.now (ws ++ w) (omega (arith, length-append ws w)), (rw m (omega (arith, length-append ws w)), rw m e)))
 
 pub shape_of-out : goal.shape_of-out
 shape_of-out c = c.loop-i.invariant.1.0

@@ -1,15 +1,9 @@
 -- After i sites their writes stand behind one another, at most 32 words each.
-use Prim.Native.Nat.{◌*◌, ◌+◌, ◌-◌, ◌≤◌}
-use borrow.Author.Rules.{rules}
-use lib.ListN.{length, length-append}
-use mathlib.Core.List.{◌++◌}
-use mathlib.Core.Path.{◌∙◌, ◌≡◌, ap, refl}
-use native.Mathlib.Omega.{arith}
-use Rattle.laws.specs.Overlay.{behind, length_overlay, length_rest, overlay, overlay_none}
-use Rattle.laws.specs.Scan.{fold_below}
-use Rattle.rules.specs.Merger.{joined_writes, part_writes}
-use Rattle.rules.specs.MergerWords.{head_fits, heads_fewer, joined_more, joined_writes_lem, part_writes_lem}
-use Rattle.kinds.specs.Sizes as sizes
+use Prim.Native.Nat.{◌-◌, ◌≤◌}
+use lib.ListN.{length}
+use mathlib.Core.Path.{◌≡◌}
+use Rattle.laws.specs.Overlay.{overlay}
+use Rattle.rules.specs.Merger.{joined_writes}
 use Rattle.queues.proofs.joined.join_writes.Given as goal
 
 abbrev pub invariant-loop-i : goal.invariant-loop-i

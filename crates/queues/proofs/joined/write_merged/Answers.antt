@@ -1,5 +1,4 @@
 -- The joined words are read back from the array and written behind the header.
-use borrow.Author.Rules.{rules}
 use lib.Seq.{length-take-le}
 use mathlib.Core.Path.{sym}
 use native.Mathlib.Omega.{arith}

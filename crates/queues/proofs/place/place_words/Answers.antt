@@ -1,6 +1,5 @@
 -- The slice from the place's first word to the next place's is the place's words.
 use Prim.Native.Nat.{◌+◌, ◌-◌}
-use borrow.Author.Rules.{rules}
 use lib.ListN.{drop, length-drop}
 use lib.Seq.{length-take-le}
 use mathlib.Core.Path.{◌≡◌}

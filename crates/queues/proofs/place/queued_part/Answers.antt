@@ -1,6 +1,5 @@
 -- The length is the place's first word, and is at most the place's.
 use Prim.Native.Nat.{◌≤◌}
-use borrow.Author.Rules.{rules}
 use lib.ListN.{get_or}
 use lib.Seq.{length-take-le}
 use mathlib.Core.Path.{sym}

@@ -1,5 +1,4 @@
 -- The header is read from the words of the first place.
-use borrow.Author.Rules.{rules}
 use mathlib.Core.Path.{◌∙◌, ap}
 use Rattle.rules.specs.Merger.{head_at}
 use Rattle.rules.specs.Record.{record_head}

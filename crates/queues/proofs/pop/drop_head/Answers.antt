@@ -1,6 +1,5 @@
 -- The places moved up, and 0 over the last.
 use Prim.Native.Nat.{◌≤◌}
-use borrow.Author.Rules.{rules}
 use lib.ListN.{drop, length, length-drop}
 use mathlib.Core.Path.{ap}
 use native.Mathlib.Omega.{arith}

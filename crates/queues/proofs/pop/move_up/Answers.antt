@@ -1,10 +1,9 @@
-use Prim.Native.Nat.{◌-◌, ◌≤◌}
 use borrow.Author.Rules.{rules}
-use lib.ListN.{drop, length, length-drop, length-set, take}
+use lib.ListN.{drop, length-drop, length-set}
 use lib.Seq.{take_all}
-use mathlib.Core.Path.{◌≡◌, refl}
+use mathlib.Core.Path.{refl}
 use native.Mathlib.Omega.{arith}
-use Rattle.laws.specs.Overlay.{overlay, overlay_none}
+use Rattle.laws.specs.Overlay.{overlay_none}
 use Rattle.rules.specs.MergerWords.{moved_more}
 use Rattle.kinds.specs.Sizes as sizes
 use Rattle.queues.proofs.pop.move_up.Goals as goal

@@ -1,12 +1,8 @@
 -- After k words the slice is the first k words behind the head, laid over it.
 use Prim.Native.Nat.{◌-◌, ◌≤◌}
-use borrow.Author.Rules.{rules}
-use lib.ListN.{drop, length, length-drop, length-set, take}
-use lib.Seq.{take_all}
-use mathlib.Core.Path.{◌≡◌, refl}
-use native.Mathlib.Omega.{arith}
-use Rattle.laws.specs.Overlay.{overlay, overlay_none}
-use Rattle.rules.specs.MergerWords.{moved_more}
+use lib.ListN.{drop, length, take}
+use mathlib.Core.Path.{◌≡◌}
+use Rattle.laws.specs.Overlay.{overlay}
 use Rattle.kinds.specs.Sizes as sizes
 use Rattle.queues.proofs.pop.move_up.Given as goal
 

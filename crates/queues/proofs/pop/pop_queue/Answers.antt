@@ -1,7 +1,5 @@
 -- The lent words of one site, where the mask names it.
 use Prim.Native.Nat.{◌*◌, ◌+◌, ◌-◌}
-use borrow.Author.Rules.{rules}
-use borrow.Author.Tests.{not-false, not-true}
 use mathlib.Core.Path.{◌∙◌, sym}
 use native.Mathlib.Omega.{arith}
 use Rattle.rules.specs.Merger.{pop_queue_at}

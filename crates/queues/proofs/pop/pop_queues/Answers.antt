@@ -1,6 +1,4 @@
-use Prim.Native.Nat.{◌-◌, ◌≤◌}
 use borrow.Author.Rules.{rules}
-use lib.ListN.{length}
 use mathlib.Core.Path.{◌∙◌, ◌≡◌, ap, refl, sym}
 use native.Mathlib.Omega.{arith}
 use Rattle.laws.specs.Scan.{fold_below}
@@ -17,7 +15,7 @@ loop-i-preserved c =
     let pop-queue = c.pop_queue in
     let args = c.args in
     let l = c.loop-i in
-    ( search rules, ( search rules, pop-queue.ensures ∙ ap (pop_queue_at args.mask l.i) l.invariant.1.1 ∙ sym (pops_more args.queues.now args.mask l.i), ), )
+    (search rules, (search rules, pop-queue.ensures ∙ ap (pop_queue_at args.mask l.i) l.invariant.1.1 ∙ sym (pops_more args.queues.now args.mask l.i)))
 
 pub shape_of-queues : goal.shape_of-queues
 shape_of-queues c = c.loop-i.invariant.1.0

@@ -1,12 +1,8 @@
 -- After i sites those of the mask are without their heads.
 use Prim.Native.Nat.{◌-◌, ◌≤◌}
-use borrow.Author.Rules.{rules}
 use lib.ListN.{length}
-use mathlib.Core.Path.{◌∙◌, ◌≡◌, ap, refl, sym}
-use native.Mathlib.Omega.{arith}
-use Rattle.laws.specs.Scan.{fold_below}
-use Rattle.rules.specs.Merger.{pop_queue_at, pop_queues}
-use Rattle.rules.specs.MergerWords.{pops_more}
+use mathlib.Core.Path.{◌≡◌}
+use Rattle.rules.specs.Merger.{pop_queues}
 use Rattle.queues.proofs.pop.pop_queues.Given as goal
 
 abbrev pub invariant-loop-i : goal.invariant-loop-i

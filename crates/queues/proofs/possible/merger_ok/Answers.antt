@@ -1,6 +1,6 @@
 -- Length, house and sources, in the order of the definition.
 use borrow.Author.Rules.{rules}
-use borrow.Author.Tests.{eq-eqb, ne_eqb, not-false, not-true}
+use borrow.Author.Tests.{eq-eqb, ne_eqb}
 use mathlib.Core.Path.{◌∙◌, sym}
 use Rattle.laws.specs.Choice.{pick_self}
 use Rattle.rules.specs.Merger.{merger_ok}

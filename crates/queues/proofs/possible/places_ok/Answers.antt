@@ -1,10 +1,7 @@
-use Prim.Native.Nat.{◌-◌, ◌≤◌}
 use borrow.Author.Count.{below_more}
 use borrow.Author.Rules.{rules}
-use borrow.Author.Tests.{not-false, not-true}
 use mathlib.Core.Path.{◌∙◌, sym}
-use Rattle.laws.specs.Scan.{EachBelow, all_end, each_none, not_all_below}
-use Rattle.rules.specs.Merger.{queued_ok}
+use Rattle.laws.specs.Scan.{all_end, each_none, not_all_below}
 use Rattle.queues.proofs.possible.places_ok.Goals as goal
 
 pub loop-j-init : goal.loop-j-init

@@ -1,10 +1,6 @@
 -- The places passed are good, and one that is not ends the loop.
 use Prim.Native.Nat.{◌-◌, ◌≤◌}
-use borrow.Author.Count.{below_more}
-use borrow.Author.Rules.{rules}
-use borrow.Author.Tests.{not-false, not-true}
-use mathlib.Core.Path.{◌∙◌, sym}
-use Rattle.laws.specs.Scan.{EachBelow, all_end, each_none, not_all_below}
+use Rattle.laws.specs.Scan.{EachBelow}
 use Rattle.rules.specs.Merger.{queued_ok}
 use Rattle.queues.proofs.possible.places_ok.Given as goal
 

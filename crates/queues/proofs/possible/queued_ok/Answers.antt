@@ -1,6 +1,6 @@
 -- Each return is the test that failed, or the last; a part that passed has a header to read.
 use borrow.Author.Rules.{rules}
-use borrow.Author.Tests.{le-leb, lt-leb, not-false, not-true}
+use borrow.Author.Tests.{le-leb, lt-leb}
 use mathlib.Core.Path.{◌∙◌, sym}
 use native.Mathlib.Omega.{arith}
 use Rattle.laws.specs.Choice.{pick_self}
@@ -23,7 +23,7 @@ returns-then-not-part_ok c =
     let queued-part = c.queued_part-m in
     let if1 = c.if-place in
     let place_words_lem = c.place_words-place in
-    simp ( ← place_words_lem.ensures.1, le-leb _ _ if1.false, ← queued-part.ensures, ← part-ok.ensures, c.if-not-part_ok.true, )
+    simp (← place_words_lem.ensures.1, le-leb _ _ if1.false, ← queued-part.ensures, ← part-ok.ensures, c.if-not-part_ok.true)
 
 pub bounds-m-2 : goal.bounds-m-2
 bounds-m-2 c = omega (arith, part_long _ _ (sym c.part_ok.ensures ∙ c.if-not-part_ok.false))
@@ -36,4 +36,4 @@ returns c =
     let queued-part = c.queued_part-m in
     let if1 = c.if-place in
     let place_words_lem = c.place_words-place in
-    simp ( ← place_words_lem.ensures.1, le-leb _ _ if1.false, ← queued-part.ensures, ← part-ok.ensures, if2.false, pick_self, )
+    simp (← place_words_lem.ensures.1, le-leb _ _ if1.false, ← queued-part.ensures, ← part-ok.ensures, if2.false, pick_self)

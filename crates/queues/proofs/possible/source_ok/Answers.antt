@@ -1,5 +1,4 @@
 -- A count past the places fails; else the places below it decide.
-use borrow.Author.Rules.{rules}
 use borrow.Author.Tests.{le-leb, lt-leb}
 use Rattle.laws.specs.Choice.{pick_self}
 use Rattle.rules.specs.Merger.{source_ok}

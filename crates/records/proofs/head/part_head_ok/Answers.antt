@@ -3,7 +3,7 @@ use mathlib.Core.Bool.{true}
 use mathlib.Core.Path.{◌≡◌, sym, ◌∙◌}
 use native.Mathlib.Omega.{arith}
 use borrow.Author.Rules.{rules}
-use borrow.Author.Tests.{le-leb, eq-eqb, ne_eqb, not-true, not-false}
+use borrow.Author.Tests.{le-leb, eq-eqb, ne_eqb}
 use Rattle.laws.specs.Choice.{pick_self}
 use Rattle.rules.specs.House.{is_site}
 use Rattle.rules.specs.MessageLaws.{site_clear}
@@ -22,7 +22,7 @@ pub returns-then-not-pair_ok : goal.returns-then-not-pair_ok
 unfolding part_head_ok
 returns-then-not-pair_ok c =
     let site-is : is_site c.args.o c.args.r.site ≡ true = sym c.is_site.ensures ∙ c.if-not-is_site.false in
-    search ( ← c.pair_ok.ensures, c.if-not-pair_ok.true, site-is, eq-eqb, rules, )
+    search (← c.pair_ok.ensures, c.if-not-pair_ok.true, site-is, eq-eqb, rules)
 
 pub in_mask-requires : goal.in_mask-requires
 in_mask-requires c =
@@ -36,11 +36,11 @@ unfolding part_head_ok
 returns-then-not-in_mask c =
     let site-is : is_site c.args.o c.args.r.site ≡ true = sym c.is_site.ensures ∙ c.if-not-is_site.false in
     let pair_is : pair_ok c.args.o c.args.r ≡ true = sym c.pair_ok.ensures ∙ c.if-not-pair_ok.false in
-    search ( ← c.in_mask.ensures, c.if-not-in_mask.true, pair_is, site-is, eq-eqb, rules, )
+    search (← c.in_mask.ensures, c.if-not-in_mask.true, pair_is, site-is, eq-eqb, rules)
 
 pub returns : goal.returns
 unfolding part_head_ok
 returns c =
     let site-is : is_site c.args.o c.args.r.site ≡ true = sym c.is_site.ensures ∙ c.if-not-is_site.false in
     let pair_is : pair_ok c.args.o c.args.r ≡ true = sym c.pair_ok.ensures ∙ c.if-not-pair_ok.false in
-    search ( ← c.in_mask.ensures, c.if-not-in_mask.false, pair_is, site-is, pick_self, eq-eqb, le-leb, rules, )
+    search (← c.in_mask.ensures, c.if-not-in_mask.false, pair_is, site-is, pick_self, eq-eqb, le-leb, rules)

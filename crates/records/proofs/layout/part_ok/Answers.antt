@@ -1,8 +1,6 @@
 -- Each return is the test of the check that failed, or the last; the shape gives the bounds of the reads.
 use mathlib.Core.Path.{◌≡◌, sym, ap, ◌∙◌}
 use native.Mathlib.Omega.{arith}
-use borrow.Author.Rules.{rules}
-use borrow.Author.Tests.{not-true, not-false}
 use lib.ListN.{get_or}
 use Rattle.laws.specs.Choice.{pick_self}
 use Rattle.laws.specs.Overlay.{length_rest, rest_is}
@@ -30,7 +28,7 @@ part_head_ok-requires c = (house_passed _ c.requires).1
 
 pub returns-then-not-part_head_ok : goal.returns-then-not-part_head_ok
 unfolding part_ok
-returns-then-not-part_head_ok c = simp ( ← c.shape_ok.ensures, c.if-not-shape_ok.false, ← c.read_record-r.ensures, ← c.part_head_ok.ensures, c.if-not-part_head_ok.true, )
+returns-then-not-part_head_ok c = simp (← c.shape_ok.ensures, c.if-not-shape_ok.false, ← c.read_record-r.ensures, ← c.part_head_ok.ensures, c.if-not-part_head_ok.true)
 
 pub slice_bounds-part_writes_ok-count : goal.slice_bounds-part_writes_ok-count
 slice_bounds-part_writes_ok-count c =
@@ -58,4 +56,4 @@ part_writes_ok-requires c =
 
 pub returns : goal.returns
 unfolding part_ok record_writes
-returns c = simp ( ← c.shape_ok.ensures, c.if-not-shape_ok.false, ← c.read_record-r.ensures, ← c.part_head_ok.ensures, c.if-not-part_head_ok.false, pick_self, ) (c.part_writes_ok.ensures ∙ rw rest_is)
+returns c = simp (← c.shape_ok.ensures, c.if-not-shape_ok.false, ← c.read_record-r.ensures, ← c.part_head_ok.ensures, c.if-not-part_head_ok.false, pick_self) (c.part_writes_ok.ensures ∙ rw rest_is)

@@ -1,6 +1,5 @@
 -- Each field is read at the position that the layout gives it.
 use mathlib.Core.Path.{refl}
-use borrow.Author.Rules.{rules}
 use Rattle.rules.specs.Record.{record_head}
 use Rattle.records.proofs.layout.read_record.Goals as goal
 

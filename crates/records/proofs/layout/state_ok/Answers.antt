@@ -1,8 +1,6 @@
 -- Each return is the test of the check that failed, or the last.
 use mathlib.Core.Path.{sym, ◌∙◌}
 use native.Mathlib.Omega.{arith}
-use borrow.Author.Rules.{rules}
-use borrow.Author.Tests.{not-true, not-false}
 use Rattle.laws.specs.Choice.{pick_self}
 use Rattle.rules.specs.Record.{state_ok}
 use Rattle.rules.specs.RecordLaws.{shape_clear}
@@ -19,4 +17,4 @@ read_record-requires c =
 
 pub returns : goal.returns
 unfolding state_ok
-returns c = simp ( ← c.shape_ok.ensures, c.if-not-shape_ok.false, ← c.read_record.ensures, ← c.state_head_ok.ensures, pick_self, )
+returns c = simp (← c.shape_ok.ensures, c.if-not-shape_ok.false, ← c.read_record.ensures, ← c.state_head_ok.ensures, pick_self)

@@ -1,6 +1,5 @@
 -- Nine stores from word 0 on lay nine words over the slice.
 use native.Mathlib.Omega.{arith}
-use borrow.Author.Rules.{rules}
 use lib.ListN.{length-set}
 use Rattle.laws.specs.Overlay.{overlay_sets}
 use Rattle.rules.specs.Record.{record_head_words}

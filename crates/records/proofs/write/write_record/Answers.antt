@@ -1,7 +1,6 @@
 -- The writes are laid directly behind the header.
 use mathlib.Core.Path.{refl}
 use native.Mathlib.Omega.{arith}
-use borrow.Author.Rules.{rules}
 use Rattle.laws.specs.Overlay.{behind}
 use Rattle.kinds.specs.Sizes as sizes
 use Rattle.rules.specs.Record.{record_head_words, record_words}
@@ -13,4 +12,4 @@ returns c =
     let a = c.args in
     let w = c.write_head in
     let k = c.copy_words in
-    ( omega arith, behind a.out.now (record_head_words a.r) a.ws.now w.new.out k.new.out sizes.record_header refl (omega arith) w.ensures k.ensures, )
+    (omega arith, behind a.out.now (record_head_words a.r) a.ws.now w.new.out k.new.out sizes.record_header refl (omega arith) w.ensures k.ensures)

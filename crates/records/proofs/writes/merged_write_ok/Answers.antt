@@ -1,6 +1,6 @@
 -- Each return is the test that failed, or the last.
 use borrow.Author.Rules.{rules}
-use borrow.Author.Tests.{not-true, not-false, le-ltb, lt-ltb}
+use borrow.Author.Tests.{le-ltb, lt-ltb}
 use Rattle.laws.specs.Choice.{pick_self}
 use Rattle.rules.specs.Record.{merged_write_ok}
 use Rattle.records.proofs.writes.merged_write_ok.Goals as goal
@@ -19,4 +19,4 @@ pub returns : goal.returns
 unfolding merged_write_ok
 returns c =
     let ascends = c.key_ascends in
-    search ( ← ascends.ensures, c.if-not-key_ascends.false, lt-ltb _ _ c.if-key.false, ← c.write_fits.ensures, pick_self, rules, )
+    search (← ascends.ensures, c.if-not-key_ascends.false, lt-ltb _ _ c.if-key.false, ← c.write_fits.ensures, pick_self, rules)

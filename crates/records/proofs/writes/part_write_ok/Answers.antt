@@ -1,6 +1,6 @@
 -- Each return is the test that failed, or the last.
 use borrow.Author.Rules.{rules}
-use borrow.Author.Tests.{not-true, not-false, le-leb, lt-leb, le-ltb, lt-ltb}
+use borrow.Author.Tests.{le-leb, lt-leb, le-ltb, lt-ltb}
 use Rattle.laws.specs.Choice.{pick_self}
 use Rattle.records.proofs.writes.part_write_ok.Goals as goal
 
@@ -15,9 +15,9 @@ returns-then-key-first c =
 pub returns-then-end-key : goal.returns-then-end-key
 returns-then-end-key c =
     let ascends = c.key_ascends in
-    search ( ← ascends.ensures, c.if-not-key_ascends.false, le-leb _ _ c.if-key-first.false, le-ltb _ _ c.if-end-key.true, rules, )
+    search (← ascends.ensures, c.if-not-key_ascends.false, le-leb _ _ c.if-key-first.false, le-ltb _ _ c.if-end-key.true, rules)
 
 pub returns : goal.returns
 returns c =
     let ascends = c.key_ascends in
-    search ( ← ascends.ensures, c.if-not-key_ascends.false, le-leb _ _ c.if-key-first.false, lt-ltb _ _ c.if-end-key.false, ← c.write_fits.ensures, pick_self, rules, )
+    search (← ascends.ensures, c.if-not-key_ascends.false, le-leb _ _ c.if-key-first.false, lt-ltb _ _ c.if-end-key.false, ← c.write_fits.ensures, pick_self, rules)

@@ -1,18 +1,14 @@
-use Prim.Native.Nat.{ℕ, ◌-◌, ◌≤◌}
+use Prim.Native.Nat.{ℕ}
 use mathlib.Core.Path.{◌≡◌, sym, ◌∙◌}
-use mathlib.Core.Bool.{Bool}
-use mathlib.Core.List.{List, [], ◌∷◌}
+use mathlib.Core.List.{List}
 use borrow.Author.Count.{below_more}
 use borrow.Author.Rules.{rules}
 use native.Mathlib.Omega.{arith}
-use borrow.Author.Tests.{not-true, not-false}
-use Rattle.laws.specs.Scan.{EachBelow, each_none, not_all_below, all_end}
-use Rattle.laws.specs.Choice.{every}
+use Rattle.laws.specs.Scan.{each_none, not_all_below, all_end}
 use Rattle.kinds.specs.declared.House.{House}
-use Rattle.rules.specs.House.{first_key, end_key, within, in_range}
+use Rattle.rules.specs.House.{first_key, end_key, in_range}
 use Rattle.rules.specs.ValidLaws.{ValidHouse}
-use Rattle.rules.specs.Value.{fits}
-use Rattle.rules.specs.Record.{write_key, write_value, key_ascends, part_write_ok}
+use Rattle.rules.specs.Record.{write_key, part_write_ok}
 use Rattle.records.proofs.writes.part_writes_ok.Invariants.{writeIn}
 use Rattle.records.proofs.writes.part_writes_ok.Goals as goal
 
@@ -46,7 +42,7 @@ pub loop-i-preserved : goal.loop-i-preserved
 loop-i-preserved c =
     let loop = c.loop-i in
     let write = c.part_write_ok in
-    ( search rules, below_more _ _ loop.invariant.1 (sym write.ensures ∙ c.if-not-part_write_ok.false), )
+    (search rules, below_more _ _ loop.invariant.1 (sym write.ensures ∙ c.if-not-part_write_ok.false))
 
 pub returns : goal.returns
 returns c =

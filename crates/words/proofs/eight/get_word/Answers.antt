@@ -1,5 +1,4 @@
 -- Each step stays within 64 bits, since a byte is below 256; what is left is the definition.
-use borrow.Author.Rules.{rules}
 use mathlib.Core.Path.{refl}
 use native.Mathlib.Omega.{arith}
 use Rattle.laws.specs.Bytes.{word_from}

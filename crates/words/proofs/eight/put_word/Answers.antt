@@ -1,5 +1,4 @@
 -- Eight stores from the first byte on lay the bytes of the word over the front.
-use borrow.Author.Rules.{rules}
 use lib.ListN.{length-set}
 use native.Mathlib.Omega.{arith}
 use Rattle.laws.specs.Bytes.{word_bytes}
