@@ -1,5 +1,8 @@
 // Bookmarks by page (Q8.1 to Q8.7): the page and the rest of an offset, the way back, and a run of offsets. `size` is the page length in
 // bytes, and a rest is the bytes into a page. An offset is the start of a value alone.
+
+#![tactic(auto)]
+
 mod run;
 
 ghost use Rattle.std.specs.Prelude.{◌≡◌};

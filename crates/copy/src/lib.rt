@@ -1,4 +1,7 @@
 // A copy (G5 and G6) in lent words: its last pair, then the value of each key.
+
+#![tactic(auto)]
+
 mod writes;
 
 ghost use Rattle.std.specs.Prelude.{◌≡◌};

@@ -1,4 +1,7 @@
 // The merger (G1 to G4): queues each site's parts, and emits the due record.
+
+#![tactic(auto)]
+
 mod heads;
 
 ghost use Rattle.std.specs.Prelude.{◌≡◌, [], ◌≤◌, ◌<◌, length};

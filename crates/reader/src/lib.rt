@@ -1,5 +1,7 @@
-// A copy in the byte buffers of a C program (Q1.1 to Q1.7): the three calls that C makes. The record's bytes for them are written by
-// `record_bytes` (Q1.8).
+// A copy in the byte buffers of a C program (Q1.1 to Q1.7): the three calls, which crate reader_c exports to C. The record's bytes for
+// them are written by `record_bytes` (Q1.8).
+#![tactic(auto)]
+
 mod record;
 mod replay;
 
@@ -21,8 +23,7 @@ const COPY_BYTES: usize = BYTES * COPY;
 const ANSWER_BYTES: usize = BYTES * ANSWER;
 
 // A copy that has replayed nothing: 0 in every byte.
-#[unsafe(no_mangle)]
-pub extern "C" fn reader_start(copy: &mut [u8]) -> u64
+pub fn reader_start(copy: &mut [u8]) -> u64
     ensures value { result ≡ returned_of (said_of (reader_start_of copy.old).answer) }
     ensures copy_after { copy.new ≡ (reader_start_of copy.old).bytes }
 {
@@ -49,8 +50,7 @@ fn is_counted(m: &[u8]) -> bool
 }
 
 // Replays the merged record whose bytes are `m`. One with more words than any record has is refused before it is read.
-#[unsafe(no_mangle)]
-pub extern "C" fn reader_replay(copy: &mut [u8], m: &[u8]) -> u64
+pub fn reader_replay(copy: &mut [u8], m: &[u8]) -> u64
     ensures value { result ≡ returned_of (said_of (reader_replay_of copy.old m.now).answer) }
     ensures copy_after { copy.new ≡ (reader_replay_of copy.old m.now).bytes }
 {
@@ -99,8 +99,7 @@ fn standing(copy: &[u8], key: u64) -> [u64; ANSWER]
 }
 
 // The same to the answer's bytes.
-#[unsafe(no_mangle)]
-pub extern "C" fn reader_value(copy: &[u8], key: u64, answer: &mut [u8]) -> u64
+pub fn reader_value(copy: &[u8], key: u64, answer: &mut [u8]) -> u64
     ensures value { result ≡ returned_of (said_of (reader_value_of copy.now key answer.old).answer) }
     ensures answer_after { answer.new ≡ (reader_value_of copy.now key answer.old).bytes }
 {

@@ -1,6 +1,5 @@
 -- Refused where a page has no length, else quotient and remainder.
 use mathlib.Core.Path.{refl}
-use borrow.Author.Rules.{rules}
 use borrow.Author.Tests.{eq-eqb, ne_eqb}
 use Rattle.rules.specs.Page.{page_code, page_of}
 use Rattle.bookmarks.proofs.page.Goals as goal

@@ -1,6 +1,5 @@
 -- Each return is a cause of the list; a merged record has a header to read the pair from.
-use borrow.Author.Rules.{rules}
-use borrow.Author.Tests.{eq-eqb, ne_eqb, not-false, not-true}
+use borrow.Author.Tests.{eq-eqb, ne_eqb}
 use mathlib.Core.Path.{◌∙◌, sym}
 use Rattle.rules.specs.Copy.{replay_code}
 use Rattle.rules.specs.CopyLaws.{merged_ready}
@@ -27,7 +26,7 @@ returns-then-not-precedes c =
     let merged-ok = c.merged_ok in
     let read-record = c.read_record-r in
     let p = c.precedes in
-    simp ( eq-eqb _ _ if1.false, ← merged-ok.ensures, if2.false, ← read-record.ensures, ← p.ensures, c.if-not-precedes.true, )
+    simp (eq-eqb _ _ if1.false, ← merged-ok.ensures, if2.false, ← read-record.ensures, ← p.ensures, c.if-not-precedes.true)
 
 pub returns : goal.returns
 unfolding replay_code
@@ -37,4 +36,4 @@ returns c =
     let merged-ok = c.merged_ok in
     let read-record = c.read_record-r in
     let p = c.precedes in
-    simp ( eq-eqb _ _ if1.false, ← merged-ok.ensures, if2.false, ← read-record.ensures, ← p.ensures, c.if-not-precedes.false, )
+    simp (eq-eqb _ _ if1.false, ← merged-ok.ensures, if2.false, ← read-record.ensures, ← p.ensures, c.if-not-precedes.false)

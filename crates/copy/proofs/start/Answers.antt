@@ -1,5 +1,4 @@
 -- Refused where the length is another, else all words are 0.
-use borrow.Author.Rules.{rules}
 use borrow.Author.Tests.{eq-eqb, ne_eqb}
 use mathlib.Core.Path.{refl}
 use Rattle.rules.specs.Copy.{copy_start_of}

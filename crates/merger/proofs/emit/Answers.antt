@@ -1,5 +1,4 @@
 -- Refused by the code, else what the order read from the queues emits.
-use borrow.Author.Rules.{rules}
 use borrow.Author.Tests.{eq-eqb, ne_eqb}
 use mathlib.Core.Path.{◌∙◌, refl, sym}
 use Rattle.laws.specs.Overlay.{overlay_none}

@@ -1,6 +1,5 @@
 -- Each return is a cause of the list.
-use borrow.Author.Rules.{rules}
-use borrow.Author.Tests.{le-ltb, lt-ltb, not-false, not-true}
+use borrow.Author.Tests.{le-ltb, lt-ltb}
 use Rattle.rules.specs.Merger.{emit_code}
 use Rattle.merger.proofs.emit_code.Goals as goal
 

@@ -1,5 +1,4 @@
 -- Refused as the order says, else the due record is written and its parts are popped.
-use borrow.Author.Rules.{rules}
 use borrow.Author.Tests.{eq-eqb, ne_eqb}
 use mathlib.Core.Path.{◌∙◌, refl}
 use native.Mathlib.Omega.{arith}
@@ -41,4 +40,4 @@ returns c =
     let args = c.args in
     let h = args.h in
     let k = taken_due h take-due.result take-due.ensures if1.false in
-    rw ( eq-eqb (due_code h.merger h.heads (least_in h)) 0 k.code, ← k.merger, ← k.head, ← sites.ensures, ← write-merged.ensures.value, ) (record { value = refl; queues_after = pop-queues.ensures; out_after = write-merged.ensures.out_after })
+    rw (eq-eqb (due_code h.merger h.heads (least_in h)) 0 k.code, ← k.merger, ← k.head, ← sites.ensures, ← write-merged.ensures.value) (record { value = refl; queues_after = pop-queues.ensures; out_after = write-merged.ensures.out_after })

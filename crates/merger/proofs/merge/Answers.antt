@@ -1,5 +1,4 @@
 -- Refused by the code, else the kind decides.
-use borrow.Author.Rules.{rules}
 use borrow.Author.Tests.{eq-eqb, ne_eqb}
 use mathlib.Core.Path.{◌∙◌, ap, refl, sym}
 use Rattle.kinds.specs.declared.RecordHead.{RecordHead}

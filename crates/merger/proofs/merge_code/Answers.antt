@@ -1,6 +1,4 @@
 -- Each return is a cause of the list; a possible state has a possible house.
-use borrow.Author.Rules.{rules}
-use borrow.Author.Tests.{not-false, not-true}
 use mathlib.Core.Path.{◌∙◌, sym}
 use Rattle.rules.specs.Merger.{merge_code}
 use Rattle.rules.specs.MergerClear.{merger_clear}
@@ -29,7 +27,7 @@ returns-then-state_ok c =
     let part-ok = c.part_ok in
     let if1 = c.if-not-merger_ok in
     let merger_ok_lem = c.merger_ok in
-    simp ( ← merger_ok_lem.ensures, if1.false, ← part-ok.ensures, if2.false, ← state-ok.ensures, c.if-state_ok.true, )
+    simp (← merger_ok_lem.ensures, if1.false, ← part-ok.ensures, if2.false, ← state-ok.ensures, c.if-state_ok.true)
 
 pub returns : goal.returns
 unfolding merge_code

@@ -1,6 +1,5 @@
 -- Refused by the code, else the part is laid into the place behind the queue, which is free.
 use Prim.Native.Nat.{◌+◌, ◌≤◌, ℕ}
-use borrow.Author.Rules.{rules}
 use borrow.Author.Tests.{eq-eqb, ne_eqb}
 use mathlib.Core.Path.{◌∙◌, ap, refl, sym}
 use native.Mathlib.Omega.{arith}

@@ -1,6 +1,5 @@
 -- Each return is a cause of the list.
-use borrow.Author.Rules.{rules}
-use borrow.Author.Tests.{le-leb, lt-leb, not-false, not-true}
+use borrow.Author.Tests.{le-leb, lt-leb}
 use Rattle.rules.specs.Merger.{merge_part_code}
 use Rattle.merger.proofs.merge_part_code.Goals as goal
 

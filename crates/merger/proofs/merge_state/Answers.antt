@@ -1,5 +1,4 @@
 -- Refused below the last state, else the state is kept.
-use borrow.Author.Rules.{rules}
 use borrow.Author.Tests.{le-ltb, lt-ltb}
 use mathlib.Core.Path.{ap}
 use native.Mathlib.Omega.{arith}

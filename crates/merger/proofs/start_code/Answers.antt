@@ -1,6 +1,5 @@
 -- Each return is a cause of the list.
-use borrow.Author.Rules.{rules}
-use borrow.Author.Tests.{eq-eqb, ne_eqb, not-false, not-true}
+use borrow.Author.Tests.{eq-eqb, ne_eqb}
 use mathlib.Core.Path.{◌≡◌, ◌∙◌, sym}
 use mathlib.Core.Bool.{true}
 use native.Mathlib.Omega.{arith}
@@ -37,11 +36,11 @@ unfolding merger_start_code
 returns-then-not-table_ok c =
     let counted : count_ok c.args.sites ≡ true = sym c.count_ok.ensures ∙ c.if-not-count_ok.false in
     let table = c.table_ok in
-    simp ( counted, eq-eqb _ _ c.if-firsts-sites.false, eq-eqb _ _ c.if-given-ne-QUEUES.false, ← table.ensures, c.if-not-table_ok.true, )
+    simp (counted, eq-eqb _ _ c.if-firsts-sites.false, eq-eqb _ _ c.if-given-ne-QUEUES.false, ← table.ensures, c.if-not-table_ok.true)
 
 pub returns : goal.returns
 unfolding merger_start_code
 returns c =
     let counted : count_ok c.args.sites ≡ true = sym c.count_ok.ensures ∙ c.if-not-count_ok.false in
     let table = c.table_ok in
-    simp ( counted, eq-eqb _ _ c.if-firsts-sites.false, eq-eqb _ _ c.if-given-ne-QUEUES.false, ← table.ensures, c.if-not-table_ok.false, )
+    simp (counted, eq-eqb _ _ c.if-firsts-sites.false, eq-eqb _ _ c.if-given-ne-QUEUES.false, ← table.ensures, c.if-not-table_ok.false)

@@ -1,5 +1,4 @@
 -- By definition.
-use borrow.Author.Rules.{rules}
 use mathlib.Core.Path.{refl}
 use Rattle.rules.specs.Merger.{merger_out_of}
 use Rattle.merger.proofs.with_source.Goals as goal

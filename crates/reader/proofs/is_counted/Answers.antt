@@ -1,5 +1,4 @@
 -- A count that eight does not divide is eight times no word; else the quotient is compared with word 0.
-use borrow.Author.Rules.{rules}
 use borrow.Author.Tests.{eq-eqb, eqb-false, eqb-true, ne_eqb}
 use lib.Dec.{eqb}
 use lib.ListN.{length}

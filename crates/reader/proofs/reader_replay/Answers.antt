@@ -1,6 +1,5 @@
 -- Refused where a count is wrong, else the record's words are read and replayed. No merged record has more words than the longest.
-use borrow.Author.Rules.{rules}
-use borrow.Author.Tests.{eq-eqb, ne_eqb, not-false, not-true}
+use borrow.Author.Tests.{eq-eqb, ne_eqb}
 use lib.Dec.{eqb}
 use lib.ListN.{length, take}
 use mathlib.Core.Bool.{false, true}
@@ -58,7 +57,7 @@ returns-then-n-gt-MERGED c =
     let size = c.if-given-ne-COPY_BYTES.false in
     let long = words_copy a.copy.now size in
     let none = too_long_lem (words_of a.m.now) (omega (arith, length_words a.m.now)) in
-    rw ( eq-eqb _ _ size, ← counts.ensures, c.if-not-is_counted.false, eq-eqb (length (words_of a.copy.now)) sizes.copy long, none, ) (record { value = refl; copy_after = refl })
+    rw (eq-eqb _ _ size, ← counts.ensures, c.if-not-is_counted.false, eq-eqb (length (words_of a.copy.now)) sizes.copy long, none) (record { value = refl; copy_after = refl })
 
 pub slice_bounds-replay_words-end : goal.slice_bounds-replay_words-end
 slice_bounds-replay_words-end c =

@@ -1,5 +1,4 @@
 -- Refused where the count is another, else all bytes are 0, which are the bytes of words of 0.
-use borrow.Author.Rules.{rules}
 use borrow.Author.Tests.{eq-eqb, ne_eqb}
 use lib.ListN.{length, replicate}
 use mathlib.Core.List.{List}

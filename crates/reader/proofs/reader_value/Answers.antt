@@ -1,5 +1,4 @@
 -- Refused by the code, else the four words are written to the answer.
-use borrow.Author.Rules.{rules}
 use borrow.Author.Tests.{eq-eqb, ne_eqb}
 use lib.ListN.{length}
 use mathlib.Core.List.{List}

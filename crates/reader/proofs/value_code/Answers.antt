@@ -35,5 +35,5 @@ returns c =
     let e = c.if-copy-ne-COPY_BYTES.false in
     let b = c.args.copy.now in
     let long = words_copy b e in
-    let exact : c.args.room ≡ answer_bytes = omega (arith, c.if-room-ne-ANSWER_BYTES.false) in
-    simp (eq-eqb _ _ e, eq-eqb _ _ exact, eq-eqb (length (words_of b)) sizes.copy long, lt-leb _ _ c.if-key.false)
+    let whole : c.args.room ≡ answer_bytes = omega (arith, c.if-room-ne-ANSWER_BYTES.false) in
+    simp (eq-eqb _ _ e, eq-eqb _ _ whole, eq-eqb (length (words_of b)) sizes.copy long, lt-leb _ _ c.if-key.false)

@@ -1,5 +1,4 @@
 -- Each return is a cause of the list.
-use borrow.Author.Rules.{rules}
 use borrow.Author.Tests.{eq-eqb, ne_eqb}
 use Rattle.rules.specs.Page.{pages_code}
 use Rattle.bookmarks.proofs.run.pages_code.Goals as goal

@@ -1,5 +1,4 @@
 -- The key and the value are read at the positions that the layout gives them.
-use borrow.Author.Rules.{rules}
 use Rattle.copy.proofs.writes.put_write.Goals as goal
 
 pub returns : goal.returns

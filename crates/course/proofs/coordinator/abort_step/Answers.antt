@@ -1,5 +1,4 @@
 -- The place freed, and ABORT sent to the others.
-use borrow.Author.Rules.{rules}
 use Rattle.rules.specs.Course.{abort_step}
 use Rattle.rules.specs.CourseLaws.{no_entries}
 use Rattle.rules.specs.Effect.{taken_of}

@@ -1,5 +1,4 @@
 -- Its vote: yes, or the abort.
-use borrow.Author.Rules.{rules}
 use borrow.Author.Tests.{ne_eqb}
 use Rattle.rules.specs.Course.{cast_step}
 use Rattle.course.proofs.coordinator.cast_step.Goals as goal

@@ -1,5 +1,4 @@
 -- Decided, and COMMIT sent to the others.
-use borrow.Author.Rules.{rules}
 use mathlib.Core.Path.{◌≡◌, ap}
 use Rattle.kinds.specs.declared.Course.{Course}
 use Rattle.rules.specs.Course.{commit_step, with_decision}
@@ -15,4 +14,4 @@ send_all-requires c =
 
 pub returns : goal.returns
 unfolding commit_step
-returns c = record { value = rw ( c.send_all.ensures.value, c.with_course-u.ensures, c.with_decision-c.ensures, ); out_after = rw ( c.send_all.ensures.out_after, c.with_course-u.ensures, c.with_decision-c.ensures, ) }
+returns c = record { value = rw (c.send_all.ensures.value, c.with_course-u.ensures, c.with_decision-c.ensures); out_after = rw (c.send_all.ensures.out_after, c.with_course-u.ensures, c.with_decision-c.ensures) }

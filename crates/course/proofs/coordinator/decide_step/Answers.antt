@@ -1,5 +1,4 @@
 -- At the last clock the abort, else the commit.
-use borrow.Author.Rules.{rules}
 use borrow.Author.Tests.{le-leb, lt-leb}
 use Rattle.rules.specs.Course.{decide_step}
 use Rattle.kinds.specs.Sizes as sizes

@@ -1,5 +1,4 @@
 -- PREPARE sent to the others.
-use borrow.Author.Rules.{rules}
 use Rattle.rules.specs.Course.{prepare_step}
 use Rattle.rules.specs.CourseLaws.{no_entries}
 use Rattle.course.proofs.coordinator.prepare_step.Goals as goal

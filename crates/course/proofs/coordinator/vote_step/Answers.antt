@@ -1,5 +1,4 @@
 -- A no aborts; a yes is counted, and the last one decides.
-use borrow.Author.Rules.{rules}
 use borrow.Author.Tests.{eq-eqb, ne_eqb}
 use mathlib.Core.Path.{◌∙◌, ◌≡◌, ap, sym}
 use Rattle.kinds.specs.declared.Course.{Course}
@@ -33,7 +32,7 @@ returns-then-all_heard c =
     let v = c.if-vote-ne0.false in
     let e = sym c.all_heard.ensures ∙ c.if-all_heard.true in
     let f = rw c.with_heard-c.ensures at e in
-    record { value = rw ( v, f, c.decide_step.ensures.value, c.with_course-u.ensures, c.with_heard-c.ensures, ); out_after = rw ( v, f, c.decide_step.ensures.out_after, c.with_course-u.ensures, c.with_heard-c.ensures, ) }
+    record { value = rw (v, f, c.decide_step.ensures.value, c.with_course-u.ensures, c.with_heard-c.ensures); out_after = rw (v, f, c.decide_step.ensures.out_after, c.with_course-u.ensures, c.with_heard-c.ensures) }
 
 pub returns : goal.returns
 unfolding vote_step quietly

@@ -1,6 +1,5 @@
 -- A message to each other participant, and their counts.
 use Prim.Native.Nat.{◌/◌}
-use borrow.Author.Rules.{rules}
 use lib.ListN.{length}
 use mathlib.Core.Path.{◌≡◌, ap}
 use native.Mathlib.Omega.{arith}
@@ -24,4 +23,4 @@ step_recipients-stepped-requires c = c.requires.0.low
 
 pub returns : goal.returns
 unfolding taken_of send_all entry_count
-returns c = record { value = rw ( c.step_recipients-stepped.ensures, c.broadcast-words.ensures.0, c.head_of-h.ensures, ); out_after = rw (c.broadcast-words.ensures.1, c.head_of-h.ensures) }
+returns c = record { value = rw (c.step_recipients-stepped.ensures, c.broadcast-words.ensures.0, c.head_of-h.ensures); out_after = rw (c.broadcast-words.ensures.1, c.head_of-h.ensures) }

@@ -1,6 +1,5 @@
 -- One message, and its count.
 use Prim.Native.Nat.{◌/◌}
-use borrow.Author.Rules.{rules}
 use lib.ListN.{length}
 use mathlib.Core.Path.{◌≡◌, ap}
 use native.Mathlib.Omega.{arith}
@@ -20,4 +19,4 @@ write_message-words-requires c =
 
 pub returns : goal.returns
 unfolding taken_of send_to entry_count
-returns c = record { value = rw ( c.sent_to-stepped.ensures, c.write_message-words.ensures.0, c.head_of-h.ensures, ); out_after = rw (c.write_message-words.ensures.1, c.head_of-h.ensures) }
+returns c = record { value = rw (c.sent_to-stepped.ensures, c.write_message-words.ensures.0, c.head_of-h.ensures); out_after = rw (c.write_message-words.ensures.1, c.head_of-h.ensures) }

@@ -1,5 +1,4 @@
 -- The test of the count.
-use borrow.Author.Rules.{rules}
 use mathlib.Core.Path.{refl}
 use Rattle.rules.specs.Course.{channel_spent}
 use Rattle.course.proofs.turn.channel_spent.Goals as goal

@@ -1,6 +1,4 @@
 -- Named by the mask, and not heard.
-use borrow.Author.Rules.{rules}
-use borrow.Author.Tests.{not-false, not-true}
 use Rattle.laws.specs.Choice.{pick_self}
 use Rattle.rules.specs.Course.{is_outstanding}
 use Rattle.course.proofs.turn.is_outstanding.Goals as goal
@@ -11,4 +9,4 @@ returns-then-not-wanted c = simp (← c.in_mask-wanted.ensures, c.if-not-wanted.
 
 pub returns : goal.returns
 unfolding is_outstanding
-returns c = simp ( ← c.in_mask-wanted.ensures, ← c.in_mask-heard.ensures, c.if-not-wanted.false, pick_self, )
+returns c = simp (← c.in_mask-wanted.ensures, ← c.in_mask-heard.ensures, c.if-not-wanted.false, pick_self)

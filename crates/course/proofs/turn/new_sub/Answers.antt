@@ -1,5 +1,4 @@
 -- An active part with nothing used.
-use borrow.Author.Rules.{rules}
 use Rattle.rules.specs.Course.{new_sub}
 use Rattle.course.proofs.turn.new_sub.Goals as goal
 

@@ -1,5 +1,4 @@
 -- All zeros.
-use borrow.Author.Rules.{rules}
 use Rattle.kinds.specs.State.{no_sub}
 use Rattle.course.proofs.turn.no_sub.Goals as goal
 

@@ -1,5 +1,4 @@
 -- The larger clock.
-use borrow.Author.Rules.{rules}
 use Rattle.rules.specs.Course.{raise}
 use Rattle.course.proofs.turn.raise.Goals as goal
 

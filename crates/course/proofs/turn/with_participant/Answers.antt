@@ -1,5 +1,4 @@
 -- The fields that change, and those that stay.
-use borrow.Author.Rules.{rules}
 use Rattle.rules.specs.Course.{with_participant}
 use Rattle.course.proofs.turn.with_participant.Goals as goal
 

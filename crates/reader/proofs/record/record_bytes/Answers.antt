@@ -1,6 +1,5 @@
 -- Refused where the words are no merged record or the buffer has another length, else the words are written.
-use borrow.Author.Rules.{rules}
-use borrow.Author.Tests.{eq-eqb, ne_eqb, not-false, not-true}
+use borrow.Author.Tests.{eq-eqb, ne_eqb}
 use mathlib.Core.Path.{◌∙◌, refl, sym}
 use native.Mathlib.Omega.{arith}
 use Rattle.rules.specs.CopyLaws.{merged_ready}

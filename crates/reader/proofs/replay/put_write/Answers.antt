@@ -1,5 +1,4 @@
 -- The key and the value are read at the positions that the layout gives them; the value is two words.
-use borrow.Author.Rules.{rules}
 use Rattle.rules.specs.Value.{put_value}
 use Rattle.reader.proofs.replay.put_write.Goals as goal
 

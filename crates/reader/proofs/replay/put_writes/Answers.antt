@@ -1,11 +1,9 @@
 use borrow.Author.Rules.{rules}
-use lib.ListN.{length}
 use mathlib.Core.Path.{◌≡◌, refl}
 use native.Mathlib.Omega.{arith}
-use Prim.Native.Nat.{◌-◌, ◌≤◌}
 use Rattle.kinds.specs.Sizes as sizes
 use Rattle.laws.specs.ByteLaws.{hold_bytes}
-use Rattle.laws.specs.Bytes.{Hold, words_of}
+use Rattle.laws.specs.Bytes.{words_of}
 use Rattle.laws.specs.Scan.{fold_below}
 use Rattle.rules.specs.Copy.{put_writes}
 use Rattle.rules.specs.CopyLaws.{put_more}

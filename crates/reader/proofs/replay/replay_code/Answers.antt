@@ -1,6 +1,5 @@
 -- Each return is a cause of the list; the copy's pair is read from its first two words.
-use borrow.Author.Rules.{rules}
-use borrow.Author.Tests.{eq-eqb, not-false, not-true}
+use borrow.Author.Tests.{eq-eqb}
 use lib.ListN.{length}
 use mathlib.Core.Path.{◌∙◌, sym}
 use Rattle.kinds.specs.Sizes as sizes
@@ -27,7 +26,7 @@ returns-then-not-precedes c =
     let ok = c.merged_ok in
     let b = c.args.copy.now in
     let long = words_copy b c.requires in
-    simp ( eq-eqb (length (words_of b)) sizes.copy long, ← ok.ensures, c.if-not-merged_ok.false, ← c.read_record-r.ensures, ← c.word_at-number.ensures, ← c.word_at-coordinator.ensures, ← c.precedes.ensures, c.if-not-precedes.true, )
+    simp (eq-eqb (length (words_of b)) sizes.copy long, ← ok.ensures, c.if-not-merged_ok.false, ← c.read_record-r.ensures, ← c.word_at-number.ensures, ← c.word_at-coordinator.ensures, ← c.precedes.ensures, c.if-not-precedes.true)
 
 pub returns : goal.returns
 unfolding replay_code
@@ -35,4 +34,4 @@ returns c =
     let ok = c.merged_ok in
     let b = c.args.copy.now in
     let long = words_copy b c.requires in
-    simp ( eq-eqb (length (words_of b)) sizes.copy long, ← ok.ensures, c.if-not-merged_ok.false, ← c.read_record-r.ensures, ← c.word_at-number.ensures, ← c.word_at-coordinator.ensures, ← c.precedes.ensures, c.if-not-precedes.false, )
+    simp (eq-eqb (length (words_of b)) sizes.copy long, ← ok.ensures, c.if-not-merged_ok.false, ← c.read_record-r.ensures, ← c.word_at-number.ensures, ← c.word_at-coordinator.ensures, ← c.precedes.ensures, c.if-not-precedes.false)

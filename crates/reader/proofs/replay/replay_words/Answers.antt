@@ -1,5 +1,4 @@
 -- Refused by the code, else the pair is set and the record's writes are laid over the values.
-use borrow.Author.Rules.{rules}
 use borrow.Author.Tests.{eq-eqb, ne_eqb}
 use mathlib.Core.Path.{◌∙◌, ap, refl, sym}
 use native.Mathlib.Omega.{arith}

@@ -1,5 +1,4 @@
 -- What the bytes hold after the first store is what the second one changes.
-use borrow.Author.Rules.{rules}
 use Rattle.reader.proofs.replay.set_two.Goals as goal
 
 pub returns : goal.returns

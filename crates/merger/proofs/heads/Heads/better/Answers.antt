@@ -1,6 +1,5 @@
 -- Each return is a case of the definition.
-use borrow.Author.Rules.{rules}
-use borrow.Author.Tests.{le-ltb, lt-ltb, not-false, not-true}
+use borrow.Author.Tests.{le-ltb, lt-ltb}
 use Rattle.rules.specs.Merger.{better_head}
 use Rattle.merger.proofs.heads.Heads.better.Goals as goal
 

@@ -1,6 +1,4 @@
 -- Not due is 17, due and not whole 16; a due head stands in the table.
-use borrow.Author.Rules.{rules}
-use borrow.Author.Tests.{not-false, not-true}
 use mathlib.Core.Path.{◌∙◌, sym}
 use native.Mathlib.Omega.{arith}
 use Rattle.rules.specs.Merger.{due_code}
@@ -27,7 +25,7 @@ returns-then-not-is_whole c =
     let is_whole = c.is_whole in
     let if1 = c.if-not-is_due in
     let is-due-call = c.is_due in
-    simp ( ← is-due-call.ensures, if1.false, ← is_whole.ensures, c.if-not-is_whole.true, )
+    simp (← is-due-call.ensures, if1.false, ← is_whole.ensures, c.if-not-is_whole.true)
 
 pub returns : goal.returns
 unfolding due_code
@@ -35,4 +33,4 @@ returns c =
     let is_whole = c.is_whole in
     let if1 = c.if-not-is_due in
     let is-due-call = c.is_due in
-    simp ( ← is-due-call.ensures, if1.false, ← is_whole.ensures, c.if-not-is_whole.false, )
+    simp (← is-due-call.ensures, if1.false, ← is_whole.ensures, c.if-not-is_whole.false)

@@ -1,5 +1,4 @@
 -- By definition.
-use borrow.Author.Rules.{rules}
 use mathlib.Core.Path.{refl}
 use Rattle.rules.specs.Merger.{has_head}
 use Rattle.merger.proofs.heads.Heads.has_head.Goals as goal

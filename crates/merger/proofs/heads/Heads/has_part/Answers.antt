@@ -1,6 +1,5 @@
 -- Each return is the test that failed, or the last.
-use borrow.Author.Rules.{rules}
-use borrow.Author.Tests.{eq-eqb, ne_eqb, not-false, not-true}
+use borrow.Author.Tests.{eq-eqb, ne_eqb}
 use Rattle.laws.specs.Choice.{pick_self}
 use Rattle.rules.specs.Merger.{has_part}
 use Rattle.merger.proofs.heads.Heads.has_part.Goals as goal

@@ -1,5 +1,4 @@
 -- No least head is not due; else all sites decide.
-use borrow.Author.Rules.{rules}
 use borrow.Author.Tests.{le-ltb, lt-ltb}
 use Rattle.laws.specs.Choice.{pick_self}
 use Rattle.rules.specs.Merger.{is_due}

@@ -1,5 +1,4 @@
 -- Each return is a case of the definition.
-use borrow.Author.Rules.{rules}
 use Rattle.rules.specs.Merger.{is_due_at}
 use Rattle.merger.proofs.heads.Heads.is_due_at.Goals as goal
 

@@ -1,10 +1,8 @@
-use Prim.Native.Nat.{◌-◌, ◌≤◌}
 use borrow.Author.Count.{below_more}
 use borrow.Author.Rules.{rules}
-use borrow.Author.Tests.{not-false, not-true}
 use mathlib.Core.Path.{◌∙◌, sym}
 use native.Mathlib.Omega.{arith}
-use Rattle.laws.specs.Scan.{EachBelow, all_end, each_none, not_all_below}
+use Rattle.laws.specs.Scan.{all_end, each_none, not_all_below}
 use Rattle.merger.specs.Order.{sites_in}
 use Rattle.rules.specs.Merger.{is_whole, is_whole_at}
 use Rattle.merger.proofs.heads.Heads.is_whole.Goals as goal

@@ -1,6 +1,5 @@
 -- Each return is the test that failed, or the last.
-use borrow.Author.Rules.{rules}
-use borrow.Author.Tests.{eq-eqb, ne_eqb, not-false, not-true}
+use borrow.Author.Tests.{eq-eqb, ne_eqb}
 use Rattle.laws.specs.Choice.{pick_self}
 use Rattle.rules.specs.Merger.{is_whole_at}
 use Rattle.merger.proofs.heads.Heads.is_whole_at.Goals as goal
@@ -24,7 +23,7 @@ returns-then-a-r c =
     let if1 = c.if-not-in_mask in
     let in-mask = c.in_mask in
     let has_part_lem = c.has_part-here in
-    simp ( ← in-mask.ensures, if1.false, ← has_part_lem.ensures, if2.false, ne_eqb _ _ c.if-a-r.true, )
+    simp (← in-mask.ensures, if1.false, ← has_part_lem.ensures, if2.false, ne_eqb _ _ c.if-a-r.true)
 
 pub returns : goal.returns
 unfolding is_whole_at
@@ -34,4 +33,4 @@ returns c =
     let if1 = c.if-not-in_mask in
     let in-mask = c.in_mask in
     let has_part_lem = c.has_part-here in
-    simp ( ← in-mask.ensures, if1.false, ← has_part_lem.ensures, if2.false, eq-eqb _ _ if3.false, pick_self, )
+    simp (← in-mask.ensures, if1.false, ← has_part_lem.ensures, if2.false, eq-eqb _ _ if3.false, pick_self)

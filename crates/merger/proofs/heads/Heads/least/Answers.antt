@@ -1,4 +1,3 @@
-use Prim.Native.Nat.{◌-◌, ◌≤◌}
 use borrow.Author.Rules.{rules}
 use mathlib.Core.Path.{◌∙◌, ◌≡◌, ap, refl, sym}
 use native.Mathlib.Omega.{arith}
@@ -16,7 +15,7 @@ pub loop-i-preserved : goal.loop-i-preserved
 loop-i-preserved c =
     let loop = c.loop-i in
     let args = c.args in
-    ( search rules, c.better-best.ensures ∙ ap (better_head args.self.merger args.self.heads loop.i) loop.invariant.1 ∙ sym (least_head_more args.self.merger args.self.heads loop.i), )
+    (search rules, c.better-best.ensures ∙ ap (better_head args.self.merger args.self.heads loop.i) loop.invariant.1 ∙ sym (least_head_more args.self.merger args.self.heads loop.i))
 
 pub returns : goal.returns
 unfolding least_in

@@ -1,4 +1,3 @@
-use Prim.Native.Nat.{◌-◌, ◌≤◌}
 use borrow.Author.Rules.{rules}
 use mathlib.Core.Path.{◌∙◌, ◌≡◌, ap, sym}
 use native.Mathlib.Omega.{arith}
@@ -21,7 +20,7 @@ pub loop-i-preserved : goal.loop-i-preserved
 loop-i-preserved c =
     let loop = c.loop-i in
     let args = c.args in
-    ( search rules, c.without_at-h.ensures ∙ ap (without_at args.mask loop.i) loop.invariant.1 ∙ sym (without_more args.mask args.self loop.i), )
+    (search rules, c.without_at-h.ensures ∙ ap (without_at args.mask loop.i) loop.invariant.1 ∙ sym (without_more args.mask args.self loop.i))
 
 pub returns : goal.returns
 unfolding without

@@ -1,10 +1,7 @@
 -- After i sites those of the mask have one part fewer; the sites to come are as they were.
 use Prim.Native.Nat.{◌-◌, ◌≤◌}
-use borrow.Author.Rules.{rules}
-use mathlib.Core.Path.{◌∙◌, ◌≡◌, ap, sym}
-use native.Mathlib.Omega.{arith}
-use Rattle.merger.specs.Order.{sites_in, without, without_more, without_none, without_at, without_to}
-use Rattle.rules.specs.MergerLaws.{Queued, pop_later}
+use mathlib.Core.Path.{◌≡◌}
+use Rattle.merger.specs.Order.{without_to}
 use Rattle.merger.proofs.heads.Heads.without.Given as goal
 
 abbrev pub invariant-loop-i : goal.invariant-loop-i

@@ -1,6 +1,4 @@
 -- Where the mask names the site one part fewer is queued, and there is one.
-use borrow.Author.Rules.{rules}
-use borrow.Author.Tests.{not-false, not-true}
 use mathlib.Core.Path.{◌∙◌, sym}
 use native.Mathlib.Omega.{arith}
 use Rattle.merger.specs.Order.{without_at}
