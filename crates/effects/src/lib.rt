@@ -1,5 +1,6 @@
 // A probe's lines as calls of a site, the merger or a copy, as conversions, or as a record's bytes, and what each call leaves.
 #![tactic(auto)]
+
 mod bookmarks;
 mod bytes;
 mod sites;
