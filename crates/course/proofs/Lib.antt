@@ -1,2 +1,0 @@
--- What is required of the counters.
-pub mod Counts
