@@ -1,10 +1,9 @@
 use Prim.Native.Nat.{◌*◌, ◌+◌, ◌-◌, ◌≤◌}
-use borrow.Author.Rules.{rules}
 use lib.ListN.{length, length-append}
 use mathlib.Core.List.{◌++◌}
 use mathlib.Core.Path.{◌∙◌, ◌≡◌, ap, refl, sym}
 use native.Mathlib.Omega.{arith}
-use Rattle.laws.specs.Overlay.{behind, length_overlay, length_rest, overlay, overlay_none}
+use Rattle.laws.specs.Overlay.{behind, length_overlay, length_rest, overlay_none}
 use Rattle.kinds.specs.Sizes as sizes
 use Rattle.rules.specs.Certify.{installed_list, installed_words}
 use Rattle.rules.proofs.CertifyLaws.{installed_more, installed_none, length_installed}
@@ -57,7 +56,7 @@ write_installed-requires c =
     let few : c.remembered.result ≤ sizes.history = omega (arith, c.remembered.ensures, remembered_few c.args.installs) in
     let l = c.loop-i in
     let pre = c.requires in
-    record { room = omega (arith, few, pre.room, length_rest l.out (sizes.entry * l.i)); few_own = pre.few_own; other = pre.slots c.recall_slot-slot.result (omega (arith, c.recall_slot-slot.ensures)); }
+    record { room = omega (arith, few, pre.room, length_rest l.out (sizes.entry * l.i)); few_own = pre.few_own; other = pre.slots c.recall_slot-slot.result (omega (arith, c.recall_slot-slot.ensures)) }
 
 pub loop-i-preserved : goal.loop-i-preserved
 unfolding installed_words

@@ -1,5 +1,4 @@
-use Prim.Native.Nat.{◌*◌, ◌-◌, ◌≤◌}
-use borrow.Author.Rules.{rules}
+use Prim.Native.Nat.{◌*◌}
 use lib.ListN.{length, length-append}
 use mathlib.Core.List.{◌++◌}
 use mathlib.Core.Path.{◌∙◌, ◌≡◌, ap, refl, sym}
@@ -11,7 +10,7 @@ use Rattle.rules.proofs.CertifyLaws.{prepared_more, prepared_none}
 use Rattle.rules.specs.Live.{part_at}
 use Rattle.lent.specs.Layout.{sub_from, live_of}
 use Rattle.lent.specs.Seats.{seat_at}
-use Rattle.certify.specs.Asks.{Entered, prepared_at}
+use Rattle.certify.specs.Asks.{prepared_at}
 use Rattle.certify.proofs.list.prepared_list.Goals as goal
 
 pub keys_at-own-requires : goal.keys_at-own-requires
@@ -28,7 +27,7 @@ write_prepared-more-requires c =
     let l = c.loop-i in
     let pre = c.requires in
     let own = pre.parts c.args.place pre.low in
-    record { room = omega (arith, pre.room, length_rest l.out (sizes.entry * l.n)); few_own = rw c.keys_at-own.ensures own.few; other = pre.parts l.i c.loop-i-test.true; }
+    record { room = omega (arith, pre.room, length_rest l.out (sizes.entry * l.n)); few_own = rw c.keys_at-own.ensures own.few; other = pre.parts l.i c.loop-i-test.true }
 
 pub loop-i-preserved : goal.loop-i-preserved
 loop-i-preserved c =

@@ -1,5 +1,4 @@
 -- The mark written is that of the dependence that was tested.
-use borrow.Author.Rules.{rules}
 use Rattle.certify.proofs.list.write_concurrent.Goals as goal
 
 pub returns : goal.returns

@@ -1,5 +1,4 @@
 -- The words of the slot are those of the install in it.
-use borrow.Author.Rules.{rules}
 use Rattle.rules.specs.Certify.{installed_words}
 use Rattle.lent.specs.Layout.{entry_from}
 use Rattle.certify.proofs.list.write_installed.Goals as goal

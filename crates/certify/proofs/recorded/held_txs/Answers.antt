@@ -1,11 +1,6 @@
-use Prim.Native.Nat.{◌-◌, ◌≤◌, ℕ}
-use borrow.Author.Rules.{rules}
-use lib.ListN.{length}
 use mathlib.Core.Path.{◌∙◌, ◌≡◌, refl, sym}
 use native.Mathlib.Omega.{arith}
-use Rattle.laws.specs.Scan.{any_below}
 use Rattle.kinds.specs.Sizes as sizes
-use Rattle.lent.specs.Seats.{seat_at, is_seat_of}
 use Rattle.certify.specs.Leaves.{among, any_more, any_none}
 use Rattle.certify.proofs.recorded.held_txs.Goals as goal
 

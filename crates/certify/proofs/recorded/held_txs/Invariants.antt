@@ -1,13 +1,11 @@
 -- After i places the transactions gathered are those that have a part among them.
 use Prim.Native.Nat.{◌-◌, ◌≤◌, ℕ}
-use borrow.Author.Rules.{rules}
 use lib.ListN.{length}
-use mathlib.Core.Path.{◌∙◌, ◌≡◌, refl, sym}
-use native.Mathlib.Omega.{arith}
+use mathlib.Core.Path.{◌≡◌}
 use Rattle.laws.specs.Scan.{any_below}
 use Rattle.kinds.specs.Sizes as sizes
 use Rattle.lent.specs.Seats.{seat_at, is_seat_of}
-use Rattle.certify.specs.Leaves.{among, any_more, any_none}
+use Rattle.certify.specs.Leaves.{among}
 use Rattle.certify.proofs.recorded.held_txs.Given as goal
 
 abbrev pub invariant-loop-i : goal.invariant-loop-i

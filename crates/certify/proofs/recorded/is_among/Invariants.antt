@@ -1,12 +1,8 @@
 -- None passed is `tx`, and one that is ends the loop.
 use Prim.Native.Nat.{◌-◌, ◌≤◌}
-use borrow.Author.Count.{below_more}
-use borrow.Author.Rules.{rules}
-use borrow.Author.Tests.{eq-eqb, ne_eqb}
 use lib.Dec.{eqb}
 use lib.ListN.{get_or}
-use Rattle.certify.specs.Leaves.{among}
-use Rattle.laws.specs.Scan.{NoneBelow, any_below_lem, any_end, none_none}
+use Rattle.laws.specs.Scan.{NoneBelow}
 use Rattle.certify.proofs.recorded.is_among.Given as goal
 
 abbrev pub invariant-loop-i : goal.invariant-loop-i

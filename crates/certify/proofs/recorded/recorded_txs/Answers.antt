@@ -1,5 +1,4 @@
 -- Held or remembered: some seat, or some remembered install, is of the transaction.
-use borrow.Author.Rules.{rules}
 use mathlib.Core.Path.{◌∙◌}
 use Rattle.laws.specs.Scan.{any_below}
 use Rattle.kinds.specs.Sizes as sizes

@@ -1,11 +1,10 @@
-use Prim.Native.Nat.{◌+◌, ◌-◌, ◌*◌, ◌<◌, ◌≤◌, ℕ}
-use borrow.Author.Rules.{rules}
+use Prim.Native.Nat.{◌+◌, ◌*◌, ◌<◌, ◌≤◌}
 use lib.Dec.{eqb}
 use lib.ListN.{get_or, length, length-set}
-use mathlib.Core.Bool.{Bool, true}
+use mathlib.Core.Bool.{Bool}
 use mathlib.Core.Path.{◌∙◌, ◌≡◌, refl, sym}
 use native.Mathlib.Omega.{arith}
-use Rattle.laws.specs.Choice.{pick, pick_self}
+use Rattle.laws.specs.Choice.{pick_self}
 use Rattle.kinds.specs.Sizes as sizes
 use Rattle.kinds.specs.Word as word
 use Rattle.rules.specs.History.{recall}
@@ -65,7 +64,7 @@ loop-i-preserved c =
     let l = c.loop-i in
     let p : a.n + (l.i + 1) ≡ a.n + l.i + 1 = omega arith in
     let past = history_of a.history.now in
-    ( omega arith, ( simp length-set l.invariant.1.0, λ tx. let is : Bool = eqb (recall past a.installs l.i).tx tx in let was : Bool = any_recalled past a.installs tx l.i in rw (p, any_more) (among_put l.txs (a.n + l.i) _ tx room ∙ rw (l.invariant.1.1 tx, word-is) (or_swap is (among a.txs.now a.n tx) was)), ), )
+    (omega arith, (simp length-set l.invariant.1.0, λ tx. let is : Bool = eqb (recall past a.installs l.i).tx tx in let was : Bool = any_recalled past a.installs tx l.i in rw (p, any_more) (among_put l.txs (a.n + l.i) _ tx room ∙ rw (l.invariant.1.1 tx, word-is) (or_swap is (among a.txs.now a.n tx) was))))
 
 pub overflow_add-result : goal.overflow_add-result
 overflow_add-result c =

@@ -1,5 +1,4 @@
 -- A free seat is of no transaction; another adds its own, and nothing else, to those gathered.
-use borrow.Author.Rules.{rules}
 use mathlib.Core.Path.{◌∙◌}
 use native.Mathlib.Omega.{arith}
 use Rattle.certify.specs.Leaves.{among_put, free_seat, held_seat}

@@ -1,9 +1,8 @@
-use Prim.Native.Nat.{◌-◌, ◌≤◌}
 use borrow.Author.Count.{below_more}
 use borrow.Author.Rules.{rules}
 use mathlib.Core.Path.{◌∙◌, ◌≡◌, ap, sym}
 use native.Mathlib.Omega.{arith}
-use Rattle.laws.specs.Scan.{NoneBelow, any_below_lem, any_end, none_none}
+use Rattle.laws.specs.Scan.{any_below_lem, any_end, none_none}
 use Rattle.rules.specs.History.{recall}
 use Rattle.rules.specs.HistoryLaws.{within_few}
 use Rattle.lent.specs.Layout.{keys_from, history_of}

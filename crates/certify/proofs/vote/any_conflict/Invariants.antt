@@ -1,14 +1,9 @@
 -- No install passed is in conflict with an entry, and one that is ends the loop.
 use Prim.Native.Nat.{◌-◌, ◌≤◌}
-use borrow.Author.Count.{below_more}
-use borrow.Author.Rules.{rules}
-use mathlib.Core.Path.{◌∙◌, ◌≡◌, ap, sym}
-use native.Mathlib.Omega.{arith}
-use Rattle.laws.specs.Scan.{NoneBelow, any_below_lem, any_end, none_none}
+use Rattle.laws.specs.Scan.{NoneBelow}
 use Rattle.rules.specs.History.{recall}
-use Rattle.rules.specs.HistoryLaws.{within_few}
 use Rattle.lent.specs.Layout.{keys_from, history_of}
-use Rattle.certify.specs.Asks.{any_conflicts, recalled}
+use Rattle.certify.specs.Asks.{any_conflicts}
 use Rattle.certify.proofs.vote.any_conflict.Given as goal
 
 abbrev pub invariant-loop-k : goal.invariant-loop-k

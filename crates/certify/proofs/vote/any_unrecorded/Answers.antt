@@ -1,11 +1,8 @@
-use Prim.Native.Nat.{◌-◌, ◌≤◌}
 use borrow.Author.Count.{below_more}
 use borrow.Author.Rules.{rules}
 use mathlib.Core.Path.{◌∙◌, sym}
 use native.Mathlib.Omega.{arith}
-use Rattle.laws.specs.Scan.{NoneBelow, any_below_lem, any_end, none_none}
-use Rattle.rules.specs.Message.{entry_mask, entry_tx}
-use Rattle.certify.specs.Leaves.{unrecorded}
+use Rattle.laws.specs.Scan.{any_below_lem, any_end, none_none}
 use Rattle.certify.proofs.vote.any_unrecorded.Goals as goal
 
 pub loop-i-init : goal.loop-i-init

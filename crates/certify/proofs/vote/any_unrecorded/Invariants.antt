@@ -1,10 +1,6 @@
 -- No entry passed names this site without a record, and one that does ends the loop.
 use Prim.Native.Nat.{◌-◌, ◌≤◌}
-use borrow.Author.Count.{below_more}
-use borrow.Author.Rules.{rules}
-use mathlib.Core.Path.{◌∙◌, sym}
-use native.Mathlib.Omega.{arith}
-use Rattle.laws.specs.Scan.{NoneBelow, any_below_lem, any_end, none_none}
+use Rattle.laws.specs.Scan.{NoneBelow}
 use Rattle.rules.specs.Message.{entry_mask, entry_tx}
 use Rattle.certify.specs.Leaves.{unrecorded}
 use Rattle.certify.proofs.vote.any_unrecorded.Given as goal

@@ -1,13 +1,10 @@
-use Prim.Native.Nat.{◌-◌, ◌*◌, ◌≤◌}
 use borrow.Author.Count.{below_more}
 use borrow.Author.Rules.{rules}
 use borrow.Author.Tests.{eq-eqb, ne_eqb}
-use mathlib.Core.Logic.{⊎_elim}
 use native.Mathlib.Omega.{arith}
-use Rattle.laws.specs.Scan.{NoneBelow, any_below_lem, any_end, none_none}
-use Rattle.kinds.specs.Sizes as sizes
+use Rattle.laws.specs.Scan.{any_below_lem, any_end, none_none}
 use Rattle.rules.specs.Certify.{conflicts_at}
-use Rattle.lent.specs.Layout.{keys_from, entry_from}
+use Rattle.lent.specs.Layout.{entry_from}
 use Rattle.certify.proofs.vote.conflicts_with.Goals as goal
 use Rattle.certify.proofs.vote.conflicts_with.Goals.{then-es-at+else-is_conflict, else-es-at}
 
@@ -20,10 +17,13 @@ returns-then-is_conflict c = any_below_lem _ _ c.loop-i.i c.loop-i-test.true (rw
 
 pub loop-i-preserved : goal.loop-i-preserved
 unfolding conflicts_at entry_from
-loop-i-preserved c = ( omega arith, below_more _ _ c.loop-i.invariant.1 (elim c.if-es-at.branch [
-      then-es-at+else-is_conflict w ↦ rw (eq-eqb _ _ w.if-es-at.true, ← w.is_conflict.ensures, w.if-is_conflict.false)
+loop-i-preserved c = (
+  omega arith,
+  below_more _ _ c.loop-i.invariant.1 (elim c.if-es-at.branch [
+    | then-es-at+else-is_conflict w ↦ rw (eq-eqb _ _ w.if-es-at.true, ← w.is_conflict.ensures, w.if-is_conflict.false)
     | else-es-at w ↦ rw (ne_eqb _ _ w.if-es-at.false)
-    ]), )
+  ]),
+)
 
 pub returns : goal.returns
 returns c = any_end _ _ _ c.loop-i-test.false c.loop-i.invariant.1

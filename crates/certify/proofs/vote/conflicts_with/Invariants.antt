@@ -1,11 +1,6 @@
 -- No entry passed is for the install and in conflict: it is for another, or neither marked nor dependent.
 use Prim.Native.Nat.{◌-◌, ◌*◌, ◌≤◌}
-use borrow.Author.Count.{below_more}
-use borrow.Author.Rules.{rules}
-use borrow.Author.Tests.{eq-eqb, ne_eqb}
-use mathlib.Core.Logic.{⊎_elim}
-use native.Mathlib.Omega.{arith}
-use Rattle.laws.specs.Scan.{NoneBelow, any_below_lem, any_end, none_none}
+use Rattle.laws.specs.Scan.{NoneBelow}
 use Rattle.kinds.specs.Sizes as sizes
 use Rattle.rules.specs.Certify.{conflicts_at}
 use Rattle.lent.specs.Layout.{keys_from, entry_from}

@@ -1,5 +1,4 @@
 -- The mark alone, else dependence here, of the keys read from both words.
-use borrow.Author.Rules.{rules}
 use borrow.Author.Tests.{eq-eqb, ne_eqb}
 use mathlib.Core.Path.{sym}
 use Rattle.laws.specs.Choice.{pick_self}

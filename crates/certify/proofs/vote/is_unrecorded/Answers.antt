@@ -1,6 +1,4 @@
 -- Both tests: it names this site, and is not among those on record.
-use borrow.Author.Rules.{rules}
-use borrow.Author.Tests.{not-false, not-true}
 use mathlib.Core.Path.{◌∙◌, sym}
 use Rattle.laws.specs.Choice.{pick_self}
 use Rattle.certify.proofs.vote.is_unrecorded.Goals as goal

@@ -1,5 +1,4 @@
 -- Conflicts are sought by install instead of by entry, doubts against the gathered transactions: both find the same.
-use borrow.Author.Rules.{rules}
 use mathlib.Core.Path.{◌∙◌, ◌≡◌, sym}
 use native.Mathlib.Omega.{arith}
 use Rattle.laws.specs.Scan.{any_below}
@@ -33,7 +32,7 @@ pub any_conflict-requires : goal.any_conflict-requires
 any_conflict-requires c =
     let a = c.args in
     let pre = c.requires in
-    record { entries = pre.entries; part = part_in a.p a.live.now a.history.now pre.valid a.place pre.low; slots = slot_in a.p a.live.now a.history.now pre.valid; }
+    record { entries = pre.entries; part = part_in a.p a.live.now a.history.now pre.valid a.place pre.low; slots = slot_in a.p a.live.now a.history.now pre.valid }
 
 pub returns-then-any_conflict : goal.returns-then-any_conflict
 unfolding vote_of
@@ -60,7 +59,7 @@ pub any_unrecorded-requires : goal.any_unrecorded-requires
 any_unrecorded-requires c =
     let site : Site = site_of c.args.p c.args.live.now c.args.history.now in
     let own = valid_own site c.requires.valid in
-    record { entries = c.requires.entries; recorded = omega (arith, c.recorded_txs-m.ensures.upper_bound, c.recorded_txs-m.auto.txs); own_low = own.0; own_high = own.1; }
+    record { entries = c.requires.entries; recorded = omega (arith, c.recorded_txs-m.ensures.upper_bound, c.recorded_txs-m.auto.txs); own_low = own.0; own_high = own.1 }
 
 pub returns-then-any_unrecorded : goal.returns-then-any_unrecorded
 unfolding vote_of is_recorded
