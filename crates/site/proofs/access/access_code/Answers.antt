@@ -1,5 +1,4 @@
 -- Each return is the first cause, or none: those of the key, and then those of the part.
-use borrow.Author.Rules.{rules}
 use borrow.Author.Tests.{eq-eqb, le-leb, lt-leb, ne_eqb}
 use lib.Dec.{eqb, leb}
 use mathlib.Core.Bool.{true, false}

@@ -1,6 +1,5 @@
 -- Each return is the first cause, or none.
-use borrow.Author.Rules.{rules}
-use borrow.Author.Tests.{eq-eqb, ne_eqb, not-false, not-true}
+use borrow.Author.Tests.{eq-eqb, ne_eqb}
 use lib.Dec.{eqb}
 use mathlib.Core.Bool.{true}
 use mathlib.Core.Path.{◌≡◌}
@@ -23,7 +22,7 @@ unfolding key_code
 returns-then-not-known c =
     let passed-1 : eqb c.args.room sizes.base ≡ true = eq-eqb c.args.room sizes.base c.if-room-ne-BASE.false in
     let passed-2 : c.args.ok ≡ true = c.if-not-ok.false in
-    simp ( ← c.home_of-site.ensures, passed-1, passed-2, ← c.is_key-known.ensures, c.if-not-known.true, )
+    simp (← c.home_of-site.ensures, passed-1, passed-2, ← c.is_key-known.ensures, c.if-not-known.true)
 
 pub returns-then-site-own : goal.returns-then-site-own
 unfolding key_code
@@ -31,7 +30,7 @@ returns-then-site-own c =
     let passed-1 : eqb c.args.room sizes.base ≡ true = eq-eqb c.args.room sizes.base c.if-room-ne-BASE.false in
     let passed-2 : c.args.ok ≡ true = c.if-not-ok.false in
     let passed-3 : c.is_key-known.result ≡ true = c.if-not-known.false in
-    simp ( ← c.home_of-site.ensures, passed-1, passed-2, ← c.is_key-known.ensures, passed-3, ne_eqb c.home_of-site.result c.args.own c.if-site-own.true, )
+    simp (← c.home_of-site.ensures, passed-1, passed-2, ← c.is_key-known.ensures, passed-3, ne_eqb c.home_of-site.result c.args.own c.if-site-own.true)
 
 pub returns : goal.returns
 unfolding key_code
@@ -40,4 +39,4 @@ returns c =
     let passed-2 : c.args.ok ≡ true = c.if-not-ok.false in
     let passed-3 : c.is_key-known.result ≡ true = c.if-not-known.false in
     let passed-4 : eqb c.home_of-site.result c.args.own ≡ true = eq-eqb c.home_of-site.result c.args.own c.if-site-own.false in
-    simp ( ← c.home_of-site.ensures, passed-1, passed-2, ← c.is_key-known.ensures, passed-3, passed-4, )
+    simp (← c.home_of-site.ensures, passed-1, passed-2, ← c.is_key-known.ensures, passed-3, passed-4)

@@ -1,7 +1,5 @@
 -- The cause is the value's.
 use mathlib.Core.Path.{sym, ◌∙◌}
-use borrow.Author.Rules.{rules}
-use borrow.Author.Tests.{not-true, not-false}
 use Rattle.rules.specs.Access.{long_code}
 use Rattle.site.proofs.access.long_code.Goals as goal
 

@@ -3,7 +3,6 @@ use mathlib.Core.Path.{◌≡◌, sym, ◌∙◌}
 use Prim.Native.Nat.{ℕ}
 use mathlib.Core.List.{[]}
 use native.Mathlib.Omega.{arith}
-use borrow.Author.Rules.{rules}
 use borrow.Author.Tests.{eq-eqb, ne_eqb}
 use lib.ListN.{length}
 use Rattle.kinds.specs.declared.Site.{Site}
@@ -22,14 +21,14 @@ returns-then-code-ne0 c =
     let handed : Site = let a = c.args in site_of a.p a.live.now a.history.now in
     let at : c.place_of-place.result ≡ place_of handed.live c.args.tx = c.place_of-place.ensures c.args.live.now in
     let code_at : ℕ → ℕ = λ place. access_code (site_ok handed) (length c.args.base.now) handed.house handed.counters.own c.args.key place (stage_at handed.live place) in
-    let first : c.access_code-code.result ≡ code_at c.place_of-place.result = rw ( ← c.site_ok-ok.ensures, ← c.lent_house-house.ensures, ← c.stage_at-stage.ensures c.args.live.now, ) c.access_code-code.ensures in
+    let first : c.access_code-code.result ≡ code_at c.place_of-place.result = rw (← c.site_ok-ok.ensures, ← c.lent_house-house.ensures, ← c.stage_at-stage.ensures c.args.live.now) c.access_code-code.ensures in
     rw (← at, ← first, ne_eqb c.access_code-code.result 0 c.if-code-ne0.true) (c.refused.ensures _ _ [])
 
 pub read_at-requires : goal.read_at-requires
 read_at-requires c =
     let handed : Site = let a = c.args in site_of a.p a.live.now a.history.now in
     let code_at : ℕ → ℕ = λ place. access_code (site_ok handed) (length c.args.base.now) handed.house handed.counters.own c.args.key place (stage_at handed.live place) in
-    let first : c.access_code-code.result ≡ code_at c.place_of-place.result = rw ( ← c.site_ok-ok.ensures, ← c.lent_house-house.ensures, ← c.stage_at-stage.ensures c.args.live.now, ) c.access_code-code.ensures in
+    let first : c.access_code-code.result ≡ code_at c.place_of-place.result = rw (← c.site_ok-ok.ensures, ← c.lent_house-house.ensures, ← c.stage_at-stage.ensures c.args.live.now) c.access_code-code.ensures in
     let clear : let place = c.place_of-place.result in AccessClear (site_ok handed) (length c.args.base.now) handed.house handed.counters.own c.args.key place (stage_at handed.live place) = access_clear _ _ _ _ _ _ _ (sym first ∙ c.if-code-ne0.false) in
     let h = clear in
     let k = h.key in
@@ -43,5 +42,5 @@ returns c =
     let handed : Site = let a = c.args in site_of a.p a.live.now a.history.now in
     let at : c.place_of-place.result ≡ place_of handed.live c.args.tx = c.place_of-place.ensures c.args.live.now in
     let code_at : ℕ → ℕ = λ place. access_code (site_ok handed) (length c.args.base.now) handed.house handed.counters.own c.args.key place (stage_at handed.live place) in
-    let first : c.access_code-code.result ≡ code_at c.place_of-place.result = rw ( ← c.site_ok-ok.ensures, ← c.lent_house-house.ensures, ← c.stage_at-stage.ensures c.args.live.now, ) c.access_code-code.ensures in
+    let first : c.access_code-code.result ≡ code_at c.place_of-place.result = rw (← c.site_ok-ok.ensures, ← c.lent_house-house.ensures, ← c.stage_at-stage.ensures c.args.live.now) c.access_code-code.ensures in
     rw (← at, ← first, eq-eqb c.access_code-code.result 0 c.if-code-ne0.false) c.read_at.ensures

@@ -1,7 +1,6 @@
 -- The seat has the stage of its part; past the table stands a free place.
 use mathlib.Core.Path.{sym, ap}
 use native.Mathlib.Omega.{arith}
-use borrow.Author.Rules.{rules}
 use lib.ListN.{get_or-eq_default}
 use Rattle.kinds.specs.State.{past_sub}
 use Rattle.lent.specs.Laws.{live_at, live_length}

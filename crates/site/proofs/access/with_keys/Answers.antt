@@ -1,5 +1,4 @@
 -- The part has the keys, and nothing is sent.
-use borrow.Author.Rules.{rules}
 use Rattle.rules.specs.Effect.{taken_of}
 use Rattle.site.proofs.access.with_keys.Goals as goal
 

@@ -2,7 +2,6 @@
 use mathlib.Core.Path.{◌≡◌, ◌∙◌}
 use mathlib.Core.List.{[]}
 use Prim.Native.Nat.{ℕ}
-use borrow.Author.Rules.{rules}
 use Rattle.kinds.specs.State.{sub_at, with_keys}
 use Rattle.kinds.specs.declared.Value.{Value}
 use Rattle.kinds.specs.declared.Keys.{Keys}

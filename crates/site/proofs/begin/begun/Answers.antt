@@ -1,5 +1,4 @@
 -- The new part, with the next serial.
-use borrow.Author.Rules.{rules}
 use Rattle.rules.specs.Begin.{begun}
 use Rattle.rules.specs.Effect.{taken_of}
 use Rattle.site.proofs.begin.begun.Goals as goal

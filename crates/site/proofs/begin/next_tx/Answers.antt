@@ -1,5 +1,4 @@
 -- The own number and the next serial.
-use borrow.Author.Rules.{rules}
 use Rattle.rules.specs.Begin.{next_tx}
 use Rattle.site.proofs.begin.next_tx.Goals as goal
 

@@ -3,7 +3,6 @@ use mathlib.Core.Path.{◌≡◌, sym, ◌∙◌}
 use mathlib.Core.Bool.{Bool}
 use mathlib.Core.List.{[]}
 use Prim.Native.Nat.{ℕ, ◌-◌, ◌<◌}
-use borrow.Author.Rules.{rules}
 use borrow.Author.Tests.{leb-false, ne_eqb}
 use lib.Dec.{eqb}
 use lib.ListN.{get_or}
@@ -74,7 +73,7 @@ enlist_step-a-requires c =
     let first : c.joiner_code-code.result ≡ code_at handed c.turn_at-t.result c.args.site = c.joiner_code-code.ensures ∙ code _ _ _ _ _ _ c.in_mask-there.ensures c.channel_spent-spent.ensures in
     let p = c.requires.sendable in
     let clear = sym first ∙ c.if-code-ne0.false in
-    record { long = p.long; first = p.first; last = p.last; low = low handed c.args.place c.args.site _ turned clear; }
+    record { long = p.long; first = p.first; last = p.last; low = low handed c.args.place c.args.site _ turned clear }
 
 pub settled-requires : goal.settled-requires
 settled-requires c =

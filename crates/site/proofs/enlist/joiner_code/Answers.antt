@@ -18,8 +18,8 @@ returns-then-there c = simp (eq-eqb c.args.stage stage.active c.if-stage-ne-ACTI
 
 pub returns-then-spent : goal.returns-then-spent
 unfolding joiner_code
-returns-then-spent c = simp ( eq-eqb c.args.stage stage.active c.if-stage-ne-ACTIVE.false, c.if-own.false, c.if-there.false, c.if-spent.true, )
+returns-then-spent c = simp (eq-eqb c.args.stage stage.active c.if-stage-ne-ACTIVE.false, c.if-own.false, c.if-there.false, c.if-spent.true)
 
 pub returns : goal.returns
 unfolding joiner_code
-returns c = simp ( eq-eqb c.args.stage stage.active c.if-stage-ne-ACTIVE.false, c.if-own.false, c.if-there.false, c.if-spent.false, )
+returns c = simp (eq-eqb c.args.stage stage.active c.if-stage-ne-ACTIVE.false, c.if-own.false, c.if-there.false, c.if-spent.false)

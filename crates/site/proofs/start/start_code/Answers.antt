@@ -2,8 +2,7 @@
 use mathlib.Core.Path.{◌≡◌, sym, ap, ◌∙◌}
 use mathlib.Core.Bool.{true}
 use native.Mathlib.Omega.{arith}
-use borrow.Author.Rules.{rules}
-use borrow.Author.Tests.{eq-eqb, ne_eqb, not-false, not-true}
+use borrow.Author.Tests.{eq-eqb, ne_eqb}
 use lib.Dec.{eqb}
 use lib.ListN.{length}
 use Rattle.kinds.specs.declared.House.{House}
@@ -54,7 +53,7 @@ returns-then-lists-ne-LISTS c =
     let length-good : (let a = c.args in eqb (length a.firsts.now) a.sites ≡ true) = eq-eqb _ _ c.if-firsts-sites.false in
     let own-told : (let a = c.args in c.is_site.result ≡ is_site (house_of a.sites a.firsts.now) a.own) = let a = c.args in c.is_site.ensures ∙ ap (λ (h : House). is_site h a.own) c.house_of-house.ensures in
     let own-good : (let a = c.args in is_site (house_of a.sites a.firsts.now) a.own ≡ true) = sym own-told ∙ c.if-not-is_site.false in
-    simp ( count-good, length-good, own-good, eq-eqb _ _ c.if-base-ne-BASE.false, ne_eqb _ _ c.if-lists-ne-LISTS.true, )
+    simp (count-good, length-good, own-good, eq-eqb _ _ c.if-base-ne-BASE.false, ne_eqb _ _ c.if-lists-ne-LISTS.true)
 
 pub table_ok-requires : goal.table_ok-requires
 table_ok-requires c =
@@ -69,7 +68,7 @@ returns-then-not-table_ok c =
     let length-good : (let a = c.args in eqb (length a.firsts.now) a.sites ≡ true) = eq-eqb _ _ c.if-firsts-sites.false in
     let own-told : (let a = c.args in c.is_site.result ≡ is_site (house_of a.sites a.firsts.now) a.own) = let a = c.args in c.is_site.ensures ∙ ap (λ (h : House). is_site h a.own) c.house_of-house.ensures in
     let own-good : (let a = c.args in is_site (house_of a.sites a.firsts.now) a.own ≡ true) = sym own-told ∙ c.if-not-is_site.false in
-    simp ( count-good, length-good, own-good, eq-eqb _ _ c.if-base-ne-BASE.false, eq-eqb _ _ c.if-lists-ne-LISTS.false, sym c.table_ok.ensures ∙ c.if-not-table_ok.true, )
+    simp (count-good, length-good, own-good, eq-eqb _ _ c.if-base-ne-BASE.false, eq-eqb _ _ c.if-lists-ne-LISTS.false, sym c.table_ok.ensures ∙ c.if-not-table_ok.true)
 
 pub returns : goal.returns
 unfolding start_code
@@ -78,4 +77,4 @@ returns c =
     let length-good : (let a = c.args in eqb (length a.firsts.now) a.sites ≡ true) = eq-eqb _ _ c.if-firsts-sites.false in
     let own-told : (let a = c.args in c.is_site.result ≡ is_site (house_of a.sites a.firsts.now) a.own) = let a = c.args in c.is_site.ensures ∙ ap (λ (h : House). is_site h a.own) c.house_of-house.ensures in
     let own-good : (let a = c.args in is_site (house_of a.sites a.firsts.now) a.own ≡ true) = sym own-told ∙ c.if-not-is_site.false in
-    simp ( count-good, length-good, own-good, eq-eqb _ _ c.if-base-ne-BASE.false, eq-eqb _ _ c.if-lists-ne-LISTS.false, sym c.table_ok.ensures ∙ c.if-not-table_ok.false, )
+    simp (count-good, length-good, own-good, eq-eqb _ _ c.if-base-ne-BASE.false, eq-eqb _ _ c.if-lists-ne-LISTS.false, sym c.table_ok.ensures ∙ c.if-not-table_ok.false)
