@@ -1,5 +1,5 @@
 -- Each return is the first cause, or none.
-use borrow.Author.Tests.{eq-eqb, ne_eqb, not-false, not-true}
+use borrow.Author.Tests.{eq-eqb, ne_eqb}
 use Rattle.rules.specs.Commit.{abandon_code}
 use Rattle.kinds.specs.Stage as stage
 use Rattle.saves.proofs.abandon.abandon_code.Goals as goal

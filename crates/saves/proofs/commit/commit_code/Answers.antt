@@ -1,7 +1,7 @@
 -- Each return is the first cause, or none.
 use mathlib.Core.Path.{◌≡◌}
 use mathlib.Core.Bool.{true}
-use borrow.Author.Tests.{eq-eqb, ne_eqb, not-false, not-true}
+use borrow.Author.Tests.{eq-eqb, ne_eqb}
 use lib.Dec.{eqb}
 use Rattle.rules.specs.Commit.{commit_code}
 use Rattle.kinds.specs.Stage as stage

@@ -2,7 +2,6 @@
 use Prim.Native.Nat.{ℕ}
 use mathlib.Core.Path.{◌≡◌, sym, ◌∙◌}
 use mathlib.Core.Bool.{Bool, true, false}
-use borrow.Author.Rules.{rules}
 use borrow.Author.Tests.{eq-eqb, ne_eqb}
 use lib.ListN.{length}
 use Rattle.kinds.specs.State.{sub_at}
@@ -80,11 +79,11 @@ pub returns : goal.returns
 returns c =
     let handed : Site = let a = c.args in site_of a.p a.live.now a.history.now in
     let turned : c.turn_at-t.result ≡ turn_at handed c.args.place = c.turn_at-t.ensures c.args.history.now in
-    let listing : is_full handed c.args.place ≡ false = not_full handed c.args.place _ turned c.if-t-ne0.false in
+    let unfull : is_full handed c.args.place ≡ false = not_full handed c.args.place _ turned c.if-t-ne0.false in
     let lost : is_lost handed c.args.place ≡ c.is_forgotten.result = lost-is handed c.args.place _ c.is_forgotten.result turned c.is_forgotten.ensures in
     let a = c.args in
     let l = lost ∙ c.if-is_forgotten.false in
-    let e = commit_request handed a.place listing l in
-    let made = lists_made handed a.place a.lists.now listing l in
+    let e = commit_request handed a.place unfull l in
+    let made = lists_made handed a.place a.lists.now unfull l in
     let r = c.list_step.ensures in
     record { value = rw e r.result_value; lists_after = rw made r.lists_after; out_after = rw e r.out_after }

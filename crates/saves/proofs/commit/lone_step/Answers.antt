@@ -3,7 +3,6 @@ use Prim.Native.Nat.{ℕ, ◌*◌, ◌≤◌}
 use mathlib.Core.Path.{◌≡◌, sym, ap, ◌∙◌}
 use mathlib.Core.List.{List}
 use native.Mathlib.Omega.{arith}
-use borrow.Author.Rules.{rules}
 use lib.ListN.{length, take}
 use Rattle.kinds.specs.Sizes as sizes
 use Rattle.kinds.specs.declared.Site.{Site}
@@ -52,7 +51,7 @@ vote_of-v-requires c =
     let few : c.join-k.result ≤ sizes.conc_entries = omega (arith, c.join-k.ensures.upper_bound.0, c.requires.own.few) in
     let own = c.requires.own in
     let l = long in
-    record { valid = own.possible; low = own.low; entries = record { few = omega (arith, few); lie = omega (arith, l) }; }
+    record { valid = own.possible; low = own.low; entries = record { few = omega (arith, few); lie = omega (arith, l) } }
 
 pub slice_bounds-list-end-2 : goal.slice_bounds-list-end-2
 slice_bounds-list-end-2 c =

@@ -3,7 +3,6 @@ use Prim.Native.Nat.{ℕ}
 use mathlib.Core.Path.{◌≡◌, sym, ap, ◌∙◌}
 use mathlib.Core.Bool.{Bool, true, false}
 use mathlib.Core.List.{List}
-use borrow.Author.Rules.{rules}
 use lib.ListN.{length}
 use Rattle.kinds.specs.State.{sub_at}
 use Rattle.kinds.specs.declared.Course.{Course}
@@ -64,14 +63,14 @@ all_heard-requires c =
 pub lone_step-requires : goal.lone_step-requires
 lone_step-requires c =
     let handed : Site = let a = c.args in site_of a.p a.live.now a.history.now in
-    let asked : Asked handed c.args.place c.args.n c.turn_at-t.result c.with_course-u.result c.with_request-c.result = record { turned = c.turn_at-t.ensures c.args.history.now; course = c.with_request-c.ensures; asked = c.with_course-u.ensures; } in
+    let asked : Asked handed c.args.place c.args.n c.turn_at-t.result c.with_course-u.result c.with_request-c.result = record { turned = c.turn_at-t.ensures c.args.history.now; course = c.with_request-c.ensures; asked = c.with_course-u.ensures } in
     let can : CanSendAll c.with_course-u.result (length c.args.out.now) = sendable handed c.args.place c.args.n _ _ _ _ asked c.requires.can_send_all in
     record { own = c.requires.own; can_send_all = can }
 
 pub returns-then-all_heard : goal.returns-then-all_heard
 returns-then-all_heard c =
     let handed : Site = let a = c.args in site_of a.p a.live.now a.history.now in
-    let asked : Asked handed c.args.place c.args.n c.turn_at-t.result c.with_course-u.result c.with_request-c.result = record { turned = c.turn_at-t.ensures c.args.history.now; course = c.with_request-c.ensures; asked = c.with_course-u.ensures; } in
+    let asked : Asked handed c.args.place c.args.n c.turn_at-t.result c.with_course-u.result c.with_request-c.result = record { turned = c.turn_at-t.ensures c.args.history.now; course = c.with_request-c.ensures; asked = c.with_course-u.ensures } in
     let count : entry_count c.args.own.now ≡ c.args.n = whole_count c.args.own.now c.args.n c.requires.own.long in
     let lone : all_heard handed.counters.own 0 (sub_at handed c.args.place).course.mask ≡ c.all_heard.result = alone handed c.args.place c.args.n _ _ _ c.all_heard.result asked c.all_heard.ensures in
     let a = c.args in
@@ -82,14 +81,14 @@ returns-then-all_heard c =
 pub prepare_step-requires : goal.prepare_step-requires
 prepare_step-requires c =
     let handed : Site = let a = c.args in site_of a.p a.live.now a.history.now in
-    let asked : Asked handed c.args.place c.args.n c.turn_at-t.result c.with_course-u.result c.with_request-c.result = record { turned = c.turn_at-t.ensures c.args.history.now; course = c.with_request-c.ensures; asked = c.with_course-u.ensures; } in
+    let asked : Asked handed c.args.place c.args.n c.turn_at-t.result c.with_course-u.result c.with_request-c.result = record { turned = c.turn_at-t.ensures c.args.history.now; course = c.with_request-c.ensures; asked = c.with_course-u.ensures } in
     let can : CanSendAll c.with_course-u.result (length c.args.out.now) = sendable handed c.args.place c.args.n _ _ _ _ asked c.requires.can_send_all in
     can
 
 pub returns : goal.returns
 returns c =
     let handed : Site = let a = c.args in site_of a.p a.live.now a.history.now in
-    let asked : Asked handed c.args.place c.args.n c.turn_at-t.result c.with_course-u.result c.with_request-c.result = record { turned = c.turn_at-t.ensures c.args.history.now; course = c.with_request-c.ensures; asked = c.with_course-u.ensures; } in
+    let asked : Asked handed c.args.place c.args.n c.turn_at-t.result c.with_course-u.result c.with_request-c.result = record { turned = c.turn_at-t.ensures c.args.history.now; course = c.with_request-c.ensures; asked = c.with_course-u.ensures } in
     let count : entry_count c.args.own.now ≡ c.args.n = whole_count c.args.own.now c.args.n c.requires.own.long in
     let lone : all_heard handed.counters.own 0 (sub_at handed c.args.place).course.mask ≡ c.all_heard.result = alone handed c.args.place c.args.n _ _ _ c.all_heard.result asked c.all_heard.ensures in
     let a = c.args in
