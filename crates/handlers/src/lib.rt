@@ -1,4 +1,7 @@
 // A handler for each kind of message, for a transaction held at a place.
+
+#![tactic(auto)]
+
 pub mod codes;
 pub mod coordinator;
 pub mod gather;

@@ -1,5 +1,4 @@
 -- Each return is the first cause, or none.
-use borrow.Author.Tests.{not-false, not-true}
 use Rattle.rules.specs.Deliver.{reply_code}
 use Rattle.handlers.proofs.codes.reply_code.Goals as goal
 

@@ -1,6 +1,4 @@
 -- The test of the counts, where a message is due.
-use borrow.Author.Rules.{rules}
-use borrow.Author.Tests.{not-false, not-true}
 use Rattle.laws.specs.Choice.{pick_self}
 use Rattle.handlers.proofs.coordinator.all_spent.Goals as goal
 

@@ -1,5 +1,4 @@
 -- The stage and the reply that is wanted are the rule's tests.
-use borrow.Author.Rules.{rules}
 use borrow.Author.Tests.{eq-eqb, ne_eqb}
 use Rattle.laws.specs.Choice.{pick_self}
 use Rattle.rules.specs.Deliver.{conc_in_turn}

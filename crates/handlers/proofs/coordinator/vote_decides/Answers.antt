@@ -1,5 +1,4 @@
 -- A no decides, and the last yes.
-use borrow.Author.Rules.{rules}
 use borrow.Author.Tests.{eq-eqb, ne_eqb}
 use Rattle.laws.specs.Choice.{pick_self}
 use Rattle.rules.specs.Course.{vote_decides}

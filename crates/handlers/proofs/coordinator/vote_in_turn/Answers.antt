@@ -1,5 +1,4 @@
 -- The stage, the vote and the reply that is wanted are the rule's tests.
-use borrow.Author.Rules.{rules}
 use borrow.Author.Tests.{eq-eqb, ne_eqb}
 use Rattle.laws.specs.Choice.{pick_self}
 use Rattle.rules.specs.Deliver.{vote_in_turn}
@@ -20,10 +19,10 @@ pub returns-then-vote-eq0 : goal.returns-then-vote-eq0
 unfolding vote_in_turn
 returns-then-vote-eq0 c =
     let a = c.args in
-    simp ( ne_eqb a.c.stage stage.queued c.if-stage-eq-QUEUED.false, eq-eqb a.c.stage stage.prepared c.if-stage-ne-PREPARED.false, eq-eqb a.vote 0 c.if-vote-eq0.true, )
+    simp (ne_eqb a.c.stage stage.queued c.if-stage-eq-QUEUED.false, eq-eqb a.c.stage stage.prepared c.if-stage-ne-PREPARED.false, eq-eqb a.vote 0 c.if-vote-eq0.true)
 
 pub returns : goal.returns
 unfolding vote_in_turn
 returns c =
     let a = c.args in
-    simp ( ne_eqb a.c.stage stage.queued c.if-stage-eq-QUEUED.false, eq-eqb a.c.stage stage.prepared c.if-stage-ne-PREPARED.false, ne_eqb a.vote 0 c.if-vote-eq0.false, ← c.is_outstanding-wanted.ensures, pick_self, )
+    simp (ne_eqb a.c.stage stage.queued c.if-stage-eq-QUEUED.false, eq-eqb a.c.stage stage.prepared c.if-stage-ne-PREPARED.false, ne_eqb a.vote 0 c.if-vote-eq0.false, ← c.is_outstanding-wanted.ensures, pick_self)

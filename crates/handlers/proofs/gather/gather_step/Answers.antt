@@ -4,8 +4,6 @@ use mathlib.Core.Path.{◌≡◌, sym, ap, ◌∙◌}
 use mathlib.Core.Bool.{Bool, true, false}
 use mathlib.Core.List.{List}
 use native.Mathlib.Omega.{arith}
-use borrow.Author.Rules.{rules}
-use borrow.Author.Tests.{not-false, not-true}
 use Rattle.laws.specs.Overlay.{overlay, overlay_none}
 use Rattle.kinds.specs.Sizes as sizes
 use Rattle.kinds.specs.State.{sub_at}

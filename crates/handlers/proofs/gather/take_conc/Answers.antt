@@ -4,7 +4,6 @@ use mathlib.Core.Path.{◌≡◌, refl, sym, ap, ◌∙◌}
 use mathlib.Core.Bool.{Bool, true}
 use mathlib.Core.List.{List, [], ◌∷◌, ◌++◌}
 use native.Mathlib.Omega.{arith}
-use borrow.Author.Rules.{rules}
 use borrow.Author.Tests.{eq-eqb, ne_eqb, not-false}
 use lib.ListN.{drop, length, take}
 use Rattle.laws.specs.Choice.{every}
@@ -125,7 +124,7 @@ overflow_mul-at c =
     let turned : c.turn_at-part.result ≡ turn_at handed c.args.place = c.turn_at-part.ensures c.args.history.now in
     let first : c.reply_code-code.result ≡ against handed c.args.h c.args.place = c.reply_code-code.ensures ∙ coded handed c.args.h c.args.place _ turned _ _ _ _ c.conc_in_turn-turn.ensures c.with_heard-next.ensures c.all_heard-due.ensures c.all_spent-spent.ensures in
     let clear : against handed c.args.h c.args.place ≡ 0 = sym first ∙ c.if-code-ne0.false in
-    let fits : let a = c.args in Fits (length a.lists.now) a.place a.h.count c.turn_at-part.result = let held = c.requires.held.0 in let l = c.requires.listing.0 in record { low = held.low; few = room handed c.args.h c.args.place _ turned held.possible held.arriving held.low l.few l.other (clear); whole = c.requires.held.1; } in
+    let fits : let a = c.args in Fits (length a.lists.now) a.place a.h.count c.turn_at-part.result = let held = c.requires.held.0 in let l = c.requires.listing.0 in record { low = held.low; few = room handed c.args.h c.args.place _ turned held.possible held.arriving held.low l.few l.other (clear); whole = c.requires.held.1 } in
     let f = fits in
     omega (arith, f.low)
 
@@ -135,7 +134,7 @@ overflow_mul-at-2 c =
     let turned : c.turn_at-part.result ≡ turn_at handed c.args.place = c.turn_at-part.ensures c.args.history.now in
     let first : c.reply_code-code.result ≡ against handed c.args.h c.args.place = c.reply_code-code.ensures ∙ coded handed c.args.h c.args.place _ turned _ _ _ _ c.conc_in_turn-turn.ensures c.with_heard-next.ensures c.all_heard-due.ensures c.all_spent-spent.ensures in
     let clear : against handed c.args.h c.args.place ≡ 0 = sym first ∙ c.if-code-ne0.false in
-    let fits : let a = c.args in Fits (length a.lists.now) a.place a.h.count c.turn_at-part.result = let held = c.requires.held.0 in let l = c.requires.listing.0 in record { low = held.low; few = room handed c.args.h c.args.place _ turned held.possible held.arriving held.low l.few l.other (clear); whole = c.requires.held.1; } in
+    let fits : let a = c.args in Fits (length a.lists.now) a.place a.h.count c.turn_at-part.result = let held = c.requires.held.0 in let l = c.requires.listing.0 in record { low = held.low; few = room handed c.args.h c.args.place _ turned held.possible held.arriving held.low l.few l.other (clear); whole = c.requires.held.1 } in
     let f = fits in
     omega (arith, f.few)
 
@@ -145,7 +144,7 @@ overflow_add-at c =
     let turned : c.turn_at-part.result ≡ turn_at handed c.args.place = c.turn_at-part.ensures c.args.history.now in
     let first : c.reply_code-code.result ≡ against handed c.args.h c.args.place = c.reply_code-code.ensures ∙ coded handed c.args.h c.args.place _ turned _ _ _ _ c.conc_in_turn-turn.ensures c.with_heard-next.ensures c.all_heard-due.ensures c.all_spent-spent.ensures in
     let clear : against handed c.args.h c.args.place ≡ 0 = sym first ∙ c.if-code-ne0.false in
-    let fits : let a = c.args in Fits (length a.lists.now) a.place a.h.count c.turn_at-part.result = let held = c.requires.held.0 in let l = c.requires.listing.0 in record { low = held.low; few = room handed c.args.h c.args.place _ turned held.possible held.arriving held.low l.few l.other (clear); whole = c.requires.held.1; } in
+    let fits : let a = c.args in Fits (length a.lists.now) a.place a.h.count c.turn_at-part.result = let held = c.requires.held.0 in let l = c.requires.listing.0 in record { low = held.low; few = room handed c.args.h c.args.place _ turned held.possible held.arriving held.low l.few l.other (clear); whole = c.requires.held.1 } in
     let f = fits in
     omega (arith, f.low, f.few)
 
@@ -155,7 +154,7 @@ offset_bounds-lists-at c =
     let turned : c.turn_at-part.result ≡ turn_at handed c.args.place = c.turn_at-part.ensures c.args.history.now in
     let first : c.reply_code-code.result ≡ against handed c.args.h c.args.place = c.reply_code-code.ensures ∙ coded handed c.args.h c.args.place _ turned _ _ _ _ c.conc_in_turn-turn.ensures c.with_heard-next.ensures c.all_heard-due.ensures c.all_spent-spent.ensures in
     let clear : against handed c.args.h c.args.place ≡ 0 = sym first ∙ c.if-code-ne0.false in
-    let fits : let a = c.args in Fits (length a.lists.now) a.place a.h.count c.turn_at-part.result = let held = c.requires.held.0 in let l = c.requires.listing.0 in record { low = held.low; few = room handed c.args.h c.args.place _ turned held.possible held.arriving held.low l.few l.other (clear); whole = c.requires.held.1; } in
+    let fits : let a = c.args in Fits (length a.lists.now) a.place a.h.count c.turn_at-part.result = let held = c.requires.held.0 in let l = c.requires.listing.0 in record { low = held.low; few = room handed c.args.h c.args.place _ turned held.possible held.arriving held.low l.few l.other (clear); whole = c.requires.held.1 } in
     let f = fits in
     omega (arith, f.low, f.few)
 
@@ -165,7 +164,7 @@ slice_bounds-copy_words-count c =
     let turned : c.turn_at-part.result ≡ turn_at handed c.args.place = c.turn_at-part.ensures c.args.history.now in
     let first : c.reply_code-code.result ≡ against handed c.args.h c.args.place = c.reply_code-code.ensures ∙ coded handed c.args.h c.args.place _ turned _ _ _ _ c.conc_in_turn-turn.ensures c.with_heard-next.ensures c.all_heard-due.ensures c.all_spent-spent.ensures in
     let clear : against handed c.args.h c.args.place ≡ 0 = sym first ∙ c.if-code-ne0.false in
-    let fits : let a = c.args in Fits (length a.lists.now) a.place a.h.count c.turn_at-part.result = let held = c.requires.held.0 in let l = c.requires.listing.0 in record { low = held.low; few = room handed c.args.h c.args.place _ turned held.possible held.arriving held.low l.few l.other (clear); whole = c.requires.held.1; } in
+    let fits : let a = c.args in Fits (length a.lists.now) a.place a.h.count c.turn_at-part.result = let held = c.requires.held.0 in let l = c.requires.listing.0 in record { low = held.low; few = room handed c.args.h c.args.place _ turned held.possible held.arriving held.low l.few l.other (clear); whole = c.requires.held.1 } in
     let f = fits in
     omega (arith, f.low, f.few, f.whole)
 
@@ -175,7 +174,7 @@ slice_bounds-copy_words-start c =
     let turned : c.turn_at-part.result ≡ turn_at handed c.args.place = c.turn_at-part.ensures c.args.history.now in
     let first : c.reply_code-code.result ≡ against handed c.args.h c.args.place = c.reply_code-code.ensures ∙ coded handed c.args.h c.args.place _ turned _ _ _ _ c.conc_in_turn-turn.ensures c.with_heard-next.ensures c.all_heard-due.ensures c.all_spent-spent.ensures in
     let clear : against handed c.args.h c.args.place ≡ 0 = sym first ∙ c.if-code-ne0.false in
-    let fits : let a = c.args in Fits (length a.lists.now) a.place a.h.count c.turn_at-part.result = let held = c.requires.held.0 in let l = c.requires.listing.0 in record { low = held.low; few = room handed c.args.h c.args.place _ turned held.possible held.arriving held.low l.few l.other (clear); whole = c.requires.held.1; } in
+    let fits : let a = c.args in Fits (length a.lists.now) a.place a.h.count c.turn_at-part.result = let held = c.requires.held.0 in let l = c.requires.listing.0 in record { low = held.low; few = room handed c.args.h c.args.place _ turned held.possible held.arriving held.low l.few l.other (clear); whole = c.requires.held.1 } in
     let f = fits in
     omega (arith, f.low, f.few, f.whole)
 
@@ -185,7 +184,7 @@ copy_words-requires c =
     let turned : c.turn_at-part.result ≡ turn_at handed c.args.place = c.turn_at-part.ensures c.args.history.now in
     let first : c.reply_code-code.result ≡ against handed c.args.h c.args.place = c.reply_code-code.ensures ∙ coded handed c.args.h c.args.place _ turned _ _ _ _ c.conc_in_turn-turn.ensures c.with_heard-next.ensures c.all_heard-due.ensures c.all_spent-spent.ensures in
     let clear : against handed c.args.h c.args.place ≡ 0 = sym first ∙ c.if-code-ne0.false in
-    let fits : let a = c.args in Fits (length a.lists.now) a.place a.h.count c.turn_at-part.result = let held = c.requires.held.0 in let l = c.requires.listing.0 in record { low = held.low; few = room handed c.args.h c.args.place _ turned held.possible held.arriving held.low l.few l.other (clear); whole = c.requires.held.1; } in
+    let fits : let a = c.args in Fits (length a.lists.now) a.place a.h.count c.turn_at-part.result = let held = c.requires.held.0 in let l = c.requires.listing.0 in record { low = held.low; few = room handed c.args.h c.args.place _ turned held.possible held.arriving held.low l.few l.other (clear); whole = c.requires.held.1 } in
     let f = fits in
     let rest = length_rest c.args.lists.now (behind c.args.place c.turn_at-part.result) in
     omega (arith, f.low, f.few, f.whole, c.requires.listing.0.long, rest)
@@ -197,7 +196,7 @@ gather_step-a-requires c =
     let turned : c.turn_at-part.result ≡ turn_at handed c.args.place = c.turn_at-part.ensures c.args.history.now in
     let first : c.reply_code-code.result ≡ against handed c.args.h c.args.place = c.reply_code-code.ensures ∙ coded handed c.args.h c.args.place _ turned _ _ _ _ c.conc_in_turn-turn.ensures c.with_heard-next.ensures c.all_heard-due.ensures c.all_spent-spent.ensures in
     let clear : against handed c.args.h c.args.place ≡ 0 = sym first ∙ c.if-code-ne0.false in
-    let fits : let a = c.args in Fits (length a.lists.now) a.place a.h.count c.turn_at-part.result = let held = c.requires.held.0 in let l = c.requires.listing.0 in record { low = held.low; few = room handed c.args.h c.args.place _ turned held.possible held.arriving held.low l.few l.other (clear); whole = c.requires.held.1; } in
+    let fits : let a = c.args in Fits (length a.lists.now) a.place a.h.count c.turn_at-part.result = let held = c.requires.held.0 in let l = c.requires.listing.0 in record { low = held.low; few = room handed c.args.h c.args.place _ turned held.possible held.arriving held.low l.few l.other (clear); whole = c.requires.held.1 } in
     let gathered : let a = c.args in laid a.lists.now c.copy_words.new.out (behind a.place c.turn_at-part.result) ≡ gather_lists handed a.place a.es.now a.lists.now = gathers handed c.args.h c.args.place _ turned c.args.lists.now c.copy_words.new.out c.args.es.now c.copy_words.ensures in
     let a = c.args in
     let f = fits-as turned fits in

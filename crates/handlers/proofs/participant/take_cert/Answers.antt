@@ -2,7 +2,6 @@
 use Prim.Native.Nat.{ℕ}
 use mathlib.Core.Path.{◌≡◌, refl, sym, ap, ◌∙◌}
 use mathlib.Core.List.{[]}
-use borrow.Author.Rules.{rules}
 use borrow.Author.Tests.{eq-eqb, ne_eqb}
 use lib.Dec.{eqb}
 use Rattle.laws.specs.Overlay.{overlay, overlay_none}
@@ -25,7 +24,7 @@ first : (c : After-reply_code-code) → (let handed : Site = let a = c.args in s
 first c =
     rw (← c.arrived-t.ensures c.args.history.now, ← c.channel_spent-spent.ensures) c.reply_code-code.ensures
 
-same : (c : Start) → (let handed : Site = let a = c.args in site_of a.p a.live.now a.history.now in     let step : Change = let a = c.args in certified_step (arrived handed a.place a.h.from) a.h.from (vote_of handed a.place a.es.now a.h.count) in (t : Turn) (v : ℕ) → let a = c.args in t ≡ arrived handed a.place a.h.from → v ≡ vote_of handed a.place a.es.now a.h.count → certified_step t a.h.from v ≡ step)
+same : (c : Start) → (let handed : Site = let a = c.args in site_of a.p a.live.now a.history.now in let step : Change = let a = c.args in certified_step (arrived handed a.place a.h.from) a.h.from (vote_of handed a.place a.es.now a.h.count) in (t : Turn) (v : ℕ) → let a = c.args in t ≡ arrived handed a.place a.h.from → v ≡ vote_of handed a.place a.es.now a.h.count → certified_step t a.h.from v ≡ step)
 same c t v e f =
     rw (e, f)
 

@@ -2,7 +2,6 @@
 use Prim.Native.Nat.{ℕ}
 use mathlib.Core.Path.{◌≡◌, refl, sym, ap, ◌∙◌}
 use mathlib.Core.List.{[]}
-use borrow.Author.Rules.{rules}
 use borrow.Author.Tests.{eq-eqb, ne_eqb}
 use lib.Dec.{eqb}
 use Rattle.laws.specs.Overlay.{overlay, overlay_none}
@@ -22,13 +21,13 @@ use Rattle.handlers.proofs.Sends.{can_reply}
 use Rattle.handlers.proofs.participant.take_prepare.Goals.{After-reply_code-code}
 use Rattle.handlers.proofs.participant.take_prepare.Goals as goal
 
-turned : (c : After-reply_code-code) → (let handed : Site = let a = c.args in site_of a.p a.live.now a.history.now in     let part : Turn = raise (arrived handed c.args.place c.args.h.from) c.args.h.clock in c.raise-t.result ≡ part)
+turned : (c : After-reply_code-code) → (let handed : Site = let a = c.args in site_of a.p a.live.now a.history.now in let part : Turn = raise (arrived handed c.args.place c.args.h.from) c.args.h.clock in c.raise-t.result ≡ part)
 turned c =
     let a = c.args in
     c.raise-t.ensures ∙ ap (λ (x : Turn). raise x a.h.clock) (c.arrived-first.ensures a.history.now)
 
 -- the first cause against it
-first : (c : After-reply_code-code) → (let handed : Site = let a = c.args in site_of a.p a.live.now a.history.now in     let part : Turn = raise (arrived handed c.args.place c.args.h.from) c.args.h.clock in c.reply_code-code.result ≡ reply_code (eqb part.sub.course.stage stage.active) (channel_spent c.args.p.channels c.args.h.from))
+first : (c : After-reply_code-code) → (let handed : Site = let a = c.args in site_of a.p a.live.now a.history.now in let part : Turn = raise (arrived handed c.args.place c.args.h.from) c.args.h.clock in c.reply_code-code.result ≡ reply_code (eqb part.sub.course.stage stage.active) (channel_spent c.args.p.channels c.args.h.from))
 first c =
     let turned = turned c in
     rw (← turned, ← c.channel_spent-spent.ensures) c.reply_code-code.ensures
