@@ -1,6 +1,6 @@
 -- Refused out of turn, or where a decision cannot be sent; else the clock is raised, and the vote's step is settled.
 use Prim.Native.Nat.{ℕ, ◌≤◌}
-use mathlib.Core.Path.{◌≡◌, sym, ap, ◌∙◌}
+use mathlib.Core.Path.{◌≡◌, refl, sym, ap, ◌∙◌}
 use mathlib.Core.Bool.{true, not}
 use mathlib.Core.List.{[], ◌∷◌}
 use borrow.Author.Tests.{eq-eqb, ne_eqb, not-false}
@@ -19,10 +19,19 @@ use Rattle.rules.specs.Valid.{site_ok}
 use Rattle.rules.specs.ValidLaws.{valid_own}
 use Rattle.lent.specs.Lent.{site_of}
 use Rattle.handlers.specs.Held.{arrives, settles}
+use Rattle.handlers.proofs.coordinator.take_vote.Goals.{After-reply_code-code}
 use Rattle.handlers.proofs.coordinator.take_vote.Goals as goal
 
 abbrev part : Site → MessageHead → ℕ → Turn
 part s h place = raise (arrived s place h.from) h.clock
+
+-- the clock that it is raised to
+abbrev raised_to : MessageHead → ℕ
+raised_to h = h.clock
+
+-- the part raised to any clock: what is against the vote is the same
+abbrev part_at : Site → MessageHead → ℕ → ℕ → Turn
+part_at s h place k = raise (arrived s place h.from) k
 
 abbrev against : Site → MessageHead → Turn → ℕ
 against s h t =
@@ -31,22 +40,39 @@ against s h t =
     reply_code (vote_in_turn c h.from h.argument)
     (every (vote_decides own c h.from h.argument ∷ not (counts_low s.channels.sent c.mask own) ∷ []))
 
+alike : (s : Site) (h : MessageHead) (place k : ℕ) → against s h (part_at s h place k) ≡ against s h (part s h place)
+unfolding raise
+alike s h place k = refl
+
+turned : (c : After-reply_code-code) → (let handed : Site = let a = c.args in site_of a.p a.live.now a.history.now in c.raise-t.result ≡ part_at handed c.args.h c.args.place (raised_to c.args.h))
+turned c =
+    let a = c.args in
+    c.raise-t.ensures ∙ ap (λ (x : Turn). raise x (raised_to a.h)) (c.arrived-first.ensures a.history.now)
+
+-- the first cause against it
+first : (c : After-reply_code-code) → (let handed : Site = let a = c.args in site_of a.p a.live.now a.history.now in c.reply_code-code.result ≡ against handed c.args.h (part handed c.args.h c.args.place))
+first c =
+    let handed : Site = let a = c.args in site_of a.p a.live.now a.history.now in
+    let turned = turned c in
+    let found : c.reply_code-code.result ≡ against handed c.args.h (part_at handed c.args.h c.args.place (raised_to c.args.h)) = rw (← turned, ← c.vote_decides-due.ensures, ← c.vote_in_turn-turn.ensures, ← c.all_spent-spent.ensures) c.reply_code-code.ensures in
+    found ∙ alike handed c.args.h c.args.place _
+
 same : (h : MessageHead) (t u : Turn) → t ≡ u → vote_step t h.from h.argument ≡ vote_step u h.from h.argument
 same h t u e = rw e
 
 -- where nothing is against it, a vote that decides can be sent to all
-sends : (s : Site) (h : MessageHead) (place room : ℕ) (t : Turn) → t ≡ part s h place → site_ok s ≡ true → sizes.outgoing ≤ room
+sends : (s : Site) (h : MessageHead) (place room k : ℕ) (t : Turn) → t ≡ part_at s h place k → site_ok s ≡ true → sizes.outgoing ≤ room
     → against s h (part s h place) ≡ 0 → vote_decides t.counters.own t.sub.course h.from h.argument ≡ true → CanSendAll t room
 unfolding raise arrived
-sends s h place room t e v l z d =
+sends s h place room k t e v l z d =
     let o = valid_own s v in
     let low = counts_low_lem _ _ _ (not-false _ (not_both _ _ (reply_clear _ _ z).low (rw e at d))) in
     rw e (record { long = l; first = o.0; last = o.1; low = low })
 
-own_same : (s : Site) (h : MessageHead) (place : ℕ) (t : Turn) → t ≡ part s h place → site_ok s ≡ true
+own_same : (s : Site) (h : MessageHead) (place k : ℕ) (t : Turn) → t ≡ part_at s h place k → site_ok s ≡ true
     → (1 ≤ t.counters.own) × (t.counters.own ≤ sizes.sites)
 unfolding raise arrived
-own_same s h place t e v = rw e (valid_own s v)
+own_same s h place k t e v = rw e (valid_own s v)
 
 pub arrived-first-requires : goal.arrived-first-requires
 arrived-first-requires c = arrives c.requires.held
@@ -65,21 +91,19 @@ vote_decides-due-requires c =
 pub returns-then-code-ne0 : goal.returns-then-code-ne0
 unfolding take_vote
 returns-then-code-ne0 c =
-    let handed : Site = let a = c.args in site_of a.p a.live.now a.history.now in
-    let turned : c.raise-t.result ≡ part handed c.args.h c.args.place = let a = c.args in c.raise-t.ensures ∙ ap (λ (x : Turn). raise x a.h.clock) (c.arrived-first.ensures a.history.now) in
-    let first : c.reply_code-code.result ≡ against handed c.args.h (part handed c.args.h c.args.place) = rw (← turned, ← c.vote_decides-due.ensures, ← c.vote_in_turn-turn.ensures, ← c.all_spent-spent.ensures) c.reply_code-code.ensures in
+    let first = first (goal.at.returns-then-code-ne0 c).After-reply_code-code in
     let n = ne_eqb c.reply_code-code.result 0 c.if-code-ne0.true in
     record { replied = rw (← first, n) (c.refused.ensures _ _ []); out_after = rw (← first, n) (overlay_none c.args.out.now) }
 
 pub vote_step-a-requires : goal.vote_step-a-requires
 vote_step-a-requires c =
     let handed : Site = let a = c.args in site_of a.p a.live.now a.history.now in
-    let turned : c.raise-t.result ≡ part handed c.args.h c.args.place = let a = c.args in c.raise-t.ensures ∙ ap (λ (x : Turn). raise x a.h.clock) (c.arrived-first.ensures a.history.now) in
-    let first : c.reply_code-code.result ≡ against handed c.args.h (part handed c.args.h c.args.place) = rw (← turned, ← c.vote_decides-due.ensures, ← c.vote_in_turn-turn.ensures, ← c.all_spent-spent.ensures) c.reply_code-code.ensures in
+    let turned = turned (goal.at.vote_step-a-requires c).After-reply_code-code in
+    let first = first (goal.at.vote_step-a-requires c).After-reply_code-code in
     let a = c.args in
     let held = c.requires.held in
     let z = sym first ∙ c.if-code-ne0.false in
-    record { can_send_all = sends handed a.h a.place _ _ turned held.possible c.requires.outgoing_in_bounds z; le_site = ((held.arriving.first, held.arriving.last), own_same handed a.h a.place _ turned held.possible) }
+    record { can_send_all = sends handed a.h a.place _ _ _ turned held.possible c.requires.outgoing_in_bounds z; le_site = ((held.arriving.first, held.arriving.last), own_same handed a.h a.place _ _ turned held.possible) }
 
 pub settled-requires : goal.settled-requires
 settled-requires c = settles c.requires.held
@@ -88,8 +112,8 @@ pub returns : goal.returns
 unfolding take_vote
 returns c =
     let handed : Site = let a = c.args in site_of a.p a.live.now a.history.now in
-    let turned : c.raise-t.result ≡ part handed c.args.h c.args.place = let a = c.args in c.raise-t.ensures ∙ ap (λ (x : Turn). raise x a.h.clock) (c.arrived-first.ensures a.history.now) in
-    let first : c.reply_code-code.result ≡ against handed c.args.h (part handed c.args.h c.args.place) = rw (← turned, ← c.vote_decides-due.ensures, ← c.vote_in_turn-turn.ensures, ← c.all_spent-spent.ensures) c.reply_code-code.ensures in
+    let turned = turned (goal.at.returns c).After-reply_code-code in
+    let first = first (goal.at.returns c).After-reply_code-code in
     let a = c.args in
     let z = eq-eqb c.reply_code-code.result 0 c.if-code-ne0.false in
     let change = vote_step (part handed a.h a.place) a.h.from a.h.argument in
