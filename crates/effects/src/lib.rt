@@ -1,13 +1,13 @@
 // A probe's lines as calls of a site, the merger or a copy, as conversions, or as a record's bytes, and what each call leaves.
 #![tactic(auto)]
 
-mod bookmarks;
 mod bytes;
+mod conversions;
 mod sites;
 mod streams;
 
-pub use bookmarks::at_bookmarks;
 pub use bytes::at_bytes;
+pub use conversions::at_bookmarks;
 use kinds::reason::MALFORMED;
 use kinds::sizes::SITES;
 use kinds::{Answer, Key};
