@@ -5,4 +5,5 @@ pub mod Word
 pub mod Stage
 pub mod Desk
 pub mod Reason
+pub mod Refusal
 pub mod State

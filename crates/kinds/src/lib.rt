@@ -5,10 +5,12 @@
 pub mod desk;
 pub mod kind;
 pub mod reason;
+pub mod refusal;
 pub mod sizes;
 pub mod stage;
 pub mod word;
 
+pub use refusal::Refusal;
 use sizes::{HISTORY, LIVE, READS, SITES, WRITES};
 
 // Keys are below 2,048 (S2).
