@@ -2,7 +2,7 @@
 
 #![tactic(auto)]
 
-ghost use Rattle.std.specs.Prelude.{◌≡◌, true, List, ℕ, ◌+◌, ◌*◌, ◌≤◌, ◌<◌, leb, eqb, length};
+ghost use Rattle.std.specs.Prelude.{◌≡◌, true, List, ℕ, ◌+◌, ◌*◌, ◌≤◌, ◌<◌, leb, eqb, length, unwrap_or, IfSome};
 ghost use Rattle.laws.specs.Choice.{pick};
 ghost use Rattle.kinds.specs.Sizes as sizes;
 ghost use Rattle.kinds.specs.Stage as stages;
@@ -18,44 +18,34 @@ use kinds::word::PLACE_KEYS;
 use kinds::{Key, Seat};
 use numbers::{participants, replies_wanted};
 
-// The first free place of lent seats, or their number.
-pub fn free_in(seats: &[Seat]) -> usize
-    ensures { result ≡ free_in seats.now }
+// The first free place of lent seats.
+pub fn free_in(seats: &[Seat]) -> Option<usize>
+    ensures first { unwrap_or result (length seats.now) ≡ free_in seats.now }
+    ensures bound { IfSome result (λ i. i < length seats.now) }
 {
-    let mut i: usize = 0;
-    while i < seats.len() {
-        if seats[i].stage == FREE {
-            return i;
-        }
-        i += 1;
-    }
-    i
+    seats.iter().position(|seat| seat.stage == FREE)
 }
 
-// The first free place, or `LIVE`.
-pub fn free_place(seats: [Seat; LIVE]) -> usize
-    ensures { (w : List ℕ) → result ≡ free_place (live_of seats w) }
+// The first free place.
+pub fn free_place(seats: [Seat; LIVE]) -> Option<usize>
+    ensures first { (w : List ℕ) → unwrap_or result sizes.live ≡ free_place (live_of seats w) }
+    ensures bound { IfSome result (λ i. i < sizes.live) }
 {
     free_in(&seats)
 }
 
-// The place of the part of `tx` among lent seats, or their number where it is not held there.
-pub fn place_in(seats: &[Seat], tx: u64) -> usize
-    ensures { result ≡ place_in seats.now tx }
+// The place of the part of `tx` among lent seats.
+pub fn place_in(seats: &[Seat], tx: u64) -> Option<usize>
+    ensures first { unwrap_or result (length seats.now) ≡ place_in seats.now tx }
+    ensures bound { IfSome result (λ i. i < length seats.now) }
 {
-    let mut i: usize = 0;
-    while i < seats.len() {
-        if is_seat_of(seats[i], tx) {
-            return i;
-        }
-        i += 1;
-    }
-    i
+    seats.iter().position(|seat| is_seat_of(*seat, tx))
 }
 
-// The place of the part of `tx`, or `LIVE` where it is not held here.
-pub fn place_of(seats: [Seat; LIVE], tx: u64) -> usize
-    ensures { (w : List ℕ) → result ≡ place_of (live_of seats w) tx }
+// The place of the part of `tx`, where it is held here.
+pub fn place_of(seats: [Seat; LIVE], tx: u64) -> Option<usize>
+    ensures first { (w : List ℕ) → unwrap_or result sizes.live ≡ place_of (live_of seats w) tx }
+    ensures bound { IfSome result (λ i. i < sizes.live) }
 {
     place_in(&seats, tx)
 }

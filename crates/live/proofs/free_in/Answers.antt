@@ -1,20 +1,22 @@
-use borrow.Author.Tests.{eq-eqb}
-use Rattle.std.proofs.Common.{rules}
-use Rattle.laws.specs.Scan.{none_none, first_below_lem, first_end}
+-- The first seat that is free.
+use borrow.Author.Tests.{tests}
+use Rattle.std.proofs.Common.{◌≡◌, Bool, true, false, eqb, rules}
+use Rattle.std.proofs.lemmas.Iterator.{IsFirst-from_position, YieldsList-from_slice}
+use Rattle.laws.proofs.Searches.{first_found}
+use Rattle.kinds.specs.declared.Seat.{Seat}
+use Rattle.kinds.specs.Stage as stages
+use Rattle.kinds.specs.State.{past_seat}
 use Rattle.lent.specs.Seats.{free_in}
 use Rattle.live.proofs.free_in.Goals as goal
 
-pub loop-i-init : goal.loop-i-init
-loop-i-init c = (search rules, none_none _)
+abbrev is_free : Seat → Bool
+is_free a = eqb a.stage stages.free
 
-pub returns-then-seats-i-eq-FREE : goal.returns-then-seats-i-eq-FREE
+pub returns-clause-first : goal.returns-clause-first
 unfolding free_in
-returns-then-seats-i-eq-FREE c =
-    let l = c.loop-i in
-    first_below_lem _ _ l.i c.loop-i-test.true l.invariant.1 (search (eq-eqb, c.if-seats-i-eq-FREE.true, rules))
-
-pub returns : goal.returns
-unfolding free_in
-returns c =
-    let l = c.loop-i in
-    first_end _ _ l.i l.invariant.0 c.loop-i-test.false l.invariant.1
+returns-clause-first c =
+    first_found is_free _ past_seat _
+    (IsFirst-from_position _ _ _ (λ a. is_free a ≡ true) (λ a. is_free a ≡ false) c.position.ensures.ran
+    (YieldsList-from_slice c.args.seats.now cc)
+    (λ x q k. search (rules, tests))
+    (λ x q k. search (rules, tests)))

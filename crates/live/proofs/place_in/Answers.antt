@@ -1,19 +1,18 @@
-use Rattle.std.proofs.Common.{rules}
-use Rattle.laws.specs.Scan.{none_none, first_below_lem, first_end}
-use Rattle.lent.specs.Seats.{place_in}
+-- The first seat that has the part.
+use borrow.Author.Tests.{tests}
+use Rattle.std.proofs.Common.{◌≡◌, true, false, rules}
+use Rattle.std.proofs.lemmas.Iterator.{IsFirst-from_position, YieldsList-from_slice}
+use Rattle.laws.proofs.Searches.{first_found}
+use Rattle.kinds.specs.State.{past_seat}
+use Rattle.lent.specs.Seats.{is_seat_of, place_in}
 use Rattle.live.proofs.place_in.Goals as goal
 
-pub loop-i-init : goal.loop-i-init
-loop-i-init c = (search rules, none_none _)
-
-pub returns-then-is_seat_of : goal.returns-then-is_seat_of
+pub returns-clause-first : goal.returns-clause-first
 unfolding place_in
-returns-then-is_seat_of c =
-    let l = c.loop-i in
-    first_below_lem _ _ l.i c.loop-i-test.true l.invariant.1 (search (c.is_seat_of.ensures, c.if-is_seat_of.true, rules))
-
-pub returns : goal.returns
-unfolding place_in
-returns c =
-    let l = c.loop-i in
-    first_end _ _ l.i l.invariant.0 c.loop-i-test.false l.invariant.1
+returns-clause-first c =
+    let tx = c.args.tx in
+    first_found (λ a. is_seat_of a tx) _ past_seat _
+    (IsFirst-from_position _ _ _ (λ a. is_seat_of a tx ≡ true) (λ a. is_seat_of a tx ≡ false) c.position.ensures.ran
+    (YieldsList-from_slice c.args.seats.now cc)
+    (λ x q k. search (rules, tests))
+    (λ x q k. search (rules, tests)))
