@@ -3,13 +3,14 @@
 #![tactic(auto)]
 
 ghost use Rattle.std.specs.Prelude.{◌≡◌, List, ℕ, ◌<◌, length};
+ghost use Rattle.kinds.specs.Refusal.{number_of};
 ghost use Rattle.kinds.specs.Sizes as sizes;
 ghost use Rattle.rules.specs.Effect.{Change, taken_of, turn_at, changed, refused as refusedOf};
 ghost use Rattle.shell.specs.Countable.{Countable, Comes};
 ghost use Rattle.rules.specs.Deliver.{arrived as arrivedOf, passed as passedOf, join_turn, spoken as spokenOf};
 ghost use Rattle.lent.specs.Lent.{site_of, Replied};
 
-use kinds::{Answer, Core, MessageHead, Reply, Taken, Turn};
+use kinds::{Answer, Core, MessageHead, Refusal, Reply, Taken, Turn};
 
 // An answer that alters nothing.
 pub fn unaltered(p: Core, answer: Answer, words: usize) -> Reply
@@ -23,10 +24,11 @@ pub fn unaltered(p: Core, answer: Answer, words: usize) -> Reply
     }
 }
 
-pub fn refused(p: Core, code: u64) -> Reply
-    ensures { (w h lent : List ℕ) → Replied p w h result w h (refusedOf code (site_of p w h) lent) }
+// A refusal, with its cause's number.
+pub fn refused(p: Core, cause: Refusal) -> Reply
+    ensures { (w h lent : List ℕ) → Replied p w h result w h (refusedOf (number_of cause) (site_of p w h) lent) }
 {
-    unaltered(p, Answer::Refused(code), 0)
+    unaltered(p, Answer::Refused(cause.into()), 0)
 }
 
 // The part at a place, with its surroundings.

@@ -4,4 +4,4 @@ use mathlib.Core.List.{[]}
 use Rattle.shell.proofs.refused.Goals as goal
 
 pub returns : goal.returns
-returns c = λ w h lent. c.unaltered.ensures [] refl w h lent
+returns c = λ w h lent. rw (← c.into.ensures) (c.unaltered.ensures [] refl w h lent)
