@@ -16,4 +16,6 @@ pub returns : goal.returns
 unfolding passed
 returns c =
     let seats : length c.args.p.seats ≡ sizes.live = search rules in
-    λ w h. rw c.taken_from-channels.ensures (record { answer = refl; words = refl; left = left_counted c.args.p w h c.args.p.counters _ seats })
+    λ w h.
+    rw c.taken_from-channels.ensures
+    (record { answer = refl; words = refl; left = left_counted c.args.p w h c.args.p.counters _ seats })

@@ -38,4 +38,7 @@ replied p w h place a s lent e n l q b =
 pub returns : goal.returns
 returns c =
     let seats : length c.args.p.seats ≡ sizes.live = search rules in
-    λ s e h lent. let a = c.args in rw (c.seat_of-seat.ensures, c.put_part.ensures.1) (replied a.p a.live.now h a.place a.a s lent e seats c.requires.0 c.requires.1 c.put_part.ensures.0)
+    λ s e h lent.
+    let a = c.args in
+    rw (c.seat_of-seat.ensures, c.put_part.ensures.1)
+    (replied a.p a.live.now h a.place a.a s lent e seats c.requires.0 c.requires.1 c.put_part.ensures.0)

@@ -1,0 +1,2 @@
+-- A refusal by its cause.
+pub mod Refusals
