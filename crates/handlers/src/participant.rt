@@ -1,5 +1,5 @@
 // Messages to a participant: JOIN, PREPARE, CERT, COMMIT, ABORT.
-ghost use Rattle.std.specs.Prelude.{◌≡◌, true, ◌*◌, ◌≤◌, ◌<◌, length, unwrap_or};
+ghost use Rattle.std.specs.Prelude.{◌≡◌, true, ◌*◌, ◌≤◌, ◌<◌, length};
 ghost use Rattle.laws.specs.Overlay.{overlay};
 ghost use Rattle.kinds.specs.Sizes as sizes;
 ghost use Rattle.rules.specs.Valid.{site_ok};
@@ -9,7 +9,7 @@ ghost use Rattle.rules.specs.Effect.{taken_of};
 ghost use Rattle.rules.specs.Course.{CanSendTo, prepared_step};
 ghost use Rattle.rules.specs.Deliver.{take_join, take_prepare, pass_prepare, take_cert, take_commit, take_abort};
 ghost use Rattle.lent.specs.Lent.{site_of, Replied};
-ghost use Rattle.handlers.specs.Held.{Held, Reached};
+ghost use Rattle.handlers.specs.Held.{Held, Reached, place_number};
 
 use crate::codes::check_reply;
 use kinds::desk::HOUSE;
@@ -33,9 +33,9 @@ pub fn take_join(
 ) -> Reply
     requires { Reached p live.old history.now h.from × (sizes.outgoing ≤ length out.old) }
     ensures replied { Replied p live.old history.now result live.new history.now
-        (take_join (site_of p live.old history.now) h (unwrap_or place sizes.live)) }
+        (take_join (site_of p live.old history.now) h (place_number place)) }
     ensures out_after { out.new
-        ≡ overlay out.old (take_join (site_of p live.old history.now) h (unwrap_or place sizes.live)).words }
+        ≡ overlay out.old (take_join (site_of p live.old history.now) h (place_number place)).words }
 {
     let spent = course::turn::channel_spent(p.channels, h.from);
     if let Err(cause) = check_reply(LIVE <= place.unwrap_or(LIVE), spent) {

@@ -2,7 +2,7 @@
 use Prim.Native.Nat.{ℕ}
 use mathlib.Core.Path.{◌≡◌, refl, sym, ap, ◌∙◌}
 use mathlib.Core.Bool.{Bool}
-use Rattle.std.specs.Prelude.{Option, unwrap_or}
+use Rattle.std.specs.Prelude.{Option}
 use mathlib.Core.List.{[]}
 use borrow.Author.Tests.{lt-ltb}
 use lib.Dec.{leb}
@@ -23,6 +23,7 @@ use Rattle.rules.specs.Effect.{Change, taken_of}
 use Rattle.lent.specs.Laws.{lent_lengths}
 use Rattle.lent.specs.Lent.{site_of}
 use Rattle.shell.specs.Countable.{countable}
+use Rattle.handlers.specs.Held.{place_number}
 use Rattle.handlers.proofs.Sends.{can_reply}
 use Rattle.handlers.proofs.participant.take_join.Goals.{In_default, After-join_turn-t}
 use Rattle.handlers.proofs.participant.take_join.Goals as goal
@@ -36,9 +37,9 @@ same from code t u e = rw e
 
 -- the first cause against it, and that there is none where it is answered
 abbrev against : Site → MessageHead → Option ℕ → ℕ
-against s h place = reply_code (leb sizes.live (unwrap_or place sizes.live)) (channel_spent s.channels h.from)
+against s h place = reply_code (leb sizes.live (place_number place)) (channel_spent s.channels h.from)
 
-told : (s : Site) (h : MessageHead) (place : Option ℕ) (at : ℕ) (spent : Bool) (code : ℕ) → at ≡ unwrap_or place sizes.live
+told : (s : Site) (h : MessageHead) (place : Option ℕ) (at : ℕ) (spent : Bool) (code : ℕ) → at ≡ place_number place
     → spent ≡ channel_spent s.channels h.from → code ≡ reply_code (leb sizes.live at) spent → code ≡ against s h place
 told s h place at spent code e f q = rw (← e, ← f) q
 
