@@ -11,96 +11,83 @@ ghost use Rattle.pages.specs.Laid.{Laid, line_start, full};
 ghost use Rattle.pages.specs.Line.{line_of};
 ghost use Rattle.routing.specs.Route.{none};
 
-use handles::{Output, Source};
 use kinds::Answer;
 use kinds::reason::NOTHING;
 use kinds::sizes::{OUTGOING, SITES};
 use lines::Command;
-use pages::{PAGE, flush, is_refused, say};
+use pages::{Page, is_refused};
 pub use post::COPIES;
 use post::{STREAM, is_cursor, log, send_all};
 use route::{MERGER, NOWHERE, routed};
-use script::{Input, LINE, TEXT, UNKEPT, UNWRITTEN, next_line};
-use spool::{First, ITEM, QUEUES, STORE, Spare};
+use script::{Ending, Script};
+use spool::{ITEM, Item, QUEUES, STORE, Spare, Unkept};
 
-// A script under way: `state` is LINE until it ends, and then says why.
+// A script under way: how many sites its house has, and how many lines it has had.
 #[derive(Clone, Copy)]
 pub struct Play {
     pub sites: u64,
-    pub input: Input,
     pub event: u64,
-    pub used: usize,
-    pub state: u64,
 }
 
-// A line and its place, with what it hands in: the queue or cursor, its next item's words and the address behind it.
+impl Play {
+    pub fn new() -> Play {
+        Play { sites: 0, event: 0 }
+    }
+
+    // Goes on to the next line.
+    pub fn advance(&mut self) {
+        self.event = self.event.wrapping_add(1);
+    }
+}
+
+// What a line hands in: the next item of a queue or cursor.
+#[derive(Clone, Copy)]
+pub struct Handed {
+    pub queue: usize,
+    pub item: Item,
+}
+
+// A line and its place, with what it hands in.
 #[derive(Clone, Copy)]
 pub struct Ask {
-    pub play: Play,
     pub command: Command,
     pub place: usize,
-    pub queue: usize,
-    pub words: usize,
-    pub next: u64,
+    pub handed: Option<Handed>,
 }
 
-pub fn ended(d: Play, state: u64) -> Play
-    ensures { result.used ≡ d.used }
-{
-    let mut e = d;
-    e.state = state;
-    e
+impl Ask {
+    // How many words it hands in.
+    pub fn words(self) -> usize {
+        self.handed.map_or(0, |handed| handed.item.words)
+    }
+}
+
+fn unkept(_failed: Unkept) -> Ending {
+    Ending::Unkept
 }
 
 // Prints a line's outcome.
-pub fn answered(d: Play, output: &mut Output, page: &mut [u8; PAGE], a: Answer) -> Play
-    ensures { Laid page.old (line_start full d.used) (line_of d.event (said_of a)) page.new result.used }
+pub fn answered(d: Play, page: &mut Page, a: Answer) -> Result<(), Ending>
+    ensures { Laid page.old.bytes (line_start full page.old.used) (line_of d.event (said_of a)) page.new.bytes page.new.used }
 {
-    let said = say(output, page, d.used, d.event, a);
-    let mut e = d;
-    e.used = said.used;
-    if !said.ok {
-        return ended(e, UNWRITTEN);
-    }
-    e
+    page.say(d.event, a)
 }
 
 // Writes out the answers so far where the next line has to be read from the input, so that a terminal shows them.
-pub fn shown(d: Play, output: &mut Output, page: &[u8; PAGE]) -> Play {
-    let input = d.input;
-    if input.at < input.end {
-        return d;
+pub fn shown(script: &Script, page: &mut Page) -> Result<(), Ending> {
+    if script.is_drained() && page.used != 0 {
+        return page.flush();
     }
-    if d.used == 0 {
-        return d;
-    }
-    let ok = flush(output, page, d.used);
-    let mut e = d;
-    e.used = 0;
-    if !ok {
-        return ended(e, UNWRITTEN);
-    }
-    e
-}
-
-pub fn idle(d: Play) -> Ask {
-    Ask {
-        play: d,
-        command: Command::Bad,
-        place: NOWHERE,
-        queue: QUEUES,
-        words: 0,
-        next: 0,
-    }
+    Ok(())
 }
 
 // The item that a queue or cursor, below QUEUES, hands in next.
-fn handed(
+fn next_item(
     spare: &mut Spare,
     store: &mut [u64; STORE],
     queue: usize,
     item: &mut [u64; ITEM],
-) -> First
+) -> Result<Option<Item>, Unkept>
     requires { queue < none }
 {
     if is_cursor(queue) {
@@ -109,135 +96,118 @@ fn handed(
     spool::front(spare, store, queue, item)
 }
 
-// Fetches what is handed in; none gives 17.
+// Fetches what is handed in; where there is none, the line is answered 17.
 fn fetched(
     d: Play,
-    c: Command,
+    command: Command,
     place: usize,
     queue: usize,
     spare: &mut Spare,
     store: &mut [u64; STORE],
     item: &mut [u64; ITEM],
-    output: &mut Output,
-    page: &mut [u8; PAGE],
-) -> Ask {
+    page: &mut Page,
+) -> Result<Option<Ask>, Ending> {
     if QUEUES <= queue {
-        return Ask {
-            play: d,
-            command: c,
+        return Ok(Some(Ask {
+            command,
             place,
-            queue,
-            words: 0,
-            next: 0,
-        };
+            handed: None,
+        }));
     }
-    let first = handed(spare, store, queue, item);
-    match first {
-        First::Found(words, next) => Ask {
-            play: d,
-            command: c,
+    match next_item(spare, store, queue, item).map_err(unkept)? {
+        Some(item) => Ok(Some(Ask {
+            command,
             place,
-            queue,
-            words,
-            next,
-        },
-        First::Nothing => idle(answered(d, output, page, Answer::Refused(NOTHING))),
-        First::Failed => idle(ended(d, UNKEPT)),
+            handed: Some(Handed { queue, item }),
+        })),
+        None => {
+            answered(d, page, Answer::Refused(NOTHING))?;
+            Ok(None)
+        }
     }
 }
 
-// Reads a line. Its place is NOWHERE where it is answered already, or the script has ended.
+// Reads a line. None: it is answered already.
 pub fn next_ask(
-    d: Play,
-    from: &mut Source,
-    text: &mut [u8; TEXT],
+    d: &mut Play,
+    script: &mut Script,
     spare: &mut Spare,
     store: &mut [u64; STORE],
     item: &mut [u64; ITEM],
-    output: &mut Output,
-    page: &mut [u8; PAGE],
-) -> Ask {
-    let s = shown(d, output, page);
-    if s.state != LINE {
-        return idle(s);
-    }
-    let before = s.input;
-    let line = next_line(from, text, before);
-    let input = line.input;
-    let c = line.command;
-    let mut e = s;
-    e.input = input;
-    e.event = std::num::wrapping_add_u64(s.event, 1);
-    if line.found != LINE {
-        return idle(ended(e, line.found));
-    }
-    let r = routed(e.sites, c);
+    page: &mut Page,
+) -> Result<Option<Ask>, Ending> {
+    shown(script, page)?;
+    let line = script.next_line();
+    d.advance();
+    let command = line?;
+    let r = routed(d.sites, command);
     if NOWHERE <= r.place {
-        return idle(answered(e, output, page, Answer::Refused(r.code)));
+        answered(*d, page, Answer::Refused(r.code))?;
+        return Ok(None);
     }
-    fetched(e, c, r.place, r.queue, spare, store, item, output, page)
+    fetched(*d, command, r.place, r.queue, spare, store, item, page)
 }
 
 // Goes on behind the item that was handed in: the stream keeps its own for the other copies.
-fn passed(a: Ask, spare: &mut Spare, store: &mut [u64; STORE]) -> bool {
-    let queue = a.queue;
+fn passed(a: Ask, spare: &mut Spare, store: &mut [u64; STORE]) -> Result<(), Unkept> {
+    let Some(Handed { queue, item }) = a.handed else {
+        return Ok(());
+    };
     if QUEUES <= queue {
-        return true;
+        return Ok(());
     }
     if is_cursor(queue) {
-        spool::step(store, queue, a.words, a.next);
-        return true;
+        spool::step(store, queue, item);
+        return Ok(());
     }
-    spool::drop_front(spare, store, queue, a.words, a.next)
+    spool::drop_front(spare, store, queue, item)
 }
 
 // Keeps what a call wrote: records in the site's log or the stream, messages on their channels.
-fn kept(a: Ask, spare: &mut Spare, store: &mut [u64; STORE], words: &[u64]) -> bool {
-    if words.len() == 0 {
-        return true;
+fn kept(a: Ask, spare: &mut Spare, store: &mut [u64; STORE], words: &[u64]) -> Result<(), Unkept> {
+    if words.is_empty() {
+        return Ok(());
     }
     let place = a.place;
     if place == MERGER {
         return spool::push(spare, store, STREAM, words);
     }
     if SITES <= place {
-        return false;
+        return Err(Unkept);
     }
-    let c = a.command;
-    match c {
-        Command::Install(_) => spool::push(spare, store, log(place), words),
-        Command::Report(_) => spool::push(spare, store, log(place), words),
+    match a.command {
+        Command::Install(_) | Command::Report(_) => spool::push(spare, store, log(place), words),
         _ => send_all(spare, store, words),
     }
 }
 
-fn kept_front(a: Ask, spare: &mut Spare, store: &mut [u64; STORE], out: &[u64], n: usize) -> bool {
-    if out.len() < n {
-        return false;
+fn kept_front(
+    a: Ask,
+    spare: &mut Spare,
+    store: &mut [u64; STORE],
+    out: &[u64],
+    n: usize,
+) -> Result<(), Unkept> {
+    match out.get(..n) {
+        Some(words) => kept(a, spare, store, words),
+        None => Err(Unkept),
     }
-    kept(a, spare, store, &out[0..n])
 }
 
 // Ends an asked line: a refused one leaves what was handed in as the next, and wrote nothing.
 pub fn settled(
+    d: Play,
     a: Ask,
     answer: Answer,
     n: usize,
     out: &[u64; OUTGOING],
     spare: &mut Spare,
     store: &mut [u64; STORE],
-    output: &mut Output,
-    page: &mut [u8; PAGE],
-) -> Play {
-    let d = a.play;
-    if is_refused(answer) {
-        return answered(d, output, page, answer);
+    page: &mut Page,
+) -> Result<(), Ending> {
+    if !is_refused(answer) {
+        passed(a, spare, store).map_err(unkept)?;
+        kept_front(a, spare, store, out, n).map_err(unkept)?;
     }
-    if !passed(a, spare, store) {
-        return ended(d, UNKEPT);
-    }
-    if !kept_front(a, spare, store, out, n) {
-        return ended(d, UNKEPT);
-    }
-    answered(d, output, page, answer)
+    answered(d, page, answer)
 }

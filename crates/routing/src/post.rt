@@ -1,11 +1,11 @@
 // What is under way in a house: untaken messages by sender and receiver, the sites' logs, the merged stream with each copy's place.
-ghost use Rattle.std.specs.Prelude.{◌≡◌, ◌+◌, ◌*◌, ◌<◌, ◌≤◌, length};
+ghost use Rattle.std.specs.Prelude.{◌≡◌, ◌+◌, ◌*◌, ◌<◌, ◌≤◌, length, IfOk};
 ghost use Rattle.kinds.specs.Sizes as sizes;
 ghost use Rattle.routing.specs.Route.{copies, channel as channelOf, log as logOf, stream, cursor as cursorOf, none};
 
 use kinds::sizes::SITES;
 use kinds::word::{FROM, LENGTH, TO};
-use spool::{STORE, Spare};
+use spool::{STORE, Spare, Unkept};
 
 // The queue of the merged stream, behind the channels and the logs.
 pub const STREAM: usize = SITES * SITES + SITES;
@@ -41,23 +41,14 @@ pub fn is_cursor(queue: usize) -> bool {
 }
 
 // Sends a message on its channel.
-fn send(spare: &mut Spare, store: &mut [u64; STORE], m: &[u64]) -> bool {
+fn send(spare: &mut Spare, store: &mut [u64; STORE], m: &[u64]) -> Result<(), Unkept> {
     if m.len() <= TO {
-        return false;
+        return Err(Unkept);
     }
     let from = m[FROM];
     let to = m[TO];
-    if from < 1 {
-        return false;
-    }
-    if from > SITES as u64 {
-        return false;
-    }
-    if to < 1 {
-        return false;
-    }
-    if to > SITES as u64 {
-        return false;
+    if from < 1 || from > SITES as u64 || to < 1 || to > SITES as u64 {
+        return Err(Unkept);
     }
     spool::push(
         spare,
@@ -67,33 +58,27 @@ fn send(spare: &mut Spare, store: &mut [u64; STORE], m: &[u64]) -> bool {
     )
 }
 
-// Sends the message at the front of some words, and answers its length. 0: it could not be sent.
-fn send_first(spare: &mut Spare, store: &mut [u64; STORE], words: &[u64]) -> usize
-    ensures { result ≤ length words.now }
+// Sends the message at the front of some words, and answers its length.
+fn send_first(spare: &mut Spare, store: &mut [u64; STORE], words: &[u64]) -> Result<usize, Unkept>
+    ensures { IfOk result (λ n. (1 ≤ n) × (n ≤ length words.now)) }
 {
-    if words.len() == 0 {
-        return 0;
+    if words.is_empty() {
+        return Err(Unkept);
     }
     let n = words[LENGTH];
-    if n > words.len() as u64 {
-        return 0;
+    if n < 1 || n > words.len() as u64 {
+        return Err(Unkept);
     }
     let end = n as usize;
-    if !send(spare, store, &words[0..end]) {
-        return 0;
-    }
-    end
+    send(spare, store, &words[..end])?;
+    Ok(end)
 }
 
 // Sends each of the messages that stand directly behind one another.
-pub fn send_all(spare: &mut Spare, store: &mut [u64; STORE], words: &[u64]) -> bool {
+pub fn send_all(spare: &mut Spare, store: &mut [u64; STORE], words: &[u64]) -> Result<(), Unkept> {
     let mut at: usize = 0;
     while at < words.len() {
-        let n = send_first(spare, store, &words[at..]);
-        if n == 0 {
-            return false;
-        }
-        at += n;
+        at += send_first(spare, store, &words[at..])?;
     }
-    true
+    Ok(())
 }
