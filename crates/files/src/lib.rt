@@ -1,12 +1,12 @@
 // What the two programs share: the file that an argument names, the end of the output, and what is said where either fails.
 #![tactic(auto)]
 
-ghost use Rattle.std.specs.Prelude.{◌≤◌};
+ghost use Rattle.std.specs.Prelude.{◌≤◌, IfSome};
 ghost use Rattle.files.specs.Sizes.{IsPrefixLen};
 
-use handles::{Output, Source, number_of};
-use pages::{PAGE, flush};
-use script::{UNREADABLE, UNWRITTEN};
+use handles::number_of;
+use pages::Page;
+use script::Ending;
 use std::env::FillError;
 use std::fmt::Write;
 use std::fs::File;
@@ -27,10 +27,13 @@ const TOO_LONG: i32 = 36;
 
 const NO_TEXT: i32 = 84;
 
-// A file that is open, or none, and the length of its name.
+// What cannot be written.
+const OUTPUT: &[u8] = b"standard output";
+
+// A file that is open, and the length of its name.
 #[derive(Drop)]
 pub struct Opened {
-    pub file: Option<File>,
+    pub file: File,
     pub name: usize,
 }
 
@@ -122,7 +125,7 @@ fn number_for(e: FillError) -> i32 {
 // Opens a file by its name, which has to be text. None: the system's number of the error.
 fn open<R: Files<File = File>>(rt: &R, name: &[u8]) -> Result<File, i32> {
     match str::from_utf8(name) {
-        Ok(path) => File::open(rt, path).map_err(|e| number_of(e)),
+        Ok(path) => File::open(rt, path).map_err(number_of),
         Err(_) => Err(NO_TEXT),
     }
 }
@@ -135,68 +138,44 @@ pub fn open_argument<R: Env + Files<File = File>>(
     program: &[u8],
     what: &[u8],
     path: &mut [u8],
-) -> Opened
-    ensures { IsPrefixLen result.name path.new }
+) -> Option<Opened>
+    ensures { IfSome result (λ opened. IsPrefixLen opened.name path.new) }
 {
-    let n = match rt.arg(i, path) {
+    let name = match rt.arg(i, path) {
         Ok(n) => n,
         Err(e) => {
             fail(to, program, what, number_for(e));
-            return Opened {
-                file: None,
-                name: 0,
-            };
+            return None;
         }
     };
-    match open(rt, &path[..n]) {
-        Ok(file) => Opened {
-            file: Some(file),
-            name: n,
-        },
+    match open(rt, &path[..name]) {
+        Ok(file) => Some(Opened { file, name }),
         Err(error) => {
-            fail(to, program, &path[..n], error);
-            Opened {
-                file: None,
-                name: n,
-            }
+            fail(to, program, &path[..name], error);
+            None
         }
     }
 }
 
 // Says why a file's play ended before its end, where it could not be read or its output not written, and whether neither was so.
-pub fn reported(
-    to: Stderr,
-    from: &Source,
-    output: &Output,
-    state: u64,
-    program: &[u8],
-    name: &[u8],
-) -> bool {
-    if state == UNREADABLE {
-        fail(to, program, name, from.error());
-        return false;
+pub fn reported(to: Stderr, ending: Ending, program: &[u8], name: &[u8]) -> bool {
+    match ending {
+        Ending::Unreadable(error) => {
+            fail(to, program, name, error);
+            false
+        }
+        Ending::Unwritten(error) => {
+            fail(to, program, OUTPUT, error);
+            false
+        }
+        Ending::End | Ending::Unkept => true,
     }
-    if state == UNWRITTEN {
-        fail(to, program, b"standard output", output.error());
-        return false;
-    }
-    true
 }
 
 // Writes out what is on the page. Answers whether that went well, as all before it did.
-pub fn finished(
-    to: Stderr,
-    output: &mut Output,
-    page: &[u8; PAGE],
-    used: usize,
-    ok: bool,
-    program: &[u8],
-) -> bool {
-    if flush(output, page, used) {
-        return ok;
+pub fn finished(to: Stderr, page: &mut Page, ok: bool, program: &[u8]) -> bool {
+    if let Err(ending) = page.flush() {
+        return ok && reported(to, ending, program, OUTPUT);
     }
-    if ok {
-        fail(to, program, b"standard output", output.error());
-    }
-    false
+    ok
 }
