@@ -4,10 +4,10 @@
 mod run;
 
 use files::{NAME, arg_count, fail, finished, open_argument, reported, say};
-use handles::{Origin, Output, Source};
-use pages::PAGE;
+use handles::Source;
+use pages::Page;
 use run::play;
-use script::{TEXT, UNKEPT};
+use script::{Ending, Script};
 use spool::Spare;
 use std::fs::File;
 use std::random::RandomSource;
@@ -34,35 +34,22 @@ fn unkept(to: Stderr, spare: &Spare) {
 }
 
 // Says why a script ended before its end, and whether all went well.
-fn explained(
-    to: Stderr,
-    from: &Source,
-    output: &Output,
-    state: u64,
-    spare: &Spare,
-    name: &[u8],
-) -> bool {
-    if state == UNKEPT {
+fn explained(to: Stderr, ending: Ending, spare: &Spare, name: &[u8]) -> bool {
+    if let Ending::Unkept = ending {
         unkept(to, spare);
         return false;
     }
-    reported(to, from, output, state, b"house: ", name)
+    reported(to, ending, b"house: ", name)
 }
 
 // Plays a script, and answers whether all went well. What it printed before a failure is written out too.
-fn play_all(
-    to: Stderr,
-    origin: Origin,
-    spare: &mut Spare,
-    output: &mut Output,
-    name: &[u8],
-) -> bool {
-    let mut from = Source::new(origin);
-    let mut text = [0u8; TEXT];
-    let mut page = [0u8; PAGE];
-    let d = play(&mut from, spare, &mut text, output, &mut page);
-    let ok = explained(to, &from, output, d.state, spare, name);
-    finished(to, output, &page, d.used, ok, b"house: ")
+fn play_all(to: Stderr, from: Source, spare: &mut Spare, page: &mut Page, name: &[u8]) -> bool {
+    let mut script = Script::new(from);
+    let ok = match play(&mut script, spare, page) {
+        Ok(()) => true,
+        Err(ending) => explained(to, ending, spare, name),
+    };
+    finished(to, page, ok, b"house: ")
 }
 
 fn play_file<R: Env + Files<File = File>>(
@@ -70,13 +57,17 @@ fn play_file<R: Env + Files<File = File>>(
     to: Stderr,
     i: usize,
     spare: &mut Spare,
-    output: &mut Output,
+    page: &mut Page,
 ) -> bool {
     let mut path = [0u8; NAME];
-    let o = open_argument(rt, to, i, b"house: ", b"the name of a script", &mut path);
-    let name = o.name;
-    match o.file {
-        Some(file) => play_all(to, Origin::Named(file), spare, output, &path[..name]),
+    match open_argument(rt, to, i, b"house: ", b"the name of a script", &mut path) {
+        Some(opened) => play_all(
+            to,
+            Source::Named(opened.file),
+            spare,
+            page,
+            &path[..opened.name],
+        ),
         None => false,
     }
 }
@@ -86,14 +77,12 @@ fn play_files<R: Env + Files<File = File>>(
     to: Stderr,
     count: usize,
     spare: &mut Spare,
-    output: &mut Output,
+    page: &mut Page,
 ) {
-    let mut i: usize = 1;
-    while i < count {
-        if !play_file(rt, to, i, spare, output) {
+    for i in 1..count {
+        if !play_file(rt, to, i, spare, page) {
             return;
         }
-        i += 1;
     }
 }
 
@@ -107,32 +96,24 @@ fn open_spare<R: Files<File = File> + RandomSource>(rt: &R) -> (Spare, Option<Sp
     (spare, None)
 }
 
-// Whether it is the number of standard input or output.
-fn is_standard(descriptor: Option<i32>) -> bool {
-    match descriptor {
-        Some(n) => n < STANDARD_ERROR,
-        None => false,
-    }
-}
-
 fn main(rt: HostRuntime) {
     let to = rt.stderr();
     let (mut spare, _held) = open_spare(&rt);
-    if is_standard(spare.descriptor()) {
+    if spare.descriptor().is_some_and(|n| n < STANDARD_ERROR) {
         say(to, b"house: standard input or output is closed\n");
         return;
     }
-    let mut output = Output::new(rt.stdout());
+    let mut page = Page::new(rt.stdout());
     let count = arg_count(&rt);
     if count < 2 {
         let _ = play_all(
             to,
-            Origin::Standard(rt.stdin()),
+            Source::Standard(rt.stdin()),
             &mut spare,
-            &mut output,
+            &mut page,
             b"standard input",
         );
         return;
     }
-    play_files(&rt, to, count, &mut spare, &mut output);
+    play_files(&rt, to, count, &mut spare, &mut page);
 }

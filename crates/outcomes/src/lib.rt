@@ -1,17 +1,19 @@
 // What stands around a probe's calls: a line is read, what a call wrote is kept, and its outcome printed.
 #![tactic(auto)]
 
+ghost use Rattle.std.specs.Prelude.{◌<◌, IfSome};
+ghost use Rattle.kinds.specs.Sizes as sizes;
+
 use effects::{AS_SITES, COPY_PLACE, Done, Lent, TABLE, is_logged};
 use hand::store::{keep_letters, keep_record};
-use handles::{Output, Source};
 use kinds::sizes::{BASE, HISTORY_WORDS, LISTS, LIVE_WORDS, OUTGOING, QUEUES, SITES};
 use kinds::{Answer, Key};
 use lines::WORDS;
 use numbers::table_ok;
-use pages::{Filled, PAGE, is_refused, say, say_with};
+use pages::{Page, is_refused};
 use pieces::front;
-use script::{Input, LINE, TEXT, UNWRITTEN, next_scan};
-use verbs::{HOUSE, Line, NOBODY, SITE, remark, told, verb};
+use script::{Ending, Script};
+use verbs::{Group, Line, remark, told, verb};
 
 // Words for the outgoing buffer, more than any call wants.
 pub const ROOM: usize = 8192;
@@ -19,13 +21,10 @@ pub const ROOM: usize = 8192;
 // The table of first keys at the beginning of a probe.
 const EVEN: [Key; TABLE] = [0, 256, 512, 768, 1024, 1280, 1536, 1792, 2048];
 
-// A probe under way: `state` is LINE until it ends, and then says why; `held` words are in hand, `kept` of the store are used.
+// A probe under way: `held` words are in hand, `kept` of the store are used.
 #[derive(Clone, Copy)]
 pub struct Work {
-    pub input: Input,
     pub event: u64,
-    pub used: usize,
-    pub state: u64,
     pub line: Line,
     pub lent: Lent,
     pub held: usize,
@@ -50,17 +49,12 @@ fn all_lent(firsts: [Key; TABLE]) -> Lent {
 
 // What a house begins with: the first keys stay as they are set.
 pub fn lent_at_start(w: Work) -> Lent {
-    let lent = w.lent;
-    let firsts = lent.firsts;
-    all_lent(firsts)
+    all_lent(w.lent.firsts)
 }
 
 pub fn begun() -> Work {
     Work {
-        input: Input { at: 0, end: 0 },
         event: 0,
-        used: 0,
-        state: LINE,
         line: remark(),
         lent: all_lent(EVEN),
         held: 0,
@@ -69,153 +63,95 @@ pub fn begun() -> Work {
     }
 }
 
-// Whether the line, if there is one, ends the house.
+// Whether the line ends the house.
 pub fn is_over(w: Work) -> bool {
-    let l = w.line;
-    if w.state != LINE {
-        return true;
-    }
-    l.group == HOUSE
+    w.line.group == Group::House
 }
 
 // Whether the line is for a site.
 pub fn is_for_site(w: Work) -> bool {
-    let l = w.line;
-    l.group == SITE
+    w.line.group == Group::Site
 }
 
 // Whether a house of n sites starts with the first n words of the table (Q3.3).
 fn starts(n: u64, firsts: [Key; TABLE]) -> bool {
-    if n < 1 {
-        return false;
-    }
-    if n > SITES as u64 {
-        return false;
-    }
-    table_ok(n, &firsts)
+    1 <= n && n <= SITES as u64 && table_ok(n, &firsts)
 }
 
 // Where a house does not start, its line is a remark.
 fn opened(l: Line, lent: Lent) -> Line {
-    if l.group != HOUSE {
-        return l;
-    }
-    let firsts = lent.firsts;
-    if starts(l.a, firsts) {
+    if l.group != Group::House || starts(l.a, lent.firsts) {
         return l;
     }
     let mut m = l;
-    m.group = NOBODY;
+    m.group = Group::Nobody;
     m
 }
 
 fn sites_of(l: Line, now: u64) -> u64 {
-    if l.group == HOUSE {
-        return l.a;
-    }
-    now
+    if l.group == Group::House { l.a } else { now }
 }
 
-// Reads a line, unless the probe has ended.
-pub fn read_line(w: Work, from: &mut Source, text: &mut [u8; TEXT]) -> Work {
-    if w.state != LINE {
-        return w;
-    }
-    let before = w.input;
+// Reads a line.
+pub fn read_line(w: &mut Work, script: &mut Script) -> Result<(), Ending> {
     let mut words = [0u64; WORDS];
-    let r = next_scan(from, text, &mut words, before);
-    let input = r.input;
-    let s = r.place;
-    let lent = w.lent;
-    let l = opened(told(s, &words), lent);
-    let mut v = w;
-    v.input = input;
-    v.event = std::num::wrapping_add_u64(w.event, 1);
-    v.state = r.found;
-    v.line = l;
-    v.sites = sites_of(l, w.sites);
-    v
-}
-
-fn after(w: Work, said: Filled) -> Work {
-    let mut v = w;
-    v.used = said.used;
-    if said.ok {
-        return v;
-    }
-    v.state = UNWRITTEN;
-    v
+    let place = script.next_scan(&mut words)?;
+    let line = opened(told(place, &words), w.lent);
+    w.event = w.event.wrapping_add(1);
+    w.line = line;
+    w.sites = sites_of(line, w.sites);
+    Ok(())
 }
 
 // A poke's outcome has no numbers: what it leaves is the caller's own affair.
 fn is_poke(v: u64) -> bool {
-    match v {
-        verb::SITE => true,
-        verb::LIVE => true,
-        verb::PAST => true,
-        verb::LIST => true,
-        verb::MERGER => true,
-        verb::SOURCE => true,
-        verb::QUEUED => true,
-        verb::COPIED => true,
-        _ => false,
-    }
+    matches!(
+        v,
+        verb::SITE
+            | verb::LIVE
+            | verb::PAST
+            | verb::LIST
+            | verb::MERGER
+            | verb::SOURCE
+            | verb::QUEUED
+            | verb::COPIED
+    )
 }
 
-pub fn answered(w: Work, output: &mut Output, page: &mut [u8; PAGE], a: Answer) -> Work {
-    let said = say(output, page, w.used, w.event, a);
-    after(w, said)
-}
-
-fn one(yes: bool) -> u64 {
-    if yes { 1 } else { 0 }
+pub fn answered(w: Work, page: &mut Page, a: Answer) -> Result<(), Ending> {
+    page.say(w.event, a)
 }
 
 // Prints a call's outcome: the words written, the buffer, whether the state is the same, the state.
-pub fn told_of(w: Work, output: &mut Output, page: &mut [u8; PAGE], d: Done) -> Work {
-    let l = w.line;
-    let a = d.answer;
-    if is_poke(l.verb) {
-        return answered(w, output, page, a);
+pub fn told_of(w: Work, page: &mut Page, d: Done) -> Result<(), Ending> {
+    if is_poke(w.line.verb) {
+        return answered(w, page, d.answer);
     }
-    let said = say_with(
-        output,
-        page,
-        w.used,
+    page.say_with(
         w.event,
-        a,
+        d.answer,
         d.words as u64,
         d.buffer,
-        one(d.same),
+        u64::from(d.same),
         d.state,
-    );
-    after(w, said)
+    )
 }
 
 // Keeps what an accepted call wrote.
-pub fn kept(w: Work, d: Done, store: &mut [u64], out: &[u64]) -> Work {
-    let l = w.line;
-    let a = d.answer;
-    if is_refused(a) {
-        return w;
+pub fn keep(w: &mut Work, d: Done, store: &mut [u64], out: &[u64]) {
+    if is_refused(d.answer) || d.words == 0 {
+        return;
     }
-    if d.words == 0 {
-        return w;
-    }
-    let mut v = w;
-    if is_logged(l.verb) {
-        v.kept = keep_record(store, w.kept, front(out, d.words));
-        return v;
-    }
-    v.kept = keep_letters(store, w.kept, front(out, d.words));
-    v
+    let words = front(out, d.words);
+    w.kept = if is_logged(w.line.verb) {
+        keep_record(store, w.kept, words)
+    } else {
+        keep_letters(store, w.kept, words)
+    };
 }
 
 fn least(n: u64, most: usize) -> usize {
-    if n < most as u64 {
-        return n as usize;
-    }
-    most
+    n.min(most as u64) as usize
 }
 
 // The words that a run is lent: as many as its line says, at most all of the outgoing buffer. Other conversions are lent none.
@@ -230,52 +166,25 @@ pub fn room_of(l: Line) -> usize {
 fn lend(lent: Lent, verb: u64, n: u64) -> Lent {
     let mut t = lent;
     match verb {
-        verb::ROOM => {
-            t.room = least(n, ROOM);
-            t
-        }
-        verb::PLACES => {
-            t.live = least(n, LIVE_WORDS + 1);
-            t
-        }
-        verb::SLOTS => {
-            t.history = least(n, HISTORY_WORDS + 1);
-            t
-        }
-        verb::BASE => {
-            t.base = least(n, BASE + 1);
-            t
-        }
-        verb::LISTS => {
-            t.lists = least(n, LISTS + 1);
-            t
-        }
-        verb::QUEUES => {
-            t.queues = least(n, QUEUES + 1);
-            t
-        }
-        verb::TABLES => {
-            t.table = least(n, TABLE);
-            t
-        }
-        _ => {
-            t.copy = least(n, COPY_PLACE);
-            t
-        }
+        verb::ROOM => t.room = least(n, ROOM),
+        verb::PLACES => t.live = least(n, LIVE_WORDS + 1),
+        verb::SLOTS => t.history = least(n, HISTORY_WORDS + 1),
+        verb::BASE => t.base = least(n, BASE + 1),
+        verb::LISTS => t.lists = least(n, LISTS + 1),
+        verb::QUEUES => t.queues = least(n, QUEUES + 1),
+        verb::TABLES => t.table = least(n, TABLE),
+        _ => t.copy = least(n, COPY_PLACE),
     }
+    t
 }
 
 // First key i, from 1, set from now on. Another i sets nothing.
 fn with_first(lent: Lent, i: u64, key: Key) -> Lent {
+    if i < 1 || i > TABLE as u64 {
+        return lent;
+    }
     let mut t = lent;
-    if i < 1 {
-        return t;
-    }
-    if i > TABLE as u64 {
-        return t;
-    }
-    let at = (i - 1) as usize;
-    t.firsts[at] = key;
+    t.firsts[(i - 1) as usize] = key;
     t
 }
 
@@ -286,23 +195,17 @@ fn lent_by(lent: Lent, l: Line) -> Lent {
     lend(lent, l.verb, l.a)
 }
 
-pub fn lent_anew(w: Work) -> Work {
-    let l = w.line;
-    let lent = w.lent;
-    let t = lent_by(lent, l);
-    let mut v = w;
-    v.lent = t;
-    v
+pub fn lend_anew(w: &mut Work) {
+    w.lent = lent_by(w.lent, w.line);
 }
 
-// The place of the site that a line names; SITES where the house lacks it.
-pub fn place_of(w: Work) -> usize {
-    let l = w.line;
-    if l.a < 1 {
-        return SITES;
+// The place of the site that a line names, where the house has it.
+pub fn place_of(w: Work) -> Option<usize>
+    ensures { IfSome result (λ place. place < sizes.sites) }
+{
+    let site = w.line.a;
+    if site < 1 || site > w.sites || site > SITES as u64 {
+        return None;
     }
-    if l.a > w.sites {
-        return SITES;
-    }
-    least(l.a - 1, SITES)
+    Some((site - 1) as usize)
 }

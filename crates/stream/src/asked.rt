@@ -24,10 +24,7 @@ pub fn start_merger(house: House, queues: &mut [u64; QUEUES]) -> Merger
     ensures queues_after { queues.new ≡ (merger_start_of house.sites (firsts_of house) queues.old).queues }
 {
     let n = house.sites;
-    let firsts = house.firsts;
-    let o = store::start_merger(n, front(&firsts, n as usize), queues);
-    let g = o.merger;
-    g
+    store::start_merger(n, front(&house.firsts, n as usize), queues).merger
 }
 
 // A merger's call. The first n words of m are the record to queue.
@@ -56,11 +53,9 @@ pub fn start_copies(tables: &mut [u64])
     requires { length tables.old ≡ all_copies }
     ensures { (j : ℕ) → j < copies → own sizes.copy j tables.new ≡ fresh_copy }
 {
-    let mut i: usize = 0;
-    while i < COPIES {
+    for i in 0..COPIES {
         let at = i * COPY;
         store::start_copy(&mut tables[at..at + COPY]);
-        i += 1;
     }
 }
 

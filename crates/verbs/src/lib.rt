@@ -6,27 +6,22 @@ pub mod verb;
 use lines::{Place, WORDS};
 
 // Whom a line is for.
-pub const NOBODY: u64 = 0;
-
-pub const SITE: u64 = 1;
-
-pub const MERGER: u64 = 2;
-
-pub const COPY: u64 = 3;
-
-pub const HAND: u64 = 4;
-
-pub const LENT: u64 = 5;
-
-pub const HOUSE: u64 = 6;
-
-pub const BOOKMARK: u64 = 7;
-
-pub const BYTES: u64 = 8;
+#[derive(Clone, Copy, Debug, PartialEq, Eq)]
+pub enum Group {
+    Nobody,
+    Site,
+    Merger,
+    Copy,
+    Hand,
+    Lent,
+    House,
+    Bookmark,
+    Bytes,
+}
 
 #[derive(Clone, Copy)]
 pub struct Line {
-    pub group: u64,
+    pub group: Group,
     pub verb: u64,
     pub a: u64,
     pub b: u64,
@@ -37,7 +32,7 @@ pub struct Line {
 
 pub fn remark() -> Line {
     Line {
-        group: NOBODY,
+        group: Group::Nobody,
         verb: 0,
         a: 0,
         b: 0,
@@ -48,139 +43,96 @@ pub fn remark() -> Line {
 }
 
 // Whom a verb with no number is for.
-fn none(v: u64) -> u64 {
+fn none(v: u64) -> Group {
     match v {
-        verb::MERGE => MERGER,
-        verb::EMIT => MERGER,
-        _ => NOBODY,
+        verb::MERGE | verb::EMIT => Group::Merger,
+        _ => Group::Nobody,
     }
 }
 
 // Whom a verb with one number is for.
-fn one(v: u64) -> u64 {
+fn one(v: u64) -> Group {
     match v {
-        verb::HOUSE => HOUSE,
-        verb::ROOM => LENT,
-        verb::PLACES => LENT,
-        verb::SLOTS => LENT,
-        verb::BASE => LENT,
-        verb::LISTS => LENT,
-        verb::QUEUES => LENT,
-        verb::COPIES => LENT,
-        verb::TABLES => LENT,
-        verb::BEGIN => SITE,
-        verb::MESSAGE => SITE,
-        verb::INSTALL => SITE,
-        verb::REPORT => SITE,
-        verb::OPEN => MERGER,
-        verb::REPLAY => COPY,
-        verb::BLANK => COPY,
-        verb::CUT => HAND,
-        verb::BYTES => BYTES,
-        _ => NOBODY,
+        verb::HOUSE => Group::House,
+        verb::ROOM | verb::PLACES | verb::SLOTS | verb::BASE | verb::LISTS | verb::QUEUES | verb::COPIES | verb::TABLES => Group::Lent,
+        verb::BEGIN | verb::MESSAGE | verb::INSTALL | verb::REPORT => Group::Site,
+        verb::OPEN => Group::Merger,
+        verb::REPLAY | verb::BLANK => Group::Copy,
+        verb::CUT => Group::Hand,
+        verb::BYTES => Group::Bytes,
+        _ => Group::Nobody,
     }
 }
 
 // Whom a verb with two numbers is for.
-fn two(v: u64) -> u64 {
+fn two(v: u64) -> Group {
     match v {
-        verb::BEGIN => SITE,
-        verb::COMMIT => SITE,
-        verb::ABANDON => SITE,
-        verb::MERGER => MERGER,
-        verb::TABLE => LENT,
-        verb::VALUE => COPY,
-        verb::RECORD => HAND,
-        verb::WORD => HAND,
-        verb::PAGE => BOOKMARK,
-        verb::RUN => BOOKMARK,
-        _ => NOBODY,
+        verb::BEGIN | verb::COMMIT | verb::ABANDON => Group::Site,
+        verb::MERGER => Group::Merger,
+        verb::TABLE => Group::Lent,
+        verb::VALUE => Group::Copy,
+        verb::RECORD | verb::WORD => Group::Hand,
+        verb::PAGE | verb::RUN => Group::Bookmark,
+        _ => Group::Nobody,
     }
 }
 
 // Whom a verb with three numbers is for.
-fn three(v: u64) -> u64 {
+fn three(v: u64) -> Group {
     match v {
-        verb::ENLIST => SITE,
-        verb::READ => SITE,
-        verb::SEARCH => SITE,
-        verb::START => SITE,
-        verb::SITE => SITE,
-        verb::SOURCE => MERGER,
-        verb::QUEUED => MERGER,
-        verb::COPIED => COPY,
-        verb::LETTER => HAND,
-        verb::OFFSET => BOOKMARK,
-        _ => NOBODY,
+        verb::ENLIST | verb::READ | verb::SEARCH | verb::START | verb::SITE => Group::Site,
+        verb::SOURCE | verb::QUEUED => Group::Merger,
+        verb::COPIED => Group::Copy,
+        verb::LETTER => Group::Hand,
+        verb::OFFSET => Group::Bookmark,
+        _ => Group::Nobody,
     }
 }
 
 // Whom a verb with four numbers is for.
-fn four(v: u64) -> u64 {
+fn four(v: u64) -> Group {
     match v {
-        verb::LIVE => SITE,
-        verb::PAST => SITE,
-        verb::LIST => SITE,
-        verb::HEAD => HAND,
-        verb::ENTRIES => HAND,
-        verb::FORM => HAND,
-        verb::WRITES => HAND,
-        _ => NOBODY,
+        verb::LIVE | verb::PAST | verb::LIST => Group::Site,
+        verb::HEAD | verb::ENTRIES | verb::FORM | verb::WRITES => Group::Hand,
+        _ => Group::Nobody,
     }
 }
 
 // Whom a verb with five numbers is for.
-fn five(v: u64) -> u64 {
+fn five(v: u64) -> Group {
     match v {
-        verb::WRITE => SITE,
-        _ => NOBODY,
+        verb::WRITE => Group::Site,
+        _ => Group::Nobody,
     }
 }
 
 // The line that a scan has read.
 pub fn told(s: Place, words: &[u64; WORDS]) -> Line {
-    let n = s.ended;
     if s.begun == 0 {
         return remark();
     }
-    if n == 0 {
-        return made(none(s.word), s.word, 0, 0, 0, 0, 0);
-    }
-    if n == 1 {
-        return made(one(words[0]), words[0], s.word, 0, 0, 0, 0);
-    }
-    if n == 2 {
-        return made(two(words[0]), words[0], words[1], s.word, 0, 0, 0);
-    }
-    if n == 3 {
-        return made(three(words[0]), words[0], words[1], words[2], s.word, 0, 0);
-    }
-    if n == 4 {
-        return made(
+    let last = s.word;
+    match s.ended {
+        0 => made(none(last), last, [0; 5]),
+        1 => made(one(words[0]), words[0], [last, 0, 0, 0, 0]),
+        2 => made(two(words[0]), words[0], [words[1], last, 0, 0, 0]),
+        3 => made(three(words[0]), words[0], [words[1], words[2], last, 0, 0]),
+        4 => made(
             four(words[0]),
             words[0],
-            words[1],
-            words[2],
-            words[3],
-            s.word,
-            0,
-        );
-    }
-    if n == 5 {
-        return made(
+            [words[1], words[2], words[3], last, 0],
+        ),
+        5 => made(
             five(words[0]),
             words[0],
-            words[1],
-            words[2],
-            words[3],
-            words[4],
-            s.word,
-        );
+            [words[1], words[2], words[3], words[4], last],
+        ),
+        _ => remark(),
     }
-    remark()
 }
 
-fn made(group: u64, verb: u64, a: u64, b: u64, c: u64, d: u64, e: u64) -> Line {
+fn made(group: Group, verb: u64, numbers: [u64; 5]) -> Line {
+    let [a, b, c, d, e] = numbers;
     Line {
         group,
         verb,

@@ -1,9 +1,7 @@
--- A count bounds the turns.
+-- There are as many sites as at the start.
 use Rattle.std.proofs.Common.{◌≡◌, length}
+use Rattle.kinds.specs.Sizes as sizes
 use Rattle.house.proofs.run.turns.Given as goal
 
-abbrev pub invariant-loop-left : goal.invariant-loop-left
-invariant-loop-left l = length l.sites ≡ 8
-
-abbrev pub decreases-loop-left : goal.decreases-loop-left
-decreases-loop-left l = l.left
+abbrev pub invariant-loop : goal.invariant-loop
+invariant-loop l = length l.sites ≡ sizes.sites

@@ -38,7 +38,7 @@ more i tables v low many kept e before j h =
     lower n = by_test (ltb j i) (λ t. ltb-true j i t) (λ f. absurd (n (omega (arith, h, ltb-false j i f))))
 
 pub loop-i-init : goal.loop-i-init
-loop-i-init c = (omega arith, c.requires, none _)
+loop-i-init c = (c.requires, none _)
 
 pub loop-i-preserved : goal.loop-i-preserved
 loop-i-preserved c =
@@ -46,8 +46,7 @@ loop-i-preserved c =
     let v = l.invariant in
     let low = c.loop-i-test.true in
     let kept = c.start.auto.copy in
-    let w = laid sizes.copy l.i copies l.tables _ low v.1 kept in (
-      omega arith,
-      only_length sizes.copy l.i copies l.tables _ low v.1 w.only,
-      more l.i l.tables _ low v.1 kept c.start.ensures.copy_after v.2,
+    let w = laid sizes.copy l.i copies l.tables _ low v.0 kept in (
+      only_length sizes.copy l.i copies l.tables _ low v.0 w.only,
+      more l.i l.tables _ low v.0 kept c.start.ensures.copy_after v.1,
     )

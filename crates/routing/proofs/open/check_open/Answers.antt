@@ -3,7 +3,7 @@ use Rattle.std.proofs.Common.{◌≡◌, true, sym, arith, rules, eq-eqb}
 use Rattle.rules.specs.House.{count_ok}
 use Rattle.rules.specs.HouseLaws.{count_clear}
 use Rattle.routing.specs.Open.{table_given, even_starts}
-use Rattle.routing.proofs.open.open_code.Goals as goal
+use Rattle.routing.proofs.open.check_open.Goals as goal
 
 pub returns-then-given-eq0 : goal.returns-then-given-eq0
 unfolding table_given
