@@ -11,7 +11,7 @@ use Rattle.rules.specs.Effect.{turn_at}
 use Rattle.rules.specs.Keys.{wrote_key}
 use Rattle.rules.specs.ValidLaws.{ValidSite, valid_site}
 use Rattle.lent.specs.Lent.{site_of}
-use Rattle.site.proofs.access.late_code.Goals as goal
+use Rattle.site.proofs.access.check_late.Goals as goal
 
 few : (s : Site) (place : ℕ) (t : Turn) → place < sizes.live → t ≡ turn_at s place → ValidSite s → t.sub.keys.wrote ≤ sizes.writes
 unfolding turn_at
@@ -30,17 +30,18 @@ first s place k v t e w = let q = rw e at w in rw q
 
 pub wrote_key-requires : goal.wrote_key-requires
 wrote_key-requires c =
-    let handed : Site = let a = c.args in site_of a.p a.live.now a.history.now in
-    few handed c.args.place c.args.t c.requires.0.low c.requires.1 (valid_site handed c.requires.0.possible)
+    let a = c.args in
+    let s = site_of a.p a.live.now a.history.now in
+    few s a.place a.t c.requires.0.low c.requires.1 (valid_site s c.requires.0.possible)
 
 pub returns-then-wrote_key : goal.returns-then-wrote_key
 returns-then-wrote_key c =
-    let handed : Site = let a = c.args in site_of a.p a.live.now a.history.now in
     let a = c.args in
-    c.long_code.ensures ∙ again handed a.place a.key a.value a.t c.requires.1 (sym c.wrote_key.ensures ∙ c.if-wrote_key.true)
+    let s = site_of a.p a.live.now a.history.now in
+    c.check_long.ensures ∙ again s a.place a.key a.value a.t c.requires.1 (sym c.wrote_key.ensures ∙ c.if-wrote_key.true)
 
-pub returns : goal.returns
-returns c =
-    let handed : Site = let a = c.args in site_of a.p a.live.now a.history.now in
+pub returns-else-wrote_key : goal.returns-else-wrote_key
+returns-else-wrote_key c =
     let a = c.args in
-    c.fresh_code.ensures ∙ first handed a.place a.key a.value a.t c.requires.1 (sym c.wrote_key.ensures ∙ c.if-wrote_key.false)
+    let s = site_of a.p a.live.now a.history.now in
+    c.check_fresh.ensures ∙ first s a.place a.key a.value a.t c.requires.1 (sym c.wrote_key.ensures ∙ c.if-wrote_key.false)
