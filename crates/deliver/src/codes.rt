@@ -1,37 +1,32 @@
 // Causes of refusal of a message before its kind is looked at.
 ghost use Rattle.std.specs.Prelude.{◌≡◌};
+ghost use Rattle.kinds.specs.Refusal.{refusal_in};
 ghost use Rattle.rules.specs.Deliver.{arrival_code, next_code};
 
-use kinds::reason::{ELSEWHERE, MALFORMED, NOT_NEXT, SHORT};
+use kinds::Refusal;
 use kinds::sizes::OUTGOING;
 
-pub fn arrival_code(ok: bool, room: usize, fine: bool) -> u64
-    ensures { result ≡ arrival_code ok room fine }
+pub fn check_arrival(ok: bool, room: usize, fine: bool) -> Result<(), Refusal>
+    ensures { refusal_in result ≡ arrival_code ok room fine }
 {
     if room < OUTGOING {
-        return SHORT;
+        return Err(Refusal::Short);
     }
-    if !ok {
-        return MALFORMED;
+    if !ok || !fine {
+        return Err(Refusal::Malformed);
     }
-    if !fine {
-        return MALFORMED;
-    }
-    0
+    Ok(())
 }
 
 // A receiver that has taken 2^64 − 1 has no next message.
-pub fn next_code(to: u64, own: u64, channel: u64, taken: u64) -> u64
-    ensures { result ≡ next_code to own channel taken }
+pub fn check_next(to: u64, own: u64, channel: u64, taken: u64) -> Result<(), Refusal>
+    ensures { refusal_in result ≡ next_code to own channel taken }
 {
     if to != own {
-        return ELSEWHERE;
+        return Err(Refusal::Elsewhere);
     }
-    if channel == 0 {
-        return NOT_NEXT;
+    if channel == 0 || channel - 1 != taken {
+        return Err(Refusal::NotNext);
     }
-    if channel - 1 != taken {
-        return NOT_NEXT;
-    }
-    0
+    Ok(())
 }

@@ -6,21 +6,27 @@ ghost use Rattle.kinds.specs.Kind as kind;
 ghost use Rattle.rules.specs.Deliver.{take_joined, take_vote, take_kind};
 ghost use Rattle.rules.specs.DispatchLaws.{Incoming, or_passed};
 ghost use Rattle.lent.specs.Lent.{site_of, Replied};
-ghost use Rattle.handlers.specs.Held.{Reached};
+ghost use Rattle.handlers.specs.Held.{Reached, IsPlace, place_number};
 
-use kinds::sizes::LIVE;
 use kinds::{Core, MessageHead, Reply};
 
-pub fn on_joined(p: Core, live: &mut [u64], history: &[u64], h: MessageHead, place: usize) -> Reply
-    requires { Reached p live.old history.now h.from }
+pub fn on_joined(
+    p: Core,
+    live: &mut [u64],
+    history: &[u64],
+    h: MessageHead,
+    place: Option<usize>,
+) -> Reply
+    requires reached { Reached p live.old history.now h.from }
+    requires place { IsPlace place }
     ensures { Replied p live.old history.now result live.new history.now
-        (or_passed (site_of p live.old history.now) h place
-        (take_joined (site_of p live.old history.now) h place)) }
+        (or_passed (site_of p live.old history.now) h (place_number place)
+        (take_joined (site_of p live.old history.now) h (place_number place))) }
 {
-    if LIVE <= place {
-        return shell::passed(p, h.from);
+    match place {
+        None => shell::passed(p, h.from),
+        Some(place) => handlers::coordinator::take_joined(p, live, history, h, place),
     }
-    handlers::coordinator::take_joined(p, live, history, h, place)
 }
 
 pub fn on_conc(
@@ -29,24 +35,25 @@ pub fn on_conc(
     history: &[u64],
     h: MessageHead,
     es: &[u64],
-    place: usize,
+    place: Option<usize>,
     lists: &mut [u64],
     out: &mut [u64],
 ) -> Reply
     requires incoming { Incoming (site_of p live.old history.now) h es.now × (h.kind ≡ kind.conc) }
+    requires place { IsPlace place }
     requires lists_len { (length lists.old ≡ sizes.lists) × (sizes.outgoing ≤ length out.old) }
     ensures replied { Replied p live.old history.now result live.new history.now
-        (take_kind kind.conc (site_of p live.old history.now) h es.now lists.old place) }
+        (take_kind kind.conc (site_of p live.old history.now) h es.now lists.old (place_number place)) }
     ensures lists_after { lists.new
-        ≡ (take_kind kind.conc (site_of p live.old history.now) h es.now lists.old place).lent }
+        ≡ (take_kind kind.conc (site_of p live.old history.now) h es.now lists.old (place_number place)).lent }
     ensures out_after { out.new
         ≡ overlay out.old
-        (take_kind kind.conc (site_of p live.old history.now) h es.now lists.old place).words }
+        (take_kind kind.conc (site_of p live.old history.now) h es.now lists.old (place_number place)).words }
 {
-    if LIVE <= place {
-        return shell::passed(p, h.from);
+    match place {
+        None => shell::passed(p, h.from),
+        Some(place) => handlers::gather::take_conc(p, live, history, h, es, place, lists, out),
     }
-    handlers::gather::take_conc(p, live, history, h, es, place, lists, out)
 }
 
 pub fn on_vote(
@@ -54,20 +61,21 @@ pub fn on_vote(
     live: &mut [u64],
     history: &[u64],
     h: MessageHead,
-    place: usize,
+    place: Option<usize>,
     out: &mut [u64],
 ) -> Reply
-    requires { Reached p live.old history.now h.from × (sizes.outgoing ≤ length out.old) }
+    requires reached { Reached p live.old history.now h.from × (sizes.outgoing ≤ length out.old) }
+    requires place { IsPlace place }
     ensures replied { Replied p live.old history.now result live.new history.now
-        (or_passed (site_of p live.old history.now) h place
-        (take_vote (site_of p live.old history.now) h place)) }
+        (or_passed (site_of p live.old history.now) h (place_number place)
+        (take_vote (site_of p live.old history.now) h (place_number place))) }
     ensures out_after { out.new
         ≡ overlay out.old
-        (or_passed (site_of p live.old history.now) h place
-        (take_vote (site_of p live.old history.now) h place)).words }
+        (or_passed (site_of p live.old history.now) h (place_number place)
+        (take_vote (site_of p live.old history.now) h (place_number place))).words }
 {
-    if LIVE <= place {
-        return shell::passed(p, h.from);
+    match place {
+        None => shell::passed(p, h.from),
+        Some(place) => handlers::coordinator::take_vote(p, live, history, h, place, out),
     }
-    handlers::coordinator::take_vote(p, live, history, h, place, out)
 }

@@ -5,11 +5,12 @@ ghost use Rattle.kinds.specs.Sizes as sizes;
 ghost use Rattle.rules.specs.Deliver.{take_kind};
 ghost use Rattle.rules.specs.DispatchLaws.{Incoming};
 ghost use Rattle.lent.specs.Lent.{site_of, Replied};
+ghost use Rattle.handlers.specs.Held.{IsPlace, place_number};
 
 use crate::coordinator::{on_conc, on_joined, on_vote};
 use crate::participant::{on_abort, on_cert, on_commit, on_prepare};
-use kinds::reason::MALFORMED;
-use kinds::{Core, MessageHead, Reply};
+use kinds::kind::MessageKind;
+use kinds::{Core, MessageHead, Refusal, Reply};
 
 pub fn take_kind(
     p: Core,
@@ -17,31 +18,32 @@ pub fn take_kind(
     history: &[u64],
     h: MessageHead,
     es: &[u64],
-    place: usize,
+    place: Option<usize>,
     lists: &mut [u64],
     out: &mut [u64],
 ) -> Reply
     requires incoming { Incoming (site_of p live.old history.now) h es.now }
+    requires place { IsPlace place }
     requires lists_len { (length lists.old ≡ sizes.lists) × (sizes.outgoing ≤ length out.old) }
     ensures replied { Replied p live.old history.now result live.new history.now
-        (take_kind h.kind (site_of p live.old history.now) h es.now lists.old place) }
+        (take_kind h.kind (site_of p live.old history.now) h es.now lists.old (place_number place)) }
     ensures lists_after { lists.new
-        ≡ (take_kind h.kind (site_of p live.old history.now) h es.now lists.old place).lent }
+        ≡ (take_kind h.kind (site_of p live.old history.now) h es.now lists.old (place_number place)).lent }
     ensures out_after { out.new
         ≡ overlay out.old
-        (take_kind h.kind (site_of p live.old history.now) h es.now lists.old place).words }
+        (take_kind h.kind (site_of p live.old history.now) h es.now lists.old (place_number place)).words }
 {
-    let kind = h.kind;
-    match kind {
-        1 => handlers::participant::take_join(p, live, history, h, place, out),
-        2 => on_joined(p, live, history, h, place),
-        3 => on_prepare(p, live, history, h, place, out),
-        4 => on_conc(p, live, history, h, es, place, lists, out),
-        5 => on_cert(p, live, history, h, es, place, out),
-        6 => on_vote(p, live, history, h, place, out),
-        7 => on_commit(p, live, history, h, place),
-        8 => on_abort(p, live, history, h, place),
-        0 => shell::refused(p, MALFORMED),
-        9..=18446744073709551615 => shell::refused(p, MALFORMED),
+    match MessageKind::try_from(h.kind) {
+        Ok(MessageKind::Join) => {
+            handlers::participant::take_join(p, live, history, h, place, out)
+        }
+        Ok(MessageKind::Joined) => on_joined(p, live, history, h, place),
+        Ok(MessageKind::Prepare) => on_prepare(p, live, history, h, place, out),
+        Ok(MessageKind::Conc) => on_conc(p, live, history, h, es, place, lists, out),
+        Ok(MessageKind::Cert) => on_cert(p, live, history, h, es, place, out),
+        Ok(MessageKind::Vote) => on_vote(p, live, history, h, place, out),
+        Ok(MessageKind::Commit) => on_commit(p, live, history, h, place),
+        Ok(MessageKind::Abort) => on_abort(p, live, history, h, place),
+        Err(_) => shell::refused(p, Refusal::Malformed),
     }
 }

@@ -6,7 +6,7 @@ ghost use Rattle.rules.specs.Message.{message_ok};
 ghost use Rattle.rules.specs.Deliver.{message_of};
 ghost use Rattle.lent.specs.Lent.{site_of, Replied};
 
-use crate::codes::{arrival_code, next_code};
+use crate::codes::{check_arrival, check_next};
 use crate::dispatch::take_kind;
 use kinds::sizes::MESSAGE_HEADER;
 use kinds::{Core, House, Reply};
@@ -16,10 +16,7 @@ fn formed(ok: bool, o: House, m: &[u64]) -> bool
     requires { ok ≡ true → o.sites ≤ sizes.sites }
     ensures { ok ≡ true → result ≡ message_ok o m.now }
 {
-    if !ok {
-        return false;
-    }
-    messages::message_ok(o, m)
+    ok && messages::message_ok(o, m)
 }
 
 pub fn message(
@@ -44,19 +41,14 @@ pub fn message(
     let ok = valid::handed_ok(p, live, history, lists);
     let house = tables::lent_house(p.house, live.len(), history.len());
     let fine = formed(ok, house, m);
-    let first = arrival_code(ok, out.len(), fine);
-    if first != 0 {
-        return shell::refused(p, first);
+    if let Err(cause) = check_arrival(ok, out.len(), fine) {
+        return shell::refused(p, cause);
     }
     let h = messages::read_head(m);
-    let channels = p.channels;
-    let taken = channels.taken;
     let from = h.from as usize - 1;
-    let next = next_code(h.to, p.counters.own, h.channel, taken[from]);
-    if next != 0 {
-        return shell::refused(p, next);
+    if let Err(cause) = check_next(h.to, p.counters.own, h.channel, p.channels.taken[from]) {
+        return shell::refused(p, cause);
     }
-    let seats = p.seats;
-    let place = live::place_of(seats, h.tx);
+    let place = live::place_of(p.seats, h.tx);
     take_kind(p, live, history, h, &m[MESSAGE_HEADER..], place, lists, out)
 }

@@ -1,5 +1,5 @@
 -- What a handler is called with: a possible site, a message that it takes next, and the place of its transaction.
-use Rattle.std.specs.Prelude.{ℕ, ◌*◌, ◌≤◌, ◌<◌, ◌≡◌, true, List, length}
+use Rattle.std.specs.Prelude.{ℕ, ◌*◌, ◌≤◌, ◌<◌, ◌≡◌, true, List, length, Option, unwrap_or, IfSome}
 use Rattle.kinds.specs.Sizes as sizes
 use Rattle.kinds.specs.declared.Core.{Core}
 use Rattle.kinds.specs.declared.MessageHead.{MessageHead}
@@ -8,6 +8,13 @@ use Rattle.rules.specs.Deliver.{Arriving}
 use Rattle.lent.specs.Lent.{site_of}
 use Rattle.lent.specs.Laws.{lent_lengths}
 use Rattle.shell.specs.Countable.{Countable, Comes, countable}
+
+-- a place as the rules have it: 16 for none; one that is there is one of the live table
+abbrev pub place_number : Option ℕ → ℕ
+place_number place = unwrap_or place sizes.live
+
+abbrev pub IsPlace : Option ℕ → Type 0
+IsPlace place = IfSome place (λ i. i < sizes.live)
 
 -- the site is possible, and the next message from that site can be counted
 pub record Reached (p : Core) (w h : List ℕ) (from : ℕ) : Type 0 where

@@ -9,7 +9,7 @@ ghost use Rattle.rules.specs.Deliver.{joined_in_turn, take_joined, conc_in_turn,
 ghost use Rattle.lent.specs.Lent.{site_of, Replied};
 ghost use Rattle.handlers.specs.Held.{Held};
 
-use crate::codes::reply_code;
+use crate::codes::check_reply;
 use kinds::sizes::SITES;
 use kinds::stage::{ACTIVE, PREPARED, QUEUED};
 use kinds::{Core, Course, MessageHead, Reply};
@@ -18,12 +18,7 @@ fn joined_in_turn(c: Course, from: u64) -> bool
     requires { (1 ≤ from) × (from ≤ sizes.sites) }
     ensures { result ≡ joined_in_turn c from }
 {
-    let wanted = course::turn::is_outstanding(c, from);
-    let stage = c.stage;
-    if stage != ACTIVE {
-        return false;
-    }
-    wanted
+    c.stage == ACTIVE && course::turn::is_outstanding(c, from)
 }
 
 pub fn take_joined(
@@ -40,9 +35,8 @@ pub fn take_joined(
     let t = shell::arrived(p, live, place, h.from);
     let c = t.sub.course;
     let turn = joined_in_turn(c, h.from);
-    let code = reply_code(turn, false);
-    if code != 0 {
-        return shell::refused(p, code);
+    if let Err(cause) = check_reply(turn, false) {
+        return shell::refused(p, cause);
     }
     let d = course::turn::with_heard(c, h.from, h.argument);
     let u = course::turn::with_course(t, d);
@@ -55,17 +49,11 @@ fn vote_in_turn(c: Course, from: u64, vote: u64) -> bool
     ensures { result ≡ vote_in_turn c from vote }
 {
     let wanted = course::turn::is_outstanding(c, from);
-    let stage = c.stage;
-    if stage == QUEUED {
-        return wanted;
+    match c.stage {
+        QUEUED => wanted,
+        PREPARED => vote != 0 && wanted,
+        _ => false,
     }
-    if stage != PREPARED {
-        return false;
-    }
-    if vote == 0 {
-        return false;
-    }
-    wanted
 }
 
 fn vote_decides(own: u64, c: Course, from: u64, vote: u64) -> bool
@@ -73,21 +61,15 @@ fn vote_decides(own: u64, c: Course, from: u64, vote: u64) -> bool
     requires le_own { (1 ≤ own) × (own ≤ sizes.sites) }
     ensures { result ≡ vote_decides own c from vote }
 {
-    let d = course::turn::with_heard(c, from, 0);
-    if vote != 0 {
-        return true;
-    }
-    live::all_heard(own, d.heard, c.mask)
+    let next = course::turn::with_heard(c, from, 0);
+    vote != 0 || live::all_heard(own, next.heard, c.mask)
 }
 
 // Whether a message to each other participant is due and cannot be counted.
 pub fn all_spent(due: bool, sent: [u64; SITES], mask: u64, own: u64) -> bool
     ensures { result ≡ every (due ∷ not (counts_low sent mask own) ∷ []) }
 {
-    if !due {
-        return false;
-    }
-    !messages::counts_low(sent, mask, own)
+    due && !messages::counts_low(sent, mask, own)
 }
 
 pub fn take_vote(
@@ -111,12 +93,9 @@ pub fn take_vote(
     let own = p.counters.own;
     let turn = vote_in_turn(c, h.from, h.argument);
     let due = vote_decides(own, c, h.from, h.argument);
-    let channels = p.channels;
-    let sent = channels.sent;
-    let spent = all_spent(due, sent, c.mask, own);
-    let code = reply_code(turn, spent);
-    if code != 0 {
-        return shell::refused(p, code);
+    let spent = all_spent(due, p.channels.sent, c.mask, own);
+    if let Err(cause) = check_reply(turn, spent) {
+        return shell::refused(p, cause);
     }
     let a = course::coordinator::vote_step(t, h.from, h.argument, out);
     shell::settled(p, live, place, a)
@@ -126,10 +105,5 @@ pub fn conc_in_turn(c: Course, from: u64) -> bool
     requires { (1 ≤ from) × (from ≤ sizes.sites) }
     ensures { result ≡ conc_in_turn c from }
 {
-    let wanted = course::turn::is_outstanding(c, from);
-    let stage = c.stage;
-    if stage != PREPARED {
-        return false;
-    }
-    wanted
+    c.stage == PREPARED && course::turn::is_outstanding(c, from)
 }

@@ -11,7 +11,7 @@ ghost use Rattle.lent.specs.Lent.{site_of, Replied};
 ghost use Rattle.handlers.specs.Cast.{cast_joined};
 ghost use Rattle.handlers.specs.Held.{Held, Gathered, Listing};
 
-use crate::codes::reply_code;
+use crate::codes::check_reply;
 use crate::coordinator::{all_spent, conc_in_turn};
 use kinds::sizes::{ENTRY, GATHERED};
 use kinds::{Core, MessageHead, Reply, Taken, Turn};
@@ -99,12 +99,9 @@ pub fn take_conc(
     let turn = conc_in_turn(b, h.from);
     let next = course::turn::with_heard(b, h.from, 0);
     let due = live::all_heard(own, next.heard, b.mask);
-    let channels = p.channels;
-    let sent = channels.sent;
-    let spent = all_spent(due, sent, b.mask, own);
-    let code = reply_code(turn, spent);
-    if code != 0 {
-        return shell::refused(p, code);
+    let spent = all_spent(due, p.channels.sent, b.mask, own);
+    if let Err(cause) = check_reply(turn, spent) {
+        return shell::refused(p, cause);
     }
     let at = GATHERED * place + ENTRY * b.listed;
     slices::copy_words(&mut lists[at..], es);

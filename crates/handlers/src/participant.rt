@@ -9,9 +9,9 @@ ghost use Rattle.rules.specs.Effect.{taken_of};
 ghost use Rattle.rules.specs.Course.{CanSendTo, prepared_step};
 ghost use Rattle.rules.specs.Deliver.{take_join, take_prepare, pass_prepare, take_cert, take_commit, take_abort};
 ghost use Rattle.lent.specs.Lent.{site_of, Replied};
-ghost use Rattle.handlers.specs.Held.{Held, Reached};
+ghost use Rattle.handlers.specs.Held.{Held, Reached, place_number};
 
-use crate::codes::reply_code;
+use crate::codes::check_reply;
 use kinds::desk::HOUSE;
 use kinds::kind::{JOINED, VOTE};
 use kinds::reason::{FULL, UNKNOWN};
@@ -28,30 +28,30 @@ pub fn take_join(
     live: &mut [u64],
     history: &[u64],
     h: MessageHead,
-    place: usize,
+    place: Option<usize>,
     out: &mut [u64],
 ) -> Reply
     requires { Reached p live.old history.now h.from × (sizes.outgoing ≤ length out.old) }
     ensures replied { Replied p live.old history.now result live.new history.now
-        (take_join (site_of p live.old history.now) h place) }
+        (take_join (site_of p live.old history.now) h (place_number place)) }
     ensures out_after { out.new
-        ≡ overlay out.old (take_join (site_of p live.old history.now) h place).words }
+        ≡ overlay out.old (take_join (site_of p live.old history.now) h (place_number place)).words }
 {
     let spent = course::turn::channel_spent(p.channels, h.from);
-    let code = reply_code(LIVE <= place, spent);
-    if code != 0 {
-        return shell::refused(p, code);
+    if let Err(cause) = check_reply(LIVE <= place.unwrap_or(LIVE), spent) {
+        return shell::refused(p, cause);
     }
     let t = shell::join_turn(p, h, h.argument);
-    let seats = p.seats;
-    let free = live::free_place(seats);
-    let none = [0u64; 0];
-    if LIVE <= free {
-        let a = course::send::send_to(t, JOINED, h.from, 0, FULL, &none, out);
-        return shell::spoken(p, a);
+    match live::free_place(p.seats) {
+        None => {
+            let a = course::send::send_to(t, JOINED, h.from, 0, FULL, &[], out);
+            shell::spoken(p, a)
+        }
+        Some(free) => {
+            let a = course::send::send_to(t, JOINED, h.from, 0, 0, &[], out);
+            shell::settled(p, live, free, a)
+        }
     }
-    let a = course::send::send_to(t, JOINED, h.from, 0, 0, &none, out);
-    shell::settled(p, live, free, a)
 }
 
 // Its list, or a vote of 19.
@@ -98,9 +98,8 @@ pub fn take_prepare(
     let first = shell::arrived(p, live, place, h.from);
     let t = course::turn::raise(first, h.clock);
     let spent = course::turn::channel_spent(p.channels, h.from);
-    let code = reply_code(t.sub.course.stage == ACTIVE, spent);
-    if code != 0 {
-        return shell::refused(p, code);
+    if let Err(cause) = check_reply(t.sub.course.stage == ACTIVE, spent) {
+        return shell::refused(p, cause);
     }
     let a = prepare_taken(p, live, history, h, place, t, out);
     shell::settled(p, live, place, a)
@@ -121,15 +120,13 @@ pub fn pass_prepare(
         ≡ overlay out.old (pass_prepare (site_of p live.now history.now) h).words }
 {
     let spent = course::turn::channel_spent(p.channels, h.from);
-    let code = reply_code(true, spent);
-    if code != 0 {
-        return shell::refused(p, code);
+    if let Err(cause) = check_reply(true, spent) {
+        return shell::refused(p, cause);
     }
     let first = shell::join_turn(p, h, HOUSE);
     let t = course::turn::raise(first, h.clock);
     let clock = t.counters.clock;
-    let none = [0u64; 0];
-    let a = course::send::send_to(t, VOTE, h.from, clock, UNKNOWN, &none, out);
+    let a = course::send::send_to(t, VOTE, h.from, clock, UNKNOWN, &[], out);
     shell::spoken(p, a)
 }
 
@@ -151,9 +148,8 @@ pub fn take_cert(
 {
     let t = shell::arrived(p, live, place, h.from);
     let spent = course::turn::channel_spent(p.channels, h.from);
-    let code = reply_code(t.sub.course.stage == PREPARED, spent);
-    if code != 0 {
-        return shell::refused(p, code);
+    if let Err(cause) = check_reply(t.sub.course.stage == PREPARED, spent) {
+        return shell::refused(p, cause);
     }
     let n = h.count as usize;
     let v = certify::vote_of(p, live, history, place, es, n);
@@ -175,9 +171,8 @@ pub fn take_commit(
     let first = shell::arrived(p, live, place, h.from);
     let t = course::turn::raise(first, h.clock);
     let c = t.sub.course;
-    let code = reply_code(c.stage == QUEUED, false);
-    if code != 0 {
-        return shell::refused(p, code);
+    if let Err(cause) = check_reply(c.stage == QUEUED, false) {
+        return shell::refused(p, cause);
     }
     let d = course::turn::with_decision(c, h.clock);
     let u = course::turn::with_course(t, d);
@@ -191,9 +186,8 @@ pub fn take_abort(p: Core, live: &mut [u64], history: &[u64], h: MessageHead, pl
         (take_abort (site_of p live.old history.now) h place) }
 {
     let t = shell::arrived(p, live, place, h.from);
-    let code = reply_code(t.sub.course.stage != DECIDED, false);
-    if code != 0 {
-        return shell::refused(p, code);
+    if let Err(cause) = check_reply(t.sub.course.stage != DECIDED, false) {
+        return shell::refused(p, cause);
     }
     let free = course::turn::no_sub();
     let u = course::turn::with_sub(t, free);

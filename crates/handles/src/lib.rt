@@ -1,7 +1,7 @@
-// What a program reads and writes, each with the system's number of the error by which its last failed call ended.
+// What a program reads and writes. A call of the system that fails gives the system's number of the error.
 #![tactic(auto)]
 
-ghost use Rattle.std.specs.Prelude.{◌≤◌, length, IfSome};
+ghost use Rattle.std.specs.Prelude.{◌≤◌, length, IfOk};
 
 use std::fs::File;
 use std::io;
@@ -16,72 +16,27 @@ pub fn number_of(e: io::Error) -> i32 {
     e.raw_os_error().unwrap_or(NO_NUMBER)
 }
 
+// What a script is read from.
 #[derive(Drop)]
-pub enum Origin {
+pub enum Source {
     Standard(Stdin),
     Named(File),
 }
 
-// What a script is read from.
-#[derive(Drop)]
-pub struct Source {
-    origin: Origin,
-    error: i32,
-}
-
 impl Source {
-    pub fn new(origin: Origin) -> Source {
-        Source { origin, error: 0 }
-    }
-
-    // 0 before the first that failed.
-    pub fn error(&self) -> i32 {
-        self.error
-    }
-
-    // Reads to the start of a block, and answers how many bytes: 0 at the end. None: the read failed.
-    pub fn read(&mut self, block: &mut [u8]) -> Option<usize>
-        ensures { IfSome result (λ n. n ≤ length block.new) }
+    // Reads to the start of a block, and answers how many bytes: 0 at the end.
+    pub fn read(&mut self, block: &mut [u8]) -> Result<usize, i32>
+        ensures { IfOk result (λ n. n ≤ length block.new) }
     {
-        let got = match &mut self.origin {
-            Origin::Standard(input) => input.read(block),
-            Origin::Named(file) => file.read(block),
-        };
-        match got {
-            Ok(n) => Some(n),
-            Err(e) => {
-                self.error = number_of(e);
-                None
-            }
+        match self {
+            Source::Standard(input) => input.read(block),
+            Source::Named(file) => file.read(block),
         }
+        .map_err(number_of)
     }
 }
 
-// Standard output.
-#[derive(Drop)]
-pub struct Output {
-    to: Stdout,
-    error: i32,
-}
-
-impl Output {
-    pub fn new(to: Stdout) -> Output {
-        Output { to, error: 0 }
-    }
-
-    // 0 before the first that failed.
-    pub fn error(&self) -> i32 {
-        self.error
-    }
-
-    // Writes all of the bytes. False: a write failed, and some of them may be written.
-    pub fn write(&mut self, bytes: &[u8]) -> bool {
-        match Print::write_all(&self.to, bytes) {
-            Ok(()) => true,
-            Err(e) => {
-                self.error = number_of(e);
-                false
-            }
-        }
-    }
+// Writes all of the bytes. Where that fails, some of them may be written.
+pub fn write(to: &Stdout, bytes: &[u8]) -> Result<(), i32> {
+    Print::write_all(to, bytes).map_err(number_of)
 }

@@ -22,6 +22,45 @@ pub const COMMIT: u64 = 7;
 // or that there is none.
 pub const ABORT: u64 = 8;
 
+// A message's kind, from its word.
+#[derive(Clone, Copy, Debug, PartialEq, Eq)]
+pub enum MessageKind {
+    Join,
+    Joined,
+    Prepare,
+    Conc,
+    Cert,
+    Vote,
+    Commit,
+    Abort,
+}
+
+// A word that is no kind of message.
+#[derive(Clone, Copy, Debug, PartialEq, Eq)]
+pub struct NoKind(pub u64);
+
+impl TryFrom<u64> for MessageKind {
+    type Error = NoKind;
+
+    ghost use Rattle.kinds.specs.MessageKind.{Decodes};
+
+    ghost try_from_gives = { Decodes };
+
+    fn try_from(word: u64) -> Result<Self, NoKind> {
+        match word {
+            JOIN => Ok(MessageKind::Join),
+            JOINED => Ok(MessageKind::Joined),
+            PREPARE => Ok(MessageKind::Prepare),
+            CONC => Ok(MessageKind::Conc),
+            CERT => Ok(MessageKind::Cert),
+            VOTE => Ok(MessageKind::Vote),
+            COMMIT => Ok(MessageKind::Commit),
+            ABORT => Ok(MessageKind::Abort),
+            _ => Err(NoKind(word)),
+        }
+    }
+}
+
 // Kinds of record (R1): an install of one site,
 pub const PART: u64 = 1;
 

@@ -1,7 +1,7 @@
 // The causes of refusal (N3), in the order of their table. A call that a cause forbids is refused with the cause's number.
 use crate::reason;
 
-#[derive(Clone, Copy)]
+#[derive(Clone, Copy, Debug, PartialEq, Eq)]
 pub enum Refusal {
     Short,
     Malformed,

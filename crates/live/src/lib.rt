@@ -54,12 +54,7 @@ pub fn place_of(seats: [Seat; LIVE], tx: u64) -> Option<usize>
 fn is_seat_of(a: Seat, tx: u64) -> bool
     ensures { result ≡ is_seat_of a tx }
 {
-    let stage = a.stage;
-    let held = a.tx;
-    if stage == FREE {
-        return false;
-    }
-    held == tx
+    a.stage != FREE && a.tx == tx
 }
 
 // Whether the part at place `i`, which is not `place`, holds `k`. Its seat tells whether there is one, and its words what it wrote.
@@ -68,14 +63,7 @@ fn other_holds(a: Seat, live: &[u64], place: usize, k: Key, i: usize) -> bool
     requires place_keys_bound { (keys_from live.now (sizes.place * i + word.place_keys)).wrote ≤ sizes.writes }
     ensures { result ≡ other_holds place k i (sub_from a live.now (sizes.place * i)) }
 {
-    let stage = a.stage;
-    if i == place {
-        return false;
-    }
-    if stage == FREE {
-        return false;
-    }
-    wrote_key_in(live, PLACE * i + PLACE_KEYS, k)
+    i != place && a.stage != FREE && wrote_key_in(live, PLACE * i + PLACE_KEYS, k)
 }
 
 // Whether `k` is held by another part than that at `place`.
@@ -84,13 +72,10 @@ pub fn key_held(seats: [Seat; LIVE], live: &[u64], place: usize, k: Key) -> bool
     requires by_index { (i : ℕ) → i < sizes.live → (part_at (live_of seats live.now) i).keys.wrote ≤ sizes.writes }
     ensures { result ≡ key_held (live_of seats live.now) place k }
 {
-    let mut i: usize = 0;
-    while i < LIVE {
-        let a = seats[i];
-        if other_holds(a, live, place, k, i) {
+    for i in 0..LIVE {
+        if other_holds(seats[i], live, place, k, i) {
             return true;
         }
-        i += 1;
     }
     false
 }
@@ -106,10 +91,7 @@ pub fn is_prepared(stage: u64) -> bool
 pub fn is_queued(stage: u64) -> bool
     ensures { result ≡ pick (eqb stage stages.queued) true (eqb stage stages.decided) }
 {
-    if stage == QUEUED {
-        return true;
-    }
-    stage == DECIDED
+    stage == QUEUED || stage == DECIDED
 }
 
 // Whether every other participant has replied in this round: only replies of participants count.

@@ -10,14 +10,19 @@ ghost use Rattle.said.specs.Said.{said_of};
 ghost use Rattle.pages.specs.Laid.{Laid, line_start, longest, full, nearly, ok_with};
 ghost use Rattle.pages.specs.Line.{outcome_of, line_of, line_with};
 
-use handles::Output;
+use handles::write;
 use kinds::Answer;
-use text::{digits, put, told, told_four, told_three, told_two};
+use script::Ending;
+use std::rt::Stdout;
+use text::{digits, put, told};
 
 // Bytes of a page, and at most of the longest line: an event's number, ` ok` and four numbers.
 pub const PAGE: usize = 65536;
 
 const LONGEST: usize = 128;
+
+// What stands before the results of a call that is taken.
+const OK: &[u8] = b" ok";
 
 // A page with this much on it has room for a line, and for one with four numbers more.
 const FULL: usize = PAGE - LONGEST;
@@ -28,11 +33,7 @@ const NEARLY: usize = PAGE - 2 * LONGEST;
 pub fn is_refused(a: Answer) -> bool
     ensures { result ≡ is_refused a }
 {
-    if let Answer::Refused(_) = a {
-        true
-    } else {
-        false
-    }
+    matches!(a, Answer::Refused(_))
 }
 
 #[tactic(auto, unfolding(said::specs::Said::said_of, crate::specs::Line::outcome_of, crate::specs::Line::results_of))]
@@ -42,44 +43,41 @@ fn outcome(page: &mut [u8], used: usize, a: Answer) -> usize
     ensures upper_bound { result ≤ used + (ok_with 4) }
 {
     match a {
-        Answer::Refused(code) => told(page, used, b" refused", code),
-        Answer::Done => put(page, used, b" ok"),
-        Answer::Begun { tx } => told(page, used, b" ok", tx),
-        Answer::Found { value } => told_two(page, used, value.start, value.length),
+        Answer::Refused(code) => told(page, used, b" refused", &[code]),
+        Answer::Done => told(page, used, OK, &[]),
+        Answer::Begun { tx } => told(page, used, OK, &[tx]),
+        Answer::Found { value } => told(page, used, OK, &[value.start, value.length]),
         Answer::Searched { value, looked } => {
-            told_three(page, used, value.start, value.length, looked)
+            told(page, used, OK, &[value.start, value.length, looked])
         }
-        Answer::Committed { number } => told(page, used, b" ok", number),
-        Answer::Aborted { reason } => told(page, used, b" ok abort", reason),
+        Answer::Committed { number } => told(page, used, OK, &[number]),
+        Answer::Aborted { reason } => told(page, used, b" ok abort", &[reason]),
         Answer::Installed {
             number,
             coordinator,
-        } => told_two(page, used, number, coordinator),
-        Answer::Reported { state } => told(page, used, b" ok", state),
+        } => told(page, used, OK, &[number, coordinator]),
+        Answer::Reported { state } => told(page, used, OK, &[state]),
         Answer::Emitted {
             number,
             coordinator,
             tx,
-        } => told_three(page, used, number, coordinator, tx),
+        } => told(page, used, OK, &[number, coordinator, tx]),
         Answer::Replayed {
             number,
             coordinator,
-        } => told_two(page, used, number, coordinator),
+        } => told(page, used, OK, &[number, coordinator]),
         Answer::Standing {
             value,
             number,
             coordinator,
-        } => told_four(
+        } => told(
             page,
             used,
-            b" ok",
-            value.start,
-            value.length,
-            number,
-            coordinator,
+            OK,
+            &[value.start, value.length, number, coordinator],
         ),
-        Answer::Paged { page: n, rest } => told_two(page, used, n, rest),
-        Answer::Offset { offset } => told(page, used, b" ok", offset),
+        Answer::Paged { page: n, rest } => told(page, used, OK, &[n, rest]),
+        Answer::Offset { offset } => told(page, used, OK, &[offset]),
     }
 }
 
@@ -92,37 +90,12 @@ fn line(page: &mut [u8], used: usize, event: u64, a: Answer) -> usize
     put(page, last, b"\n")
 }
 
-// Writes out what is on the page.
-pub fn flush(output: &mut Output, page: &[u8; PAGE], used: usize) -> bool {
-    let b = &page[..];
-    if used <= b.len() {
-        return output.write(&b[0..used]);
-    }
-    false
-}
-
-// How much is on the page, and whether all went well.
-#[derive(Clone, Copy)]
-pub struct Filled {
+// What is printed, gathered by the page: `to` is where it goes, and the first `used` bytes are still to be written.
+#[derive(Drop)]
+pub struct Page {
+    pub to: Stdout,
+    pub bytes: [u8; PAGE],
     pub used: usize,
-    pub ok: bool,
-}
-
-// Puts an event's line on the page, which is written out first where it is full.
-pub fn say(output: &mut Output, page: &mut [u8; PAGE], used: usize, event: u64, a: Answer) -> Filled
-    ensures { Laid page.old (line_start full used) (line_of event (said_of a)) page.new result.used }
-{
-    if used <= FULL {
-        return Filled {
-            used: line(page, used, event, a),
-            ok: true,
-        };
-    }
-    let ok = flush(output, page, used);
-    Filled {
-        used: line(page, 0, event, a),
-        ok,
-    }
 }
 
 fn line_with(
@@ -139,34 +112,66 @@ fn line_with(
     ensures { Laid page.old used (line_with event (said_of a) b c d e) page.new result }
 {
     let next = digits(page, used, event);
-    let told = outcome(page, next, a);
-    let last = told_four(page, told, b" ;", b, c, d, e);
+    let told_so_far = outcome(page, next, a);
+    let last = told(page, told_so_far, b" ;", &[b, c, d, e]);
     put(page, last, b"\n")
 }
 
-// The same with four numbers behind the outcome.
-pub fn say_with(
-    output: &mut Output,
-    page: &mut [u8; PAGE],
-    used: usize,
-    event: u64,
-    a: Answer,
-    b: u64,
-    c: u64,
-    d: u64,
-    e: u64,
-) -> Filled
-    ensures { Laid page.old (line_start nearly used) (line_with event (said_of a) b c d e) page.new result.used }
-{
-    if used <= NEARLY {
-        return Filled {
-            used: line_with(page, used, event, a, b, c, d, e),
-            ok: true,
-        };
+impl Page {
+    pub fn new(to: Stdout) -> Page {
+        Page {
+            to,
+            bytes: [0; PAGE],
+            used: 0,
+        }
     }
-    let ok = flush(output, page, used);
-    Filled {
-        used: line_with(page, 0, event, a, b, c, d, e),
-        ok,
+
+    // Writes out what is on the page, which is empty then.
+    pub fn flush(&mut self) -> Result<(), Ending>
+        ensures bytes { self.new.bytes ≡ self.old.bytes }
+        ensures used { self.new.used ≡ 0 }
+    {
+        let used = self.used.min(PAGE);
+        self.used = 0;
+        write(&self.to, &self.bytes[..used]).map_err(Ending::Unwritten)
+    }
+
+    // Writes out what is on the page where it is more than `most`.
+    fn leave_room(&mut self, most: usize) -> Result<(), Ending>
+        ensures bytes { self.new.bytes ≡ self.old.bytes }
+        ensures used { self.new.used ≡ line_start most self.old.used }
+    {
+        if self.used <= most {
+            return Ok(());
+        }
+        self.flush()
+    }
+
+    // Puts an event's line on the page, which is written out first where it is full.
+    pub fn say(&mut self, event: u64, a: Answer) -> Result<(), Ending>
+        ensures { Laid self.old.bytes (line_start full self.old.used) (line_of event (said_of a))
+            self.new.bytes self.new.used }
+    {
+        let flushed = self.leave_room(FULL);
+        self.used = line(&mut self.bytes, self.used, event, a);
+        flushed
+    }
+
+    // The same with four numbers behind the outcome.
+    pub fn say_with(
+        &mut self,
+        event: u64,
+        a: Answer,
+        b: u64,
+        c: u64,
+        d: u64,
+        e: u64,
+    ) -> Result<(), Ending>
+        ensures { Laid self.old.bytes (line_start nearly self.old.used) (line_with event (said_of a) b c d e)
+            self.new.bytes self.new.used }
+    {
+        let flushed = self.leave_room(NEARLY);
+        self.used = line_with(&mut self.bytes, self.used, event, a, b, c, d, e);
+        flushed
     }
 }

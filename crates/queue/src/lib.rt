@@ -2,11 +2,12 @@
 
 #![tactic(auto)]
 
-ghost use Rattle.std.specs.Prelude.{◌≡◌, List, ℕ, ◌-◌, min, length};
+ghost use Rattle.std.specs.Prelude.{◌≡◌, List, ℕ, ◌<◌, length, unwrap_or, IfSome};
 ghost use Rattle.kinds.specs.Sizes as sizes;
 ghost use Rattle.rules.specs.Queue.{comes_first, least_queued, is_installable, state_bound, state_number};
 ghost use Rattle.lent.specs.Layout.{live_of};
 ghost use Rattle.queue.specs.Asked.{asked};
+ghost use Rattle.queue.specs.Best.{IsPlaced, place_of, part_of};
 
 use kinds::Seat;
 use kinds::sizes::{LIVE, PLACE};
@@ -15,83 +16,60 @@ use kinds::word::PLACE_NUMBER;
 use live::is_queued;
 use numbers::precedes;
 
-// Whether a part of this stage, `number` and `tx` is queued and before the best so far: `least` and `first` are of that at place
-// `best`, which is `LIVE` for none. A transaction's number begins with its coordinator, so its order is that of the two.
-fn comes_first(stage: u64, number: u64, tx: u64, best: usize, least: u64, first: u64) -> bool
-    ensures { result ≡ comes_first (asked stage number tx) best (asked stage least first) }
-{
-    if !is_queued(stage) {
-        return false;
-    }
-    if LIVE <= best {
-        return true;
-    }
-    precedes(number, tx, least, first)
+// The queue's least so far: its place, number and transaction.
+#[derive(Clone, Copy)]
+struct Least {
+    place: usize,
+    number: u64,
+    tx: u64,
 }
 
-// The place of the queue's least, or `LIVE`.
-pub fn least_queued(seats: [Seat; LIVE], live: &[u64]) -> usize
-    requires { length live.now ≡ sizes.live_words }
-    ensures { result ≡ least_queued (live_of seats live.now) sizes.live }
+// Whether a part of this stage, `number` and `tx` is queued and before the least so far. A transaction's number begins with its
+// coordinator, so its order is that of the two.
+fn comes_first(stage: u64, number: u64, tx: u64, least: Option<Least>) -> bool
+    requires { IsPlaced least }
+    ensures { result ≡ comes_first (asked stage number tx) (place_of least) (part_of least) }
 {
-    let mut best = LIVE;
-    let mut least: u64 = 0;
-    let mut first: u64 = 0;
-    let mut i: usize = 0;
-    while i < LIVE {
-        let stage = seats[i].stage;
-        let tx = seats[i].tx;
-        let number = live[PLACE * i + PLACE_NUMBER];
-        if comes_first(stage, number, tx, best, least, first) {
-            best = i;
-            least = number;
-            first = tx;
+    is_queued(stage)
+        && match least {
+            None => true,
+            Some(first) => precedes(number, tx, first.number, first.tx),
         }
-        i += 1;
+}
+
+// The place of the queue's least.
+pub fn least_queued(seats: [Seat; LIVE], live: &[u64]) -> Option<usize>
+    requires { length live.now ≡ sizes.live_words }
+    ensures first { unwrap_or result sizes.live ≡ least_queued (live_of seats live.now) sizes.live }
+    ensures bound { IfSome result (λ i. i < sizes.live) }
+{
+    let mut least: Option<Least> = None;
+    for place in 0..LIVE {
+        let Seat { tx, stage } = seats[place];
+        let number = live[PLACE * place + PLACE_NUMBER];
+        if comes_first(stage, number, tx, least) {
+            least = Some(Least { place, number, tx });
+        }
     }
-    best
+    least.map(|first| first.place)
 }
 
 // Whether the part at `place` installs: it is decided.
 pub fn is_installable(seats: [Seat; LIVE], place: usize) -> bool
     ensures { (w : List ℕ) → result ≡ is_installable (live_of seats w) place }
 {
-    if LIVE <= place {
-        return false;
-    }
-    seats[place].stage == DECIDED
-}
-
-fn lesser(a: u64, b: u64) -> u64
-    ensures { result ≡ min a b }
-{
-    if a < b {
-        return a;
-    }
-    b
-}
-
-// One less; 0 stays 0.
-fn before(number: u64) -> u64
-    ensures { result ≡ number - 1 }
-{
-    if number == 0 {
-        return 0;
-    }
-    number - 1
+    place < LIVE && seats[place].stage == DECIDED
 }
 
 // The lesser of `n` and the bound of a part of this stage and `number`: an open mark, a decided number less 1.
 fn state_bound(stage: u64, number: u64, n: u64) -> u64
     ensures { (tx : ℕ) → result ≡ state_bound (asked stage number tx) n }
 {
-    if stage == QUEUED {
-        return lesser(n, number);
+    match stage {
+        QUEUED => n.min(number),
+        DECIDED => n.min(number.saturating_sub(1)),
+        _ => n,
     }
-    if stage == DECIDED {
-        return lesser(n, before(number));
-    }
-    n
 }
 
 // The least of the clock, the open marks and the decided numbers less 1.
@@ -100,10 +78,8 @@ pub fn state_number(seats: [Seat; LIVE], live: &[u64], clock: u64) -> u64
     ensures { result ≡ state_number (live_of seats live.now) clock sizes.live }
 {
     let mut least = clock;
-    let mut i: usize = 0;
-    while i < LIVE {
+    for i in 0..LIVE {
         least = state_bound(seats[i].stage, live[PLACE * i + PLACE_NUMBER], least);
-        i += 1;
     }
     least
 }

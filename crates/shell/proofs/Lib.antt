@@ -1,2 +1,3 @@
 -- A refusal by its cause.
 pub mod Refusals
+pub mod Checks

@@ -3,8 +3,7 @@ ghost use Rattle.std.specs.Prelude.{◌+◌, ◌≤◌};
 ghost use Rattle.spool.specs.Sizes as sizes;
 
 use crate::blocks::LAST_BLOCK;
-use crate::bytes::{get_word, put_word};
-use crate::{BLOCK, STORE};
+use crate::{BLOCK, STORE, Unkept};
 use handles::number_of;
 use std::fs::{File, OpenOptions};
 use std::io::ErrorKind;
@@ -13,8 +12,9 @@ use std::os::unix::fs::{FileExt, OpenOptionsExt};
 use std::random::RandomSource;
 use std::rt::Files;
 use std::{fs, io};
+use words::{read_words, write_words};
 
-const BYTES: usize = 8 * BLOCK;
+const BYTES: usize = words::BYTES * BLOCK;
 
 // How many names are tried in a folder, and the letters of a name's end.
 const TRIES: usize = 1000;
@@ -49,10 +49,7 @@ impl Spare {
 
     // The number under which the system has the file; none where there is no file.
     pub fn descriptor(&self) -> Option<i32> {
-        match &self.file {
-            Some(file) => Some(file.as_raw_fd()),
-            None => None,
-        }
+        self.file.as_ref().map(|file| file.as_raw_fd())
     }
 
     pub fn error(&self) -> i32 {
@@ -67,12 +64,8 @@ fn letter(x: u8) -> u8 {
 
 // Ends a name with letters, as the bytes say.
 fn end_in(name: &mut [u8], random: &[u8; LETTERS]) {
-    for i in 0..LETTERS {
-        if name.len() <= i {
-            return;
-        }
-        let at = name.len() - 1 - i;
-        name[at] = letter(random[i]);
+    for (place, byte) in name.iter_mut().rev().zip(random) {
+        *place = letter(*byte);
     }
 }
 
@@ -121,77 +114,55 @@ pub fn open<R: Files<File = File> + RandomSource>(rt: &R) -> Spare {
     open_as(rt, &mut other)
 }
 
-fn to_bytes(store: &[u64; STORE], at: usize, bytes: &mut [u8; BYTES])
-    requires { at + sizes.block ≤ sizes.store }
-{
-    let mut i: usize = 0;
-    while i < BLOCK {
-        put_word(bytes, 8 * i, store[at + i]);
-        i += 1;
-    }
-}
-
-fn from_bytes(bytes: &[u8; BYTES], store: &mut [u64; STORE], at: usize)
-    requires { at + sizes.block ≤ sizes.store }
-{
-    let mut i: usize = 0;
-    while i < BLOCK {
-        store[at + i] = get_word(bytes, 8 * i);
-        i += 1;
-    }
-}
-
-fn write_block(spare: &mut Spare, bytes: &[u8; BYTES], at: u64) -> bool {
-    let put = match &spare.file {
-        Some(file) => file.write_at(bytes, at),
-        None => return false,
+fn write_block(spare: &mut Spare, bytes: &[u8; BYTES], at: u64) -> Result<(), Unkept> {
+    let Some(file) = &spare.file else {
+        return Err(Unkept);
     };
-    match put {
-        Ok(n) => n == BYTES,
+    match file.write_at(bytes, at) {
+        Ok(BYTES) => Ok(()),
+        Ok(_) => Err(Unkept),
         Err(e) => {
             spare.error = number_of(e);
-            false
+            Err(Unkept)
         }
     }
 }
 
-fn read_block(spare: &mut Spare, bytes: &mut [u8; BYTES], at: u64) -> bool {
-    let got = match &spare.file {
-        Some(file) => file.read_at(bytes, at),
-        None => return false,
+fn read_block(spare: &mut Spare, bytes: &mut [u8; BYTES], at: u64) -> Result<(), Unkept> {
+    let Some(file) = &spare.file else {
+        return Err(Unkept);
     };
-    match got {
-        Ok(n) => n == BYTES,
+    match file.read_at(bytes, at) {
+        Ok(BYTES) => Ok(()),
+        Ok(_) => Err(Unkept),
         Err(e) => {
             spare.error = number_of(e);
-            false
+            Err(Unkept)
         }
     }
 }
 
 // Writes the words from `at` on as block b.
-pub fn save(spare: &mut Spare, store: &[u64; STORE], at: usize, b: u64) -> bool
+pub fn save(spare: &mut Spare, store: &[u64; STORE], at: usize, b: u64) -> Result<(), Unkept>
     requires { at + sizes.block ≤ sizes.store }
 {
     if LAST_BLOCK < b {
-        return false;
+        return Err(Unkept);
     }
     let mut bytes = [0u8; BYTES];
-    to_bytes(store, at, &mut bytes);
+    write_words(&mut bytes, &store[at..at + BLOCK]);
     write_block(spare, &bytes, b * BYTES as u64)
 }
 
 // Reads block b to the words from `at` on.
-pub fn load(spare: &mut Spare, store: &mut [u64; STORE], at: usize, b: u64) -> bool
+pub fn load(spare: &mut Spare, store: &mut [u64; STORE], at: usize, b: u64) -> Result<(), Unkept>
     requires { at + sizes.block ≤ sizes.store }
 {
     if LAST_BLOCK < b {
-        return false;
+        return Err(Unkept);
     }
     let mut bytes = [0u8; BYTES];
-    if !read_block(spare, &mut bytes, b * BYTES as u64) {
-        return false;
-    }
-    from_bytes(&bytes, store, at);
-    true
+    read_block(spare, &mut bytes, b * BYTES as u64)?;
+    read_words(&mut store[at..at + BLOCK], &bytes);
+    Ok(())
 }

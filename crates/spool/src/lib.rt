@@ -4,10 +4,9 @@
 #![tactic(auto)]
 
 mod blocks;
-mod bytes;
 mod file;
 
-ghost use Rattle.std.specs.Prelude.{◌≡◌, ◌+◌, ◌*◌, ◌<◌, ◌≤◌, length};
+ghost use Rattle.std.specs.Prelude.{◌≡◌, ◌+◌, ◌*◌, ◌<◌, ◌≤◌, length, IfOk};
 ghost use Rattle.spool.specs.Sizes as sizes;
 
 use blocks::{LIMIT, bring, follow, new_block, offset_of, place_of, release, room};
@@ -50,12 +49,15 @@ pub const CELLS: usize = TAGS + SLOTS;
 
 pub const STORE: usize = CELLS + SLOTS * BLOCK;
 
-// The first item of a queue: none, or its words and the address behind it. Failed: the file fails.
+// What is under way cannot be kept: the file fails, or there is none.
+#[derive(Clone, Copy, Debug)]
+pub struct Unkept;
+
+// An item that was copied: how many words it has, and the address behind it.
 #[derive(Clone, Copy)]
-pub enum First {
-    Nothing,
-    Failed,
-    Found(usize, u64),
+pub struct Item {
+    pub words: usize,
+    pub next: u64,
 }
 
 // How many words of an item are copied, and the address of the next one.
@@ -73,58 +75,28 @@ fn row(queue: usize, word: usize) -> usize
     TABLE + ROW * queue + word
 }
 
-fn least(a: usize, b: usize) -> usize
-    ensures { (result ≤ a) × (result ≤ b) }
-{
-    if a < b { a } else { b }
-}
-
-fn copy_out(store: &[u64; STORE], from: usize, item: &mut [u64; ITEM], to: usize, n: usize)
-    requires { (from + n ≤ sizes.store) × (to + n ≤ sizes.item) }
-{
-    let mut i: usize = 0;
-    while i < n {
-        item[to + i] = store[from + i];
-        i += 1;
-    }
-}
-
-fn copy_in(words: &[u64], from: usize, store: &mut [u64; STORE], to: usize, n: usize)
-    requires { (from + n ≤ length words.now) × (to + n ≤ sizes.store) }
-{
-    let mut i: usize = 0;
-    while i < n {
-        store[to + i] = words[from + i];
-        i += 1;
-    }
-}
-
-// Copies on, to the end of the block or to n words. No progress: the file fails.
+// Copies on, to the end of the block or to n words.
 fn read_run(
     spare: &mut Spare,
     store: &mut [u64; STORE],
     r: Run,
     item: &mut [u64; ITEM],
     n: usize,
-) -> Run
+) -> Result<Run, Unkept>
     requires { (r.done ≤ n) × (n ≤ sizes.item) }
-    ensures { result.done ≤ n }
+    ensures { IfOk result (λ s. s.done ≤ n) }
 {
-    let at = follow(spare, store, r.at);
-    if at == 0 {
-        return r;
-    }
+    let at = follow(spare, store, r.at)?;
     let b = at / BLOCK as u64;
-    if !bring(spare, store, b, false) {
-        return r;
-    }
+    bring(spare, store, b, false)?;
     let from = offset_of(at);
-    let k = least(LINK - from, n - r.done);
-    copy_out(store, place_of(b) + from, item, r.done, k);
-    Run {
+    let k = (LINK - from).min(n - r.done);
+    let start = place_of(b) + from;
+    item[r.done..r.done + k].copy_from_slice(&store[start..start + k]);
+    Ok(Run {
         at: at + k as u64,
         done: r.done + k,
-    }
+    })
 }
 
 fn read_words(
@@ -133,33 +105,36 @@ fn read_words(
     at: u64,
     item: &mut [u64; ITEM],
     n: usize,
-) -> First
+) -> Result<Item, Unkept>
     requires { n ≤ sizes.item }
 {
     let mut r = Run { at, done: 0 };
     while r.done < n {
-        let next = read_run(spare, store, r, item, n);
+        let next = read_run(spare, store, r, item, n)?;
         if next.done <= r.done {
-            return First::Failed;
+            return Err(Unkept);
         }
         r = next;
     }
-    First::Found(n, r.at)
+    Ok(Item {
+        words: n,
+        next: r.at,
+    })
 }
 
 // The item at an address.
-fn item_at(spare: &mut Spare, store: &mut [u64; STORE], at: u64, item: &mut [u64; ITEM]) -> First {
-    let first = follow(spare, store, at);
-    if first == 0 {
-        return First::Failed;
-    }
+fn item_at(
+    spare: &mut Spare,
+    store: &mut [u64; STORE],
+    at: u64,
+    item: &mut [u64; ITEM],
+) -> Result<Item, Unkept> {
+    let first = follow(spare, store, at)?;
     let b = first / BLOCK as u64;
-    if !bring(spare, store, b, false) {
-        return First::Failed;
-    }
+    bring(spare, store, b, false)?;
     let n = store[place_of(b) + offset_of(first)];
     if n > ITEM as u64 {
-        return First::Failed;
+        return Err(Unkept);
     }
     read_words(spare, store, first, item, n as usize)
 }
@@ -170,14 +145,14 @@ pub fn front(
     store: &mut [u64; STORE],
     queue: usize,
     item: &mut [u64; ITEM],
-) -> First
+) -> Result<Option<Item>, Unkept>
     requires { queue < sizes.queues }
 {
     if store[row(queue, WORDS)] == 0 {
-        return First::Nothing;
+        return Ok(None);
     }
     let at = store[row(queue, HEAD)];
-    item_at(spare, store, at, item)
+    Ok(Some(item_at(spare, store, at, item)?))
 }
 
 // Copies the item of a queue that is next for a cursor. It stays the next.
@@ -187,42 +162,44 @@ pub fn next(
     queue: usize,
     cursor: usize,
     item: &mut [u64; ITEM],
-) -> First
+) -> Result<Option<Item>, Unkept>
     requires { (queue < sizes.queues) × (cursor < sizes.queues) }
 {
     let read = store[row(cursor, WORDS)];
     if store[row(queue, WORDS)] <= read {
-        return First::Nothing;
+        return Ok(None);
     }
     if read == 0 {
         return front(spare, store, queue, item);
     }
     let at = store[row(cursor, HEAD)];
-    item_at(spare, store, at, item)
+    Ok(Some(item_at(spare, store, at, item)?))
 }
 
 // Moves a cursor on past its next item, as `next` found it.
-pub fn step(store: &mut [u64; STORE], cursor: usize, n: usize, next: u64)
+pub fn step(store: &mut [u64; STORE], cursor: usize, item: Item)
     requires { cursor < sizes.queues }
 {
     let read = store[row(cursor, WORDS)];
-    store[row(cursor, HEAD)] = next;
-    store[row(cursor, WORDS)] = std::num::wrapping_add_u64(read, n as u64);
+    store[row(cursor, HEAD)] = item.next;
+    store[row(cursor, WORDS)] = read.wrapping_add(item.words as u64);
 }
 
-// Lets the blocks from b on go, up to block `last`.
-fn release_to(spare: &mut Spare, store: &mut [u64; STORE], b: u64, last: u64) -> bool {
+// Lets the blocks from b on go, up to block `last`. The longest item lies in fewer blocks than it has words.
+fn release_to(
+    spare: &mut Spare,
+    store: &mut [u64; STORE],
+    b: u64,
+    last: u64,
+) -> Result<(), Unkept> {
     let mut at = b;
-    // The longest item lies in fewer blocks.
-    let mut left: u64 = ITEM as u64;
-    while at != last {
-        if left == 0 {
-            return false;
+    for _ in 0..ITEM {
+        if at == last {
+            return Ok(());
         }
-        at = release(spare, store, at);
-        left -= 1;
+        at = release(spare, store, at)?;
     }
-    true
+    if at == last { Ok(()) } else { Err(Unkept) }
 }
 
 // Takes the first item of a queue away, as `front` found it.
@@ -230,79 +207,79 @@ pub fn drop_front(
     spare: &mut Spare,
     store: &mut [u64; STORE],
     queue: usize,
-    n: usize,
-    next: u64,
-) -> bool
+    item: Item,
+) -> Result<(), Unkept>
     requires { queue < sizes.queues }
 {
     let words = store[row(queue, WORDS)];
-    if words < n as u64 {
-        return false;
+    if words < item.words as u64 {
+        return Err(Unkept);
     }
     let b = store[row(queue, HEAD)] / BLOCK as u64;
-    store[row(queue, HEAD)] = next;
-    store[row(queue, WORDS)] = words - n as u64;
-    release_to(spare, store, b, next / BLOCK as u64)
+    store[row(queue, HEAD)] = item.next;
+    store[row(queue, WORDS)] = words - item.words as u64;
+    release_to(spare, store, b, item.next / BLOCK as u64)
 }
 
-// Copies on, to the end of the block or of the words. No progress: the file fails.
-fn write_run(spare: &mut Spare, store: &mut [u64; STORE], r: Run, words: &[u64]) -> Run
+// Copies on, to the end of the block or of the words.
+fn write_run(
+    spare: &mut Spare,
+    store: &mut [u64; STORE],
+    r: Run,
+    words: &[u64],
+) -> Result<Run, Unkept>
     requires { r.done ≤ length words.now }
-    ensures { result.done ≤ length words.now }
+    ensures { IfOk result (λ s. s.done ≤ length words.now) }
 {
-    let at = room(spare, store, r.at);
-    if at == 0 {
-        return r;
-    }
+    let at = room(spare, store, r.at)?;
     let b = at / BLOCK as u64;
-    if !bring(spare, store, b, false) {
-        return r;
-    }
+    bring(spare, store, b, false)?;
     let to = offset_of(at);
-    let k = least(LINK - to, words.len() - r.done);
-    copy_in(words, r.done, store, place_of(b) + to, k);
-    Run {
+    let k = (LINK - to).min(words.len() - r.done);
+    let start = place_of(b) + to;
+    store[start..start + k].copy_from_slice(&words[r.done..r.done + k]);
+    Ok(Run {
         at: at + k as u64,
         done: r.done + k,
-    }
+    })
 }
 
 // Gives a queue its first block.
-fn first_block(spare: &mut Spare, store: &mut [u64; STORE], queue: usize) -> bool
+fn first_block(spare: &mut Spare, store: &mut [u64; STORE], queue: usize) -> Result<(), Unkept>
     requires { queue < sizes.queues }
 {
     if store[row(queue, TAIL)] != 0 {
-        return true;
+        return Ok(());
     }
-    let b = new_block(spare, store);
-    if b == 0 {
-        return false;
-    }
+    let b = new_block(spare, store)?;
     store[row(queue, HEAD)] = b * BLOCK as u64;
     store[row(queue, TAIL)] = b * BLOCK as u64;
-    true
+    Ok(())
 }
 
-// Puts an item at the end of a queue. False: the file fails.
-pub fn push(spare: &mut Spare, store: &mut [u64; STORE], queue: usize, words: &[u64]) -> bool
+// Puts an item at the end of a queue.
+pub fn push(
+    spare: &mut Spare,
+    store: &mut [u64; STORE],
+    queue: usize,
+    words: &[u64],
+) -> Result<(), Unkept>
     requires { queue < sizes.queues }
 {
-    if !first_block(spare, store, queue) {
-        return false;
-    }
+    first_block(spare, store, queue)?;
     let mut r = Run {
         at: store[row(queue, TAIL)],
         done: 0,
     };
     while r.done < words.len() {
-        let next = write_run(spare, store, r, words);
+        let next = write_run(spare, store, r, words)?;
         if next.done <= r.done {
-            return false;
+            return Err(Unkept);
         }
         r = next;
     }
     store[row(queue, TAIL)] = r.at;
     let held = store[row(queue, WORDS)];
-    store[row(queue, WORDS)] = std::num::wrapping_add_u64(held, words.len() as u64);
-    held < LIMIT
+    store[row(queue, WORDS)] = held.wrapping_add(words.len() as u64);
+    if held < LIMIT { Ok(()) } else { Err(Unkept) }
 }

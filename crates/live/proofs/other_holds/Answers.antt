@@ -1,19 +1,15 @@
 -- The three tests in order; what a part wrote is asked of its words.
 use borrow.Author.Rules.{rules}
-use borrow.Author.Tests.{eq-eqb, ne_eqb}
+use borrow.Author.Tests.{tests}
 use Rattle.laws.specs.Choice.{pick_self}
 use Rattle.rules.specs.Live.{other_holds}
 use Rattle.lent.specs.Layout.{sub_from}
 use Rattle.live.proofs.other_holds.Goals as goal
 
-pub returns-then-i-place : goal.returns-then-i-place
-unfolding other_holds
-returns-then-i-place c = search (eq-eqb, rules)
-
-pub returns-then-stage-eq-FREE : goal.returns-then-stage-eq-FREE
+pub returns-then-a-ne-FREE : goal.returns-then-a-ne-FREE
 unfolding other_holds sub_from
-returns-then-stage-eq-FREE c = search (eq-eqb, ne_eqb, rules)
+returns-then-a-ne-FREE c = search (← c.wrote_key_in.ensures, pick_self, tests, rules)
 
-pub returns : goal.returns
+pub returns-else-a-ne-FREE : goal.returns-else-a-ne-FREE
 unfolding other_holds sub_from
-returns c = search (← c.wrote_key_in.ensures, pick_self, ne_eqb, rules)
+returns-else-a-ne-FREE c = search (tests, rules)

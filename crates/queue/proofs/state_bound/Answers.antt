@@ -1,17 +1,17 @@
 -- A bound by stage.
 use borrow.Author.Rules.{rules}
-use borrow.Author.Tests.{eq-eqb, ne_eqb}
+use borrow.Author.Tests.{tests}
 use Rattle.rules.specs.Queue.{state_bound}
 use Rattle.queue.proofs.state_bound.Goals as goal
 
-pub returns-then-stage-eq-QUEUED : goal.returns-then-stage-eq-QUEUED
+pub returns-in-3 : goal.returns-in-3
 unfolding state_bound
-returns-then-stage-eq-QUEUED c = search (← c.lesser.ensures, eq-eqb, rules)
+returns-in-3 c = search (tests, rules)
 
-pub returns-then-stage-eq-DECIDED : goal.returns-then-stage-eq-DECIDED
+pub returns-in-4 : goal.returns-in-4
 unfolding state_bound
-returns-then-stage-eq-DECIDED c = search (← c.before-then-stage-eq-DECIDED.ensures, ← c.lesser-then-stage-eq-DECIDED.ensures, eq-eqb, ne_eqb, rules)
+returns-in-4 c = search (tests, rules)
 
-pub returns : goal.returns
+pub returns-in_default : goal.returns-in_default
 unfolding state_bound
-returns c = search (ne_eqb, rules)
+returns-in_default c = search (tests, rules)

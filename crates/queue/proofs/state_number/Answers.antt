@@ -2,7 +2,6 @@ use Prim.Native.Nat.{ℕ, ◌*◌, ◌+◌, ◌<◌}
 use mathlib.Core.Path.{◌≡◌, sym, ap, ◌∙◌}
 use mathlib.Core.List.{List}
 use native.Mathlib.Omega.{arith}
-use borrow.Author.Rules.{rules}
 use lib.ListN.{get_or}
 use Rattle.kinds.specs.Sizes as sizes
 use Rattle.kinds.specs.Word as word
@@ -23,7 +22,7 @@ bound_at seats w i tx n h =
     rw (← seat_stage seats w i h, ← place_number_lem seats w i h) (bound_asked (part_at (live_of seats w) i) tx n)
 
 pub loop-i-init : goal.loop-i-init
-loop-i-init c = (search rules, sym (state_none _ _))
+loop-i-init c = sym (state_none _ _)
 
 pub loop-i-preserved : goal.loop-i-preserved
 loop-i-preserved c =
@@ -31,11 +30,11 @@ loop-i-preserved c =
     let a = c.args in
     let live = live_of a.seats a.live.now in
     let bound = bound_at a.seats a.live.now l.i 0 l.least c.loop-i-test.true in
-    let least = ap (state_bound (part_at live l.i)) l.invariant.1 ∙ sym (state_more live a.clock l.i) in
-    (search rules, c.state_bound-least.ensures 0 ∙ bound ∙ least)
+    let least = ap (state_bound (part_at live l.i)) l.invariant ∙ sym (state_more live a.clock l.i) in
+    c.state_bound-least.ensures 0 ∙ bound ∙ least
 
 pub returns : goal.returns
 returns c =
     let l = c.loop-i in
     let q : l.i ≡ sizes.live = omega arith in
-    l.invariant.1 ∙ rw q
+    l.invariant ∙ rw q

@@ -1,22 +1,22 @@
--- An ABORT of a transaction that is held goes to its handler; for any other only the count is stepped.
-use borrow.Author.Tests.{le-ltb, lt-ltb}
+-- A ABORT of a transaction that is held goes to its handler; for any other only the count is stepped.
+use borrow.Author.Tests.{lt-ltb}
 use Rattle.kinds.specs.Sizes as sizes
 use Rattle.rules.specs.DispatchLaws.{or_passed}
 use Rattle.handlers.specs.Held.{counts, holds}
 use Rattle.deliver.proofs.participant.on_abort.Goals as goal
 
 pub passed-requires : goal.passed-requires
-passed-requires c = counts c.requires
+passed-requires c = counts c.requires.reached
 
-pub returns-then-place-ge-LIVE : goal.returns-then-place-ge-LIVE
+pub returns-in-None : goal.returns-in-None
 unfolding or_passed
-returns-then-place-ge-LIVE c =
-    let a = c.args in
-    rw (le-ltb a.place sizes.live c.if-place-ge-LIVE.true) (c.passed.ensures a.live.now a.history.now)
+returns-in-None c = let a = c.args in rw c.in-None.is (c.passed.ensures a.live.now a.history.now)
 
 pub take_abort-requires : goal.take_abort-requires
-take_abort-requires c = holds c.requires c.if-place-ge-LIVE.false
+take_abort-requires c = holds c.requires.reached (rw c.in-Some.is at c.requires.place)
 
-pub returns : goal.returns
+pub returns-in-Some : goal.returns-in-Some
 unfolding or_passed
-returns c = rw (lt-ltb c.args.place sizes.live c.if-place-ge-LIVE.false) c.take_abort.ensures
+returns-in-Some c =
+    let low = lt-ltb c.in-Some.place sizes.live (rw c.in-Some.is at c.requires.place) in
+    rw (c.in-Some.is, low) c.take_abort.ensures

@@ -1,40 +1,35 @@
 -- A CERT of a transaction that is held goes to its handler; for any other only the count is stepped.
 use native.Mathlib.Omega.{arith}
-use borrow.Author.Tests.{le-ltb, lt-ltb}
+use borrow.Author.Tests.{lt-ltb}
 use Rattle.laws.specs.Overlay.{overlay_none}
 use Rattle.kinds.specs.Sizes as sizes
 use Rattle.rules.specs.Deliver.{passed}
 use Rattle.rules.specs.DispatchLaws.{or_passed}
 use Rattle.rules.specs.Message.{most_entries}
-use Rattle.handlers.specs.Held.{Reached, counts, holds}
+use Rattle.handlers.specs.Held.{counts, holds}
 use Rattle.deliver.proofs.Takes.{few_entries, reaches}
-use Rattle.deliver.proofs.participant.on_cert.Goals.{Start}
 use Rattle.deliver.proofs.participant.on_cert.Goals as goal
 
-reached : (c : Start) → (let a = c.args in Reached a.p a.live.now a.history.now a.h.from)
-reached c =
-    reaches c.args.p c.args.live.now c.args.history.now c.requires.incoming.0
-
 pub passed-requires : goal.passed-requires
-passed-requires c =
-    let reached = reached (goal.at.passed-requires c).Start in
-    counts reached
+passed-requires c = counts (reaches _ _ _ c.requires.incoming.0)
 
-pub returns-then-place-ge-LIVE : goal.returns-then-place-ge-LIVE
+pub returns-in-None : goal.returns-in-None
 unfolding or_passed passed
-returns-then-place-ge-LIVE c =
+returns-in-None c =
     let a = c.args in
-    let l = le-ltb a.place sizes.live c.if-place-ge-LIVE.true in
-    record { replied = rw l (c.passed.ensures a.live.now a.history.now); out_after = rw l (overlay_none a.out.now) }
+    record { replied = rw c.in-None.is (c.passed.ensures a.live.now a.history.now); out_after = rw c.in-None.is (overlay_none a.out.now) }
 
 pub take_cert-requires : goal.take_cert-requires
 unfolding most_entries
 take_cert-requires c =
-    let reached = reached (goal.at.take_cert-requires c).Start in
-    let i = c.requires.incoming.0 in
-    let few = few_entries c.args.h.count c.requires.incoming.1 i.few in
-    record { held = (holds reached c.if-place-ge-LIVE.false, c.requires.outgoing_in_bounds); count_le_cert_entries = (few, omega (arith, i.size)) }
+    let pre = c.requires in
+    let i = pre.incoming.0 in
+    let held = holds (reaches _ _ _ i) (rw c.in-Some.is at pre.place) in
+    let few = few_entries c.args.h.count pre.incoming.1 i.few in
+    record { held = (held, pre.outgoing_in_bounds); count_le_cert_entries = (few, omega (arith, i.size)) }
 
-pub returns : goal.returns
+pub returns-in-Some : goal.returns-in-Some
 unfolding or_passed
-returns c = rw (lt-ltb c.args.place sizes.live c.if-place-ge-LIVE.false) c.take_cert.ensures
+returns-in-Some c =
+    let low = lt-ltb c.in-Some.place sizes.live (rw c.in-Some.is at c.requires.place) in
+    rw (c.in-Some.is, low) c.take_cert.ensures

@@ -1,16 +1,14 @@
--- The stage and the reply that is wanted are the rule's tests.
-use borrow.Author.Tests.{eq-eqb, ne_eqb}
+-- The stage, and whether the reply is awaited.
+use borrow.Author.Rules.{rules}
+use borrow.Author.Tests.{tests}
 use Rattle.laws.specs.Choice.{pick_self}
 use Rattle.rules.specs.Deliver.{conc_in_turn}
-use Rattle.kinds.specs.Stage as stage
 use Rattle.handlers.proofs.coordinator.conc_in_turn.Goals as goal
 
-pub returns-then-stage-ne-PREPARED : goal.returns-then-stage-ne-PREPARED
+pub returns-then-c-eq-PREPARED : goal.returns-then-c-eq-PREPARED
 unfolding conc_in_turn
-returns-then-stage-ne-PREPARED c = simp (ne_eqb c.args.c.stage stage.prepared c.if-stage-ne-PREPARED.true)
+returns-then-c-eq-PREPARED c = search (← c.is_outstanding.ensures, pick_self, tests, rules)
 
-pub returns : goal.returns
+pub returns-else-c-eq-PREPARED : goal.returns-else-c-eq-PREPARED
 unfolding conc_in_turn
-returns c =
-    let a = c.args in
-    simp (eq-eqb a.c.stage stage.prepared c.if-stage-ne-PREPARED.false, ← c.is_outstanding-wanted.ensures, pick_self)
+returns-else-c-eq-PREPARED c = search (tests, rules)

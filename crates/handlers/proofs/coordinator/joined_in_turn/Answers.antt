@@ -1,14 +1,14 @@
--- The stage and the reply that is wanted are the rule's tests.
-use borrow.Author.Tests.{eq-eqb, ne_eqb}
+-- The stage, and whether the reply is awaited.
+use borrow.Author.Rules.{rules}
+use borrow.Author.Tests.{tests}
 use Rattle.laws.specs.Choice.{pick_self}
 use Rattle.rules.specs.Deliver.{joined_in_turn}
-use Rattle.kinds.specs.Stage as stage
 use Rattle.handlers.proofs.coordinator.joined_in_turn.Goals as goal
 
-pub returns-then-stage-ne-ACTIVE : goal.returns-then-stage-ne-ACTIVE
+pub returns-then-c-eq-ACTIVE : goal.returns-then-c-eq-ACTIVE
 unfolding joined_in_turn
-returns-then-stage-ne-ACTIVE c = simp (ne_eqb c.args.c.stage stage.active c.if-stage-ne-ACTIVE.true)
+returns-then-c-eq-ACTIVE c = search (← c.is_outstanding.ensures, pick_self, tests, rules)
 
-pub returns : goal.returns
+pub returns-else-c-eq-ACTIVE : goal.returns-else-c-eq-ACTIVE
 unfolding joined_in_turn
-returns c = simp (eq-eqb c.args.c.stage stage.active c.if-stage-ne-ACTIVE.false, ← c.is_outstanding-wanted.ensures, pick_self)
+returns-else-c-eq-ACTIVE c = search (tests, rules)

@@ -1,11 +1,13 @@
 -- Refused out of turn; else the reply is heard, with its reason.
-use mathlib.Core.Path.{◌≡◌, ap, ◌∙◌}
+use mathlib.Core.Path.{◌≡◌, refl, ap, ◌∙◌}
 use mathlib.Core.Bool.{false}
 use mathlib.Core.List.{[]}
-use borrow.Author.Tests.{eq-eqb, ne_eqb}
 use Rattle.kinds.specs.declared.Course.{Course}
 use Rattle.kinds.specs.declared.MessageHead.{MessageHead}
 use Rattle.kinds.specs.declared.Turn.{Turn}
+use Rattle.kinds.specs.Refusal.{refusal_in}
+use Rattle.shell.proofs.Refusals.{stopped}
+use Rattle.shell.proofs.Checks.{found_none}
 use Rattle.rules.specs.Course.{quietly, with_course_of, with_reply}
 use Rattle.rules.specs.Deliver.{arrived, joined_in_turn, reply_code, take_joined}
 use Rattle.rules.specs.Effect.{Change, taken_of}
@@ -29,12 +31,13 @@ joined_in_turn-turn-requires c =
     let a = c.requires.arriving in
     (a.first, a.last)
 
-pub returns-then-code-ne0 : goal.returns-then-code-ne0
+pub returns-in-Err : goal.returns-in-Err
 unfolding take_joined
-returns-then-code-ne0 c =
+returns-in-Err c =
     let part : Turn = let a = c.args in arrived (site_of a.p a.live.now a.history.now) a.place a.h.from in
-    let first : c.reply_code-code.result ≡ reply_code (joined_in_turn part.sub.course c.args.h.from) false = rw (← c.arrived-t.ensures c.args.history.now, ← c.joined_in_turn-turn.ensures) c.reply_code-code.ensures in
-    rw (← first, ne_eqb c.reply_code-code.result 0 c.if-code-ne0.true) (c.refused.ensures _ _ [])
+    let first : refusal_in c.check_reply.result ≡ reply_code (joined_in_turn part.sub.course c.args.h.from) false = rw (← c.arrived-t.ensures c.args.history.now, ← c.joined_in_turn-turn.ensures) c.check_reply.ensures in
+    let told = rw c.in-Err.is at first in
+    rw (← told, stopped c.in-Err.cause _ refl) (c.refused.ensures _ _ [])
 
 pub with_heard-d-requires : goal.with_heard-d-requires
 with_heard-d-requires c =
@@ -48,6 +51,7 @@ pub returns : goal.returns
 unfolding take_joined
 returns c =
     let part : Turn = let a = c.args in arrived (site_of a.p a.live.now a.history.now) a.place a.h.from in
-    let first : c.reply_code-code.result ≡ reply_code (joined_in_turn part.sub.course c.args.h.from) false = rw (← c.arrived-t.ensures c.args.history.now, ← c.joined_in_turn-turn.ensures) c.reply_code-code.ensures in
+    let first : refusal_in c.check_reply.result ≡ reply_code (joined_in_turn part.sub.course c.args.h.from) false = rw (← c.arrived-t.ensures c.args.history.now, ← c.joined_in_turn-turn.ensures) c.check_reply.ensures in
     let q = same c.args.h part _ _ _ (c.arrived-t.ensures c.args.history.now) c.with_heard-d.ensures c.with_course-u.ensures in
-    rw (← first, eq-eqb c.reply_code-code.result 0 c.if-code-ne0.false) (c.settled.ensures (step part c.args.h) (c.quietly-a.ensures ∙ ap taken_of q) c.args.history.now [])
+    let none = found_none _ _ c.in_default.not-Err first in
+    rw (← none) (c.settled.ensures (step part c.args.h) (c.quietly-a.ensures ∙ ap taken_of q) c.args.history.now [])

@@ -3,13 +3,16 @@ use Prim.Native.Nat.{ℕ, ◌≤◌}
 use mathlib.Core.Path.{◌≡◌, refl, sym, ap, ◌∙◌}
 use mathlib.Core.Bool.{true, not}
 use mathlib.Core.List.{[], ◌∷◌}
-use borrow.Author.Tests.{eq-eqb, ne_eqb, not-false}
+use borrow.Author.Tests.{not-false}
 use Rattle.laws.specs.Choice.{every}
 use Rattle.laws.specs.Overlay.{overlay, overlay_none}
 use Rattle.kinds.specs.Sizes as sizes
 use Rattle.kinds.specs.declared.MessageHead.{MessageHead}
 use Rattle.kinds.specs.declared.Site.{Site}
 use Rattle.kinds.specs.declared.Turn.{Turn}
+use Rattle.kinds.specs.Refusal.{refusal_in}
+use Rattle.shell.proofs.Refusals.{stopped}
+use Rattle.shell.proofs.Checks.{found_none}
 use Rattle.rules.specs.CallLaws.{not_both, reply_clear}
 use Rattle.rules.specs.Course.{CanSendAll, raise, vote_decides, vote_step}
 use Rattle.rules.specs.Deliver.{arrived, reply_code, take_vote, vote_in_turn}
@@ -19,7 +22,7 @@ use Rattle.rules.specs.Valid.{site_ok}
 use Rattle.rules.specs.ValidLaws.{valid_own}
 use Rattle.lent.specs.Lent.{site_of}
 use Rattle.handlers.specs.Held.{arrives, settles}
-use Rattle.handlers.proofs.coordinator.take_vote.Goals.{After-reply_code-code}
+use Rattle.handlers.proofs.coordinator.take_vote.Goals.{After-check_reply}
 use Rattle.handlers.proofs.coordinator.take_vote.Goals as goal
 
 abbrev part : Site → MessageHead → ℕ → Turn
@@ -44,17 +47,17 @@ alike : (s : Site) (h : MessageHead) (place k : ℕ) → against s h (part_at s 
 unfolding raise
 alike s h place k = refl
 
-turned : (c : After-reply_code-code) → (let handed : Site = let a = c.args in site_of a.p a.live.now a.history.now in c.raise-t.result ≡ part_at handed c.args.h c.args.place (raised_to c.args.h))
+turned : (c : After-check_reply) → (let handed : Site = let a = c.args in site_of a.p a.live.now a.history.now in c.raise-t.result ≡ part_at handed c.args.h c.args.place (raised_to c.args.h))
 turned c =
     let a = c.args in
     c.raise-t.ensures ∙ ap (λ (x : Turn). raise x (raised_to a.h)) (c.arrived-first.ensures a.history.now)
 
 -- the first cause against it
-first : (c : After-reply_code-code) → (let handed : Site = let a = c.args in site_of a.p a.live.now a.history.now in c.reply_code-code.result ≡ against handed c.args.h (part handed c.args.h c.args.place))
+first : (c : After-check_reply) → (let handed : Site = let a = c.args in site_of a.p a.live.now a.history.now in refusal_in c.check_reply.result ≡ against handed c.args.h (part handed c.args.h c.args.place))
 first c =
     let handed : Site = let a = c.args in site_of a.p a.live.now a.history.now in
     let turned = turned c in
-    let found : c.reply_code-code.result ≡ against handed c.args.h (part_at handed c.args.h c.args.place (raised_to c.args.h)) = rw (← turned, ← c.vote_decides-due.ensures, ← c.vote_in_turn-turn.ensures, ← c.all_spent-spent.ensures) c.reply_code-code.ensures in
+    let found : refusal_in c.check_reply.result ≡ against handed c.args.h (part_at handed c.args.h c.args.place (raised_to c.args.h)) = rw (← turned, ← c.vote_decides-due.ensures, ← c.vote_in_turn-turn.ensures, ← c.all_spent-spent.ensures) c.check_reply.ensures in
     found ∙ alike handed c.args.h c.args.place _
 
 same : (h : MessageHead) (t u : Turn) → t ≡ u → vote_step t h.from h.argument ≡ vote_step u h.from h.argument
@@ -88,21 +91,22 @@ vote_decides-due-requires c =
     let held = c.requires.held in
     record { le_from = (held.arriving.first, held.arriving.last); le_own = valid_own handed held.possible }
 
-pub returns-then-code-ne0 : goal.returns-then-code-ne0
+pub returns-in-Err : goal.returns-in-Err
 unfolding take_vote
-returns-then-code-ne0 c =
-    let first = first (goal.at.returns-then-code-ne0 c).After-reply_code-code in
-    let n = ne_eqb c.reply_code-code.result 0 c.if-code-ne0.true in
-    record { replied = rw (← first, n) (c.refused.ensures _ _ []); out_after = rw (← first, n) (overlay_none c.args.out.now) }
+returns-in-Err c =
+    let first = first (goal.at.returns-in-Err c).After-check_reply in
+    let told = rw c.in-Err.is at first in
+    let n = stopped c.in-Err.cause _ refl in
+    record { replied = rw (← told, n) (c.refused.ensures _ _ []); out_after = rw (← told, n) (overlay_none c.args.out.now) }
 
 pub vote_step-a-requires : goal.vote_step-a-requires
 vote_step-a-requires c =
     let handed : Site = let a = c.args in site_of a.p a.live.now a.history.now in
-    let turned = turned (goal.at.vote_step-a-requires c).After-reply_code-code in
-    let first = first (goal.at.vote_step-a-requires c).After-reply_code-code in
+    let turned = turned (goal.at.vote_step-a-requires c).After-check_reply in
+    let first = first (goal.at.vote_step-a-requires c).After-check_reply in
     let a = c.args in
     let held = c.requires.held in
-    let z = sym first ∙ c.if-code-ne0.false in
+    let z = sym (found_none _ _ c.in_default.not-Err first) in
     record { can_send_all = sends handed a.h a.place _ _ _ turned held.possible c.requires.outgoing_in_bounds z; le_site = ((held.arriving.first, held.arriving.last), own_same handed a.h a.place _ _ turned held.possible) }
 
 pub settled-requires : goal.settled-requires
@@ -112,10 +116,10 @@ pub returns : goal.returns
 unfolding take_vote
 returns c =
     let handed : Site = let a = c.args in site_of a.p a.live.now a.history.now in
-    let turned = turned (goal.at.returns c).After-reply_code-code in
-    let first = first (goal.at.returns c).After-reply_code-code in
+    let turned = turned (goal.at.returns c).After-check_reply in
+    let first = first (goal.at.returns c).After-check_reply in
     let a = c.args in
-    let z = eq-eqb c.reply_code-code.result 0 c.if-code-ne0.false in
+    let none = found_none _ _ c.in_default.not-Err first in
     let change = vote_step (part handed a.h a.place) a.h.from a.h.argument in
     let q = same a.h _ _ turned in
-    record { replied = rw (← first, z) (c.settled.ensures change (c.vote_step-a.ensures.value ∙ ap taken_of q) a.history.now []); out_after = rw (← first, z) (c.vote_step-a.ensures.out_after ∙ ap (λ x. overlay a.out.now x.words) q) }
+    record { replied = rw (← none) (c.settled.ensures change (c.vote_step-a.ensures.value ∙ ap taken_of q) a.history.now []); out_after = rw (← none) (c.vote_step-a.ensures.out_after ∙ ap (λ x. overlay a.out.now x.words) q) }

@@ -8,6 +8,6 @@ pub returns-then-vote-ne0 : goal.returns-then-vote-ne0
 unfolding vote_decides
 returns-then-vote-ne0 c = simp (ne_eqb c.args.vote 0 c.if-vote-ne0.true)
 
-pub returns : goal.returns
+pub returns-else-vote-ne0 : goal.returns-else-vote-ne0
 unfolding vote_decides
-returns c = simp (eq-eqb c.args.vote 0 c.if-vote-ne0.false, ← c.with_heard-d.ensures, ← c.all_heard.ensures, pick_self)
+returns-else-vote-ne0 c = simp (eq-eqb c.args.vote 0 c.if-vote-ne0.false, ← c.with_heard-next.ensures, ← c.all_heard.ensures, pick_self)

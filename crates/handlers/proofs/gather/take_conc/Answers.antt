@@ -4,7 +4,7 @@ use mathlib.Core.Path.{◌≡◌, refl, sym, ap, ◌∙◌}
 use mathlib.Core.Bool.{Bool, true}
 use mathlib.Core.List.{List, [], ◌∷◌, ◌++◌}
 use native.Mathlib.Omega.{arith}
-use borrow.Author.Tests.{eq-eqb, ne_eqb, not-false}
+use borrow.Author.Tests.{not-false}
 use lib.ListN.{drop, length, take}
 use Rattle.laws.specs.Choice.{every}
 use Rattle.laws.specs.Overlay.{length_rest, overlay, overlay_none, put_part}
@@ -14,6 +14,7 @@ use Rattle.kinds.specs.declared.Course.{Course}
 use Rattle.kinds.specs.declared.MessageHead.{MessageHead}
 use Rattle.kinds.specs.declared.Site.{Site}
 use Rattle.kinds.specs.declared.Turn.{Turn}
+use Rattle.shell.proofs.Refusals.{stopped}
 use Rattle.rules.specs.CallLaws.{not_both, reply_clear}
 use Rattle.rules.specs.Course.{CanSendAll, with_reply}
 use Rattle.rules.specs.Deliver.{Arriving, conc_in_turn, gather_change, gather_lists, reply_code, spent_to_all, take_conc}
@@ -26,6 +27,7 @@ use Rattle.rules.specs.Valid.{site_ok}
 use Rattle.rules.specs.ValidLaws.{valid_own, valid_site}
 use Rattle.lent.specs.Lent.{site_of}
 use Rattle.handlers.specs.Held.{settles}
+use Rattle.handlers.proofs.gather.take_conc.Goals.{In_default}
 use Rattle.handlers.proofs.gather.take_conc.Goals as goal
 
 -- what is against the step, and where the list is laid
@@ -90,6 +92,24 @@ kept : (s : Site) (place count : ℕ) (lists es : List ℕ) → length es ≡ si
 unfolding gather_lists turn_at
 kept s place count lists es e f = length_put _ lists es (omega (arith, e, f.low, f.few, f.whole)) ∙ f.whole
 
+-- nothing is against it where the list is laid
+clear : (c : In_default) → (let a = c.args in against (site_of a.p a.live.now a.history.now) a.h a.place ≡ 0)
+clear c =
+    let a = c.args in
+    let turned = c.turn_at-part.ensures a.history.now in
+    let told = coded (site_of a.p a.live.now a.history.now) a.h a.place _ turned _ _ _ _
+    c.conc_in_turn-turn.ensures c.with_heard-next.ensures c.all_heard-due.ensures c.all_spent-spent.ensures in
+    sym (c.in_default.ensures ∙ told)
+
+fits : (c : In_default) → (let a = c.args in Fits (length a.lists.now) a.place a.h.count c.turn_at-part.result)
+fits c =
+    let a = c.args in
+    let held = c.requires.held.0 in
+    let l = c.requires.listing.0 in
+    let few = room (site_of a.p a.live.now a.history.now) a.h a.place _ (c.turn_at-part.ensures a.history.now)
+    held.possible held.arriving held.low l.few l.other (clear c) in
+    record { low = held.low; few = few; whole = c.requires.held.1 }
+
 pub turn_at-part-requires : goal.turn_at-part-requires
 turn_at-part-requires c = settles c.requires.held.0
 
@@ -108,100 +128,59 @@ all_heard-due-requires c =
     let handed : Site = let a = c.args in site_of a.p a.live.now a.history.now in
     valid_own handed c.requires.held.0.possible
 
-pub returns-then-code-ne0 : goal.returns-then-code-ne0
+pub returns-in-Err : goal.returns-in-Err
 unfolding take_conc
-returns-then-code-ne0 c =
-    let handed : Site = let a = c.args in site_of a.p a.live.now a.history.now in
-    let turned : c.turn_at-part.result ≡ turn_at handed c.args.place = c.turn_at-part.ensures c.args.history.now in
-    let first : c.reply_code-code.result ≡ against handed c.args.h c.args.place = c.reply_code-code.ensures ∙ coded handed c.args.h c.args.place _ turned _ _ _ _ c.conc_in_turn-turn.ensures c.with_heard-next.ensures c.all_heard-due.ensures c.all_spent-spent.ensures in
-    let n = ne_eqb c.reply_code-code.result 0 c.if-code-ne0.true in
+returns-in-Err c =
     let a = c.args in
-    record { replied = rw (← first, n) (c.refused.ensures _ _ a.lists.now); lists_after = rw (← first, n) refl; out_after = rw (← first, n) (overlay_none a.out.now) }
+    let turned = c.turn_at-part.ensures a.history.now in
+    let told = c.in-Err.ensures ∙ coded (site_of a.p a.live.now a.history.now) a.h a.place _ turned _ _ _ _
+    c.conc_in_turn-turn.ensures c.with_heard-next.ensures c.all_heard-due.ensures c.all_spent-spent.ensures in
+    let n = stopped c.in-Err.cause _ refl in
+    record {
+      replied = rw (← told, n) (c.refused.ensures _ _ a.lists.now);
+      lists_after = rw (← told, n) refl;
+      out_after = rw (← told, n) (overlay_none a.out.now);
+    }
 
 pub overflow_mul-at : goal.overflow_mul-at
-overflow_mul-at c =
-    let handed : Site = let a = c.args in site_of a.p a.live.now a.history.now in
-    let turned : c.turn_at-part.result ≡ turn_at handed c.args.place = c.turn_at-part.ensures c.args.history.now in
-    let first : c.reply_code-code.result ≡ against handed c.args.h c.args.place = c.reply_code-code.ensures ∙ coded handed c.args.h c.args.place _ turned _ _ _ _ c.conc_in_turn-turn.ensures c.with_heard-next.ensures c.all_heard-due.ensures c.all_spent-spent.ensures in
-    let clear : against handed c.args.h c.args.place ≡ 0 = sym first ∙ c.if-code-ne0.false in
-    let fits : let a = c.args in Fits (length a.lists.now) a.place a.h.count c.turn_at-part.result = let held = c.requires.held.0 in let l = c.requires.listing.0 in record { low = held.low; few = room handed c.args.h c.args.place _ turned held.possible held.arriving held.low l.few l.other (clear); whole = c.requires.held.1 } in
-    let f = fits in
-    omega (arith, f.low)
+overflow_mul-at c = let f = fits (goal.at.overflow_mul-at c).In_default in omega (arith, f.low)
 
 pub overflow_mul-at-2 : goal.overflow_mul-at-2
-overflow_mul-at-2 c =
-    let handed : Site = let a = c.args in site_of a.p a.live.now a.history.now in
-    let turned : c.turn_at-part.result ≡ turn_at handed c.args.place = c.turn_at-part.ensures c.args.history.now in
-    let first : c.reply_code-code.result ≡ against handed c.args.h c.args.place = c.reply_code-code.ensures ∙ coded handed c.args.h c.args.place _ turned _ _ _ _ c.conc_in_turn-turn.ensures c.with_heard-next.ensures c.all_heard-due.ensures c.all_spent-spent.ensures in
-    let clear : against handed c.args.h c.args.place ≡ 0 = sym first ∙ c.if-code-ne0.false in
-    let fits : let a = c.args in Fits (length a.lists.now) a.place a.h.count c.turn_at-part.result = let held = c.requires.held.0 in let l = c.requires.listing.0 in record { low = held.low; few = room handed c.args.h c.args.place _ turned held.possible held.arriving held.low l.few l.other (clear); whole = c.requires.held.1 } in
-    let f = fits in
-    omega (arith, f.few)
+overflow_mul-at-2 c = let f = fits (goal.at.overflow_mul-at-2 c).In_default in omega (arith, f.few)
 
 pub overflow_add-at : goal.overflow_add-at
-overflow_add-at c =
-    let handed : Site = let a = c.args in site_of a.p a.live.now a.history.now in
-    let turned : c.turn_at-part.result ≡ turn_at handed c.args.place = c.turn_at-part.ensures c.args.history.now in
-    let first : c.reply_code-code.result ≡ against handed c.args.h c.args.place = c.reply_code-code.ensures ∙ coded handed c.args.h c.args.place _ turned _ _ _ _ c.conc_in_turn-turn.ensures c.with_heard-next.ensures c.all_heard-due.ensures c.all_spent-spent.ensures in
-    let clear : against handed c.args.h c.args.place ≡ 0 = sym first ∙ c.if-code-ne0.false in
-    let fits : let a = c.args in Fits (length a.lists.now) a.place a.h.count c.turn_at-part.result = let held = c.requires.held.0 in let l = c.requires.listing.0 in record { low = held.low; few = room handed c.args.h c.args.place _ turned held.possible held.arriving held.low l.few l.other (clear); whole = c.requires.held.1 } in
-    let f = fits in
-    omega (arith, f.low, f.few)
+overflow_add-at c = let f = fits (goal.at.overflow_add-at c).In_default in omega (arith, f.low, f.few)
 
 pub offset_bounds-lists-at : goal.offset_bounds-lists-at
-offset_bounds-lists-at c =
-    let handed : Site = let a = c.args in site_of a.p a.live.now a.history.now in
-    let turned : c.turn_at-part.result ≡ turn_at handed c.args.place = c.turn_at-part.ensures c.args.history.now in
-    let first : c.reply_code-code.result ≡ against handed c.args.h c.args.place = c.reply_code-code.ensures ∙ coded handed c.args.h c.args.place _ turned _ _ _ _ c.conc_in_turn-turn.ensures c.with_heard-next.ensures c.all_heard-due.ensures c.all_spent-spent.ensures in
-    let clear : against handed c.args.h c.args.place ≡ 0 = sym first ∙ c.if-code-ne0.false in
-    let fits : let a = c.args in Fits (length a.lists.now) a.place a.h.count c.turn_at-part.result = let held = c.requires.held.0 in let l = c.requires.listing.0 in record { low = held.low; few = room handed c.args.h c.args.place _ turned held.possible held.arriving held.low l.few l.other (clear); whole = c.requires.held.1 } in
-    let f = fits in
-    omega (arith, f.low, f.few)
+offset_bounds-lists-at c = let f = fits (goal.at.offset_bounds-lists-at c).In_default in omega (arith, f.low, f.few)
 
 pub slice_bounds-copy_words-count : goal.slice_bounds-copy_words-count
-slice_bounds-copy_words-count c =
-    let handed : Site = let a = c.args in site_of a.p a.live.now a.history.now in
-    let turned : c.turn_at-part.result ≡ turn_at handed c.args.place = c.turn_at-part.ensures c.args.history.now in
-    let first : c.reply_code-code.result ≡ against handed c.args.h c.args.place = c.reply_code-code.ensures ∙ coded handed c.args.h c.args.place _ turned _ _ _ _ c.conc_in_turn-turn.ensures c.with_heard-next.ensures c.all_heard-due.ensures c.all_spent-spent.ensures in
-    let clear : against handed c.args.h c.args.place ≡ 0 = sym first ∙ c.if-code-ne0.false in
-    let fits : let a = c.args in Fits (length a.lists.now) a.place a.h.count c.turn_at-part.result = let held = c.requires.held.0 in let l = c.requires.listing.0 in record { low = held.low; few = room handed c.args.h c.args.place _ turned held.possible held.arriving held.low l.few l.other (clear); whole = c.requires.held.1 } in
-    let f = fits in
-    omega (arith, f.low, f.few, f.whole)
+slice_bounds-copy_words-count c = let f = fits (goal.at.slice_bounds-copy_words-count c).In_default in omega (arith, f.low, f.few, f.whole)
 
 pub slice_bounds-copy_words-start : goal.slice_bounds-copy_words-start
-slice_bounds-copy_words-start c =
-    let handed : Site = let a = c.args in site_of a.p a.live.now a.history.now in
-    let turned : c.turn_at-part.result ≡ turn_at handed c.args.place = c.turn_at-part.ensures c.args.history.now in
-    let first : c.reply_code-code.result ≡ against handed c.args.h c.args.place = c.reply_code-code.ensures ∙ coded handed c.args.h c.args.place _ turned _ _ _ _ c.conc_in_turn-turn.ensures c.with_heard-next.ensures c.all_heard-due.ensures c.all_spent-spent.ensures in
-    let clear : against handed c.args.h c.args.place ≡ 0 = sym first ∙ c.if-code-ne0.false in
-    let fits : let a = c.args in Fits (length a.lists.now) a.place a.h.count c.turn_at-part.result = let held = c.requires.held.0 in let l = c.requires.listing.0 in record { low = held.low; few = room handed c.args.h c.args.place _ turned held.possible held.arriving held.low l.few l.other (clear); whole = c.requires.held.1 } in
-    let f = fits in
-    omega (arith, f.low, f.few, f.whole)
+slice_bounds-copy_words-start c = let f = fits (goal.at.slice_bounds-copy_words-start c).In_default in omega (arith, f.low, f.few, f.whole)
 
 pub copy_words-requires : goal.copy_words-requires
 copy_words-requires c =
-    let handed : Site = let a = c.args in site_of a.p a.live.now a.history.now in
-    let turned : c.turn_at-part.result ≡ turn_at handed c.args.place = c.turn_at-part.ensures c.args.history.now in
-    let first : c.reply_code-code.result ≡ against handed c.args.h c.args.place = c.reply_code-code.ensures ∙ coded handed c.args.h c.args.place _ turned _ _ _ _ c.conc_in_turn-turn.ensures c.with_heard-next.ensures c.all_heard-due.ensures c.all_spent-spent.ensures in
-    let clear : against handed c.args.h c.args.place ≡ 0 = sym first ∙ c.if-code-ne0.false in
-    let fits : let a = c.args in Fits (length a.lists.now) a.place a.h.count c.turn_at-part.result = let held = c.requires.held.0 in let l = c.requires.listing.0 in record { low = held.low; few = room handed c.args.h c.args.place _ turned held.possible held.arriving held.low l.few l.other (clear); whole = c.requires.held.1 } in
-    let f = fits in
+    let f = fits (goal.at.copy_words-requires c).In_default in
     let rest = length_rest c.args.lists.now (behind c.args.place c.turn_at-part.result) in
     omega (arith, f.low, f.few, f.whole, c.requires.listing.0.long, rest)
 
 pub gather_step-a-requires : goal.gather_step-a-requires
 unfolding turn_at with_reply
 gather_step-a-requires c =
-    let handed : Site = let a = c.args in site_of a.p a.live.now a.history.now in
-    let turned : c.turn_at-part.result ≡ turn_at handed c.args.place = c.turn_at-part.ensures c.args.history.now in
-    let first : c.reply_code-code.result ≡ against handed c.args.h c.args.place = c.reply_code-code.ensures ∙ coded handed c.args.h c.args.place _ turned _ _ _ _ c.conc_in_turn-turn.ensures c.with_heard-next.ensures c.all_heard-due.ensures c.all_spent-spent.ensures in
-    let clear : against handed c.args.h c.args.place ≡ 0 = sym first ∙ c.if-code-ne0.false in
-    let fits : let a = c.args in Fits (length a.lists.now) a.place a.h.count c.turn_at-part.result = let held = c.requires.held.0 in let l = c.requires.listing.0 in record { low = held.low; few = room handed c.args.h c.args.place _ turned held.possible held.arriving held.low l.few l.other (clear); whole = c.requires.held.1 } in
-    let gathered : let a = c.args in laid a.lists.now c.copy_words.new.out (behind a.place c.turn_at-part.result) ≡ gather_lists handed a.place a.es.now a.lists.now = gathers handed c.args.h c.args.place _ turned c.args.lists.now c.copy_words.new.out c.args.es.now c.copy_words.ensures in
+    let at = goal.at.gather_step-a-requires c in
     let a = c.args in
-    let f = fits-as turned fits in
-    let long = kept handed a.place a.h.count a.lists.now a.es.now c.requires.listing.0.long f in
-    record { held = (c.requires.held.0, ap length gathered ∙ long); count_bound = f.few; can_send_all = sends handed a.h a.place _ c.requires.held.0.possible c.requires.listing.1 clear }
+    let s = site_of a.p a.live.now a.history.now in
+    let turned = c.turn_at-part.ensures a.history.now in
+    let f = fits-as turned (fits at.In_default) in
+    let gathered = gathers s a.h a.place _ turned a.lists.now c.copy_words.new.out a.es.now c.copy_words.ensures in
+    let long = kept s a.place a.h.count a.lists.now a.es.now c.requires.listing.0.long f in
+    record {
+      held = (c.requires.held.0, ap length gathered ∙ long);
+      count_bound = f.few;
+      can_send_all = sends s a.h a.place _ c.requires.held.0.possible c.requires.listing.1 (clear at.In_default);
+    }
 
 pub settled-requires : goal.settled-requires
 settled-requires c = settles c.requires.held.0
@@ -209,14 +188,18 @@ settled-requires c = settles c.requires.held.0
 pub returns : goal.returns
 unfolding take_conc
 returns c =
-    let handed : Site = let a = c.args in site_of a.p a.live.now a.history.now in
-    let turned : c.turn_at-part.result ≡ turn_at handed c.args.place = c.turn_at-part.ensures c.args.history.now in
-    let first : c.reply_code-code.result ≡ against handed c.args.h c.args.place = c.reply_code-code.ensures ∙ coded handed c.args.h c.args.place _ turned _ _ _ _ c.conc_in_turn-turn.ensures c.with_heard-next.ensures c.all_heard-due.ensures c.all_spent-spent.ensures in
-    let gathered : let a = c.args in laid a.lists.now c.copy_words.new.out (behind a.place c.turn_at-part.result) ≡ gather_lists handed a.place a.es.now a.lists.now = gathers handed c.args.h c.args.place _ turned c.args.lists.now c.copy_words.new.out c.args.es.now c.copy_words.ensures in
+    let at = goal.at.returns c in
     let a = c.args in
-    let z = eq-eqb c.reply_code-code.result 0 c.if-code-ne0.false in
-    let change = gather_change handed a.h a.place in
-    let lists = gather_lists handed a.place a.es.now a.lists.now in
+    let s = site_of a.p a.live.now a.history.now in
+    let none = sym (clear at.In_default) in
+    let change = gather_change s a.h a.place in
+    let lists = gather_lists s a.place a.es.now a.lists.now in
+    let turned = c.turn_at-part.ensures a.history.now in
+    let gathered = gathers s a.h a.place _ turned a.lists.now c.copy_words.new.out a.es.now c.copy_words.ensures in
     let sent = c.gather_step-a.ensures.out_after in
     let q = ap change gathered in
-    record { replied = rw (← first, z) (c.settled.ensures (change lists) (c.gather_step-a.ensures.value ∙ ap taken_of q) a.history.now lists); lists_after = rw (← first, z) (gathered); out_after = rw (← first, z) (sent ∙ ap (λ x. overlay a.out.now x.words) q) }
+    record {
+      replied = rw (← none) (c.settled.ensures (change lists) (c.gather_step-a.ensures.value ∙ ap taken_of q) a.history.now lists);
+      lists_after = rw (← none) gathered;
+      out_after = rw (← none) (sent ∙ ap (λ x. overlay a.out.now x.words) q);
+    }

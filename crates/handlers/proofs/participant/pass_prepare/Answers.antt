@@ -3,13 +3,15 @@ use Prim.Native.Nat.{ℕ}
 use mathlib.Core.Path.{◌≡◌, refl, sym, ap, ◌∙◌}
 use mathlib.Core.Bool.{true}
 use mathlib.Core.List.{[]}
-use borrow.Author.Tests.{eq-eqb, ne_eqb}
 use Rattle.laws.specs.Overlay.{overlay, overlay_none}
 use Rattle.kinds.specs.Desk as desk
 use Rattle.kinds.specs.Kind as kind
 use Rattle.kinds.specs.Reason as reason
 use Rattle.kinds.specs.declared.Site.{Site}
 use Rattle.kinds.specs.declared.Turn.{Turn}
+use Rattle.kinds.specs.Refusal.{refusal_in}
+use Rattle.shell.proofs.Refusals.{stopped}
+use Rattle.shell.proofs.Checks.{found_none}
 use Rattle.rules.specs.CallLaws.{reply_clear}
 use Rattle.rules.specs.Course.{channel_spent, raise, send_to}
 use Rattle.rules.specs.CourseLaws.{no_entries}
@@ -32,12 +34,13 @@ channel_spent-spent-requires c =
     let a = c.requires.0.arriving in
     (a.first, a.last)
 
-pub returns-then-code-ne0 : goal.returns-then-code-ne0
+pub returns-in-Err : goal.returns-in-Err
 unfolding pass_prepare spoken
-returns-then-code-ne0 c =
-    let first : let a = c.args in c.reply_code-code.result ≡ reply_code true (channel_spent a.p.channels a.h.from) = rw (← c.channel_spent-spent.ensures) c.reply_code-code.ensures in
-    let n = ne_eqb c.reply_code-code.result 0 c.if-code-ne0.true in
-    record { replied = rw (← first, n) (c.refused.ensures _ _ []); out_after = rw (← first, n) (overlay_none c.args.out.now) }
+returns-in-Err c =
+    let first : let a = c.args in refusal_in c.check_reply.result ≡ reply_code true (channel_spent a.p.channels a.h.from) = rw (← c.channel_spent-spent.ensures) c.check_reply.ensures in
+    let told = rw c.in-Err.is at first in
+    let n = stopped c.in-Err.cause _ refl in
+    record { replied = rw (← told, n) (c.refused.ensures _ _ []); out_after = rw (← told, n) (overlay_none c.args.out.now) }
 
 pub join_turn-first-requires : goal.join_turn-first-requires
 join_turn-first-requires c =
@@ -50,9 +53,9 @@ send_to-a-requires c =
     let handed : Site = let a = c.args in site_of a.p a.live.now a.history.now in
     let turn : Turn = raise (join_turn handed c.args.h desk.house) c.args.h.clock in
     let turned : c.raise-t.result ≡ turn = let a = c.args in c.raise-t.ensures ∙ ap (λ (x : Turn). raise x a.h.clock) (c.join_turn-first.ensures a.live.now a.history.now) in
-    let first : let a = c.args in c.reply_code-code.result ≡ reply_code true (channel_spent a.p.channels a.h.from) = rw (← c.channel_spent-spent.ensures) c.reply_code-code.ensures in
+    let first : let a = c.args in refusal_in c.check_reply.result ≡ reply_code true (channel_spent a.p.channels a.h.from) = rw (← c.channel_spent-spent.ensures) c.check_reply.ensures in
     let pre = c.requires in
-    let r = reply_clear _ _ (sym first ∙ c.if-code-ne0.false) in
+    let r = reply_clear _ _ (sym (found_none _ _ c.in_default.not-Err first)) in
     (can_reply turned refl pre.0.arriving pre.1 r.low, no_entries)
 
 pub returns : goal.returns
@@ -61,8 +64,8 @@ returns c =
     let handed : Site = let a = c.args in site_of a.p a.live.now a.history.now in
     let turn : Turn = raise (join_turn handed c.args.h desk.house) c.args.h.clock in
     let turned : c.raise-t.result ≡ turn = let a = c.args in c.raise-t.ensures ∙ ap (λ (x : Turn). raise x a.h.clock) (c.join_turn-first.ensures a.live.now a.history.now) in
-    let first : let a = c.args in c.reply_code-code.result ≡ reply_code true (channel_spent a.p.channels a.h.from) = rw (← c.channel_spent-spent.ensures) c.reply_code-code.ensures in
+    let first : let a = c.args in refusal_in c.check_reply.result ≡ reply_code true (channel_spent a.p.channels a.h.from) = rw (← c.channel_spent-spent.ensures) c.check_reply.ensures in
     let a = c.args in
-    let z = eq-eqb c.reply_code-code.result 0 c.if-code-ne0.false in
+    let none = found_none _ _ c.in_default.not-Err first in
     let q = same a.h.from _ _ turned in
-    record { replied = rw (← first, z) (c.spoken.ensures (step a.h.from turn) (c.send_to-a.ensures.value ∙ ap taken_of q) a.live.now a.history.now); out_after = rw (← first, z) (c.send_to-a.ensures.out_after ∙ ap (λ x. overlay a.out.now x.words) q) }
+    record { replied = rw (← none) (c.spoken.ensures (step a.h.from turn) (c.send_to-a.ensures.value ∙ ap taken_of q) a.live.now a.history.now); out_after = rw (← none) (c.send_to-a.ensures.out_after ∙ ap (λ x. overlay a.out.now x.words) q) }

@@ -5,7 +5,8 @@ use mathlib.Core.Path.{◌≡◌}
 use native.Mathlib.Omega.{arith}
 use Rattle.rules.specs.CallLaws.{pred_is}
 use Rattle.rules.specs.Deliver.{next_code}
-use Rattle.deliver.proofs.codes.next_code.Goals as goal
+use Rattle.deliver.proofs.codes.check_next.Goals.{then-channel-eq0-via-then-channel-eq0, then-channel-eq0-via-else-channel-eq0+then-channel-taken}
+use Rattle.deliver.proofs.codes.check_next.Goals as goal
 
 pub returns-then-to-own : goal.returns-then-to-own
 unfolding next_code
@@ -15,13 +16,13 @@ pub returns-then-channel-eq0 : goal.returns-then-channel-eq0
 unfolding next_code
 returns-then-channel-eq0 c =
     let a = c.args in
-    simp (eq-eqb a.to a.own c.if-to-own.false, ne_eqb a.channel (a.taken + 1) (λ e. omega (arith, e, c.if-channel-eq0.true)))
-
-pub returns-then-channel-taken : goal.returns-then-channel-taken
-unfolding next_code
-returns-then-channel-taken c =
-    let a = c.args in
-    simp (eq-eqb a.to a.own c.if-to-own.false, ne_eqb a.channel (a.taken + 1) (λ e. c.if-channel-taken.true (omega (arith, e))))
+    let here = eq-eqb a.to a.own c.if-to-own.false in
+    elim c.then-channel-eq0.branch [
+      | then-channel-eq0-via-then-channel-eq0 w ↦
+          simp (here, ne_eqb a.channel (a.taken + 1) (λ e. omega (arith, e, w.if-channel-eq0.true)))
+      | then-channel-eq0-via-else-channel-eq0+then-channel-taken w ↦
+          simp (here, ne_eqb a.channel (a.taken + 1) (λ e. w.if-channel-taken.true (omega (arith, e))))
+    ]
 
 pub returns : goal.returns
 unfolding next_code

@@ -1,6 +1,6 @@
 -- Each return is the first cause, or none.
 use Rattle.rules.specs.Deliver.{reply_code}
-use Rattle.handlers.proofs.codes.reply_code.Goals as goal
+use Rattle.handlers.proofs.codes.check_reply.Goals as goal
 
 pub returns-then-not-in_turn : goal.returns-then-not-in_turn
 unfolding reply_code

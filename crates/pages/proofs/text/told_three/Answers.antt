@@ -1,7 +1,0 @@
--- The word, then the numbers.
-use Rattle.std.proofs.Common.{rules}
-use Rattle.pages.proofs.Behind.{laid_behind}
-use Rattle.pages.proofs.text.told_three.Goals as goal
-
-pub returns-clause-laid : goal.returns-clause-laid
-returns-clause-laid c = search (laid_behind, rules)

@@ -1,9 +1,0 @@
--- An index stays within what is copied.
-use Rattle.std.proofs.Common.{◌-◌, ◌≤◌}
-use Rattle.spool.proofs.copy_in.Given as goal
-
-abbrev pub invariant-loop-i : goal.invariant-loop-i
-invariant-loop-i l = l.i ≤ l.n
-
-abbrev pub decreases-loop-i : goal.decreases-loop-i
-decreases-loop-i l = l.n - l.i

@@ -1,9 +1,0 @@
--- An index stays within the block.
-use Rattle.std.proofs.Common.{◌-◌, ◌≤◌}
-use Rattle.spool.proofs.file.from_bytes.Given as goal
-
-abbrev pub invariant-loop-i : goal.invariant-loop-i
-invariant-loop-i l = l.i ≤ 256
-
-abbrev pub decreases-loop-i : goal.decreases-loop-i
-decreases-loop-i l = 256 - l.i
