@@ -1,43 +1,49 @@
 // Install: the queue's least, if decided, goes into the history, and its part record into the log (C51 to C55).
-ghost use Rattle.std.specs.Prelude.{◌≡◌, ℕ, ◌≤◌, ◌<◌, true, List, length, leb};
+ghost use Rattle.std.specs.Prelude.{◌≡◌, ℕ, ◌≤◌, ◌<◌, List, length, leb, IfOk};
 ghost use Rattle.laws.specs.Choice.{pick};
 ghost use Rattle.laws.specs.Overlay.{overlay};
+ghost use Rattle.kinds.specs.Refusal.{refusal_in};
 ghost use Rattle.kinds.specs.Sizes as sizesOf;
 ghost use Rattle.rules.specs.Keys.{sorted_count};
 ghost use Rattle.rules.specs.History.{slot_of, forget_into};
-ghost use Rattle.rules.specs.Install.{install_code, entry_of, part_head, part_words, installed_at, install_of};
+ghost use Rattle.rules.specs.Install.{entry_of, part_head, part_words, installed_at, install_of};
 ghost use Rattle.rules.specs.Queue.{least_queued};
 ghost use Rattle.kinds.specs.State.{sub_at};
-ghost use Rattle.lent.specs.Layout.{live_of, history_of};
+ghost use Rattle.lent.specs.Layout.{history_of};
 ghost use Rattle.lent.specs.Lent.{site_of, Left, Replied};
 ghost use Rattle.lent.specs.Laws.{Lengths};
 ghost use Rattle.installs.specs.Forgettable.{oldest, Forgettable};
-ghost use Rattle.installs.specs.Installable.{Installable};
+ghost use Rattle.installs.specs.Installable.{Installable, install_code_at};
 
 use kinds::kind::PART;
-use kinds::reason::{MALFORMED, NOTHING, SHORT, SPENT};
-use kinds::sizes::{BASE, HISTORY, LAST, LIVE, WRITE, WRITES};
-use kinds::{Answer, Core, Entry, RecordHead, Reply, Seat, Sub, sizes};
+use kinds::sizes::{BASE, HISTORY, LAST, WRITE, WRITES};
+use kinds::{Answer, Core, Entry, RecordHead, Refusal, Reply, Sub, sizes};
 
-fn install_code(ok: bool, room: usize, given: usize, due: bool, installs: u64) -> u64
-    ensures { result ≡ install_code ok room given due installs }
+// The place of the queue's least, if it installs.
+fn check_install(
+    p: Core,
+    live: &[u64],
+    history: &[u64],
+    room: usize,
+    given: usize,
+) -> Result<usize, Refusal>
+    ensures code { refusal_in result ≡ install_code_at (site_of p live.now history.now) room given }
+    ensures place { IfOk result (λ i. i ≡ least_queued (site_of p live.now history.now).live sizesOf.live) }
 {
     if room < sizes::PART {
-        return SHORT;
+        return Err(Refusal::Short);
     }
-    if given != BASE {
-        return MALFORMED;
+    if given != BASE || !valid::site_ok(p, live, history) {
+        return Err(Refusal::Malformed);
     }
-    if !ok {
-        return MALFORMED;
+    let place = queue::least_queued(p.seats, live).ok_or(Refusal::Nothing)?;
+    if !queue::is_installable(p.seats, place) {
+        return Err(Refusal::Nothing);
     }
-    if !due {
-        return NOTHING;
+    if LAST <= p.counters.installs {
+        return Err(Refusal::Spent);
     }
-    if LAST <= installs {
-        return SPENT;
-    }
-    0
+    Ok(place)
 }
 
 // Where the next install is kept, in the place of the oldest beyond `HISTORY`.
@@ -45,17 +51,6 @@ fn next_slot(installs: u64) -> usize
     ensures { result ≡ slot_of installs }
 {
     (installs % HISTORY as u64) as usize
-}
-
-// The place of the queue's least, asked of a possible site only; `LIVE` where there is none.
-fn least_place(ok: bool, seats: [Seat; LIVE], live: &[u64]) -> usize
-    requires { ok ≡ true → length live.now ≡ sizesOf.live_words }
-    ensures { ok ≡ true → result ≡ least_queued (live_of seats live.now) sizesOf.live }
-{
-    if !ok {
-        return LIVE;
-    }
-    queue::least_queued(seats, live)
 }
 
 // The writes of the oldest go into the base values once `HISTORY` are remembered.
@@ -77,12 +72,11 @@ fn forget_oldest(base: &mut [u64], history: &[u64], installs: u64)
 fn entry_of(b: Sub) -> Entry
     ensures { result ≡ entry_of b }
 {
-    let keys = b.keys;
     Entry {
         tx: b.tx,
         mask: b.course.mask,
         number: b.course.number,
-        keys,
+        keys: b.keys,
     }
 }
 
@@ -90,12 +84,11 @@ fn part_head(own: u64, b: Sub, count: usize) -> RecordHead
     requires { count ≡ sorted_count b.keys }
     ensures { result ≡ part_head own b }
 {
-    let coordinator = numbers::coordinator_of(b.tx);
     RecordHead {
         kind: PART,
         site: own,
         number: b.course.number,
-        coordinator,
+        coordinator: numbers::coordinator_of(b.tx),
         tx: b.tx,
         mask: b.course.mask,
         count: count as u64,
@@ -107,9 +100,8 @@ fn write_part(out: &mut [u64], own: u64, b: Sub) -> usize
     requires { (b.keys.wrote ≤ sizesOf.writes) × (sizesOf.part ≤ length out.old) }
     ensures { (result ≡ length (part_words own b)) × (out.new ≡ overlay out.old (part_words own b)) }
 {
-    let keys = b.keys;
-    let mut ws: [u64; WRITE * WRITES] = [0; WRITE * WRITES];
-    let n = keys::order::sorted_words(&mut ws, keys);
+    let mut ws = [0u64; WRITE * WRITES];
+    let n = keys::order::sorted_words(&mut ws, b.keys);
     let head = part_head(own, b, n);
     let end = WRITE * n;
     records::write_record(out, head, &ws[..end])
@@ -123,16 +115,12 @@ fn kept(p: Core, live: &mut [u64], history: &mut [u64], place: usize, b: Sub) ->
         → Left p live.old history.old result live.new history.new
         (installed_at (site_of p live.old history.old) base place).site }
 {
-    let mut c = p.counters;
-    let slot = next_slot(c.installs);
-    c.installs = c.installs + 1;
     let free = course::turn::no_sub();
-    let seat = tables::seat_of(free);
     let mut q = p;
-    q.counters = c;
-    q.seats[place] = seat;
+    q.counters.installs += 1;
+    q.seats[place] = tables::seat_of(free);
     tables::put_part(live, place, free);
-    tables::put_entry(history, slot, entry_of(b));
+    tables::put_entry(history, next_slot(p.counters.installs), entry_of(b));
     q
 }
 
@@ -155,19 +143,16 @@ fn install_at(
         ≡ overlay out.old
         (installed_at (site_of p live.old history.old) base.old place).words }
 {
-    let seats = p.seats;
-    let b = tables::part_at(seats, live, place);
+    let b = tables::part_at(p.seats, live, place);
     forget_oldest(base, history, p.counters.installs);
     let words = write_part(out, p.counters.own, b);
-    let coordinator = numbers::coordinator_of(b.tx);
-    let core = kept(p, live, history, place, b);
     Reply {
         answer: Answer::Installed {
             number: b.course.number,
-            coordinator,
+            coordinator: numbers::coordinator_of(b.tx),
         },
         words,
-        core,
+        core: kept(p, live, history, place, b),
     }
 }
 
@@ -186,13 +171,8 @@ pub fn install(
         ≡ overlay out.old
         (install_of (site_of p live.old history.old) (length out.old) base.old).words }
 {
-    let ok = valid::site_ok(p, live, history);
-    let seats = p.seats;
-    let place = least_place(ok, seats, live);
-    let due = queue::is_installable(seats, place);
-    let code = install_code(ok, out.len(), base.len(), due, p.counters.installs);
-    if code != 0 {
-        return shell::refused(p, code);
+    match check_install(p, live, history, out.len(), base.len()) {
+        Ok(place) => install_at(p, live, history, base, out, place),
+        Err(cause) => shell::refused(p, cause),
     }
-    install_at(p, live, history, base, out, place)
 }

@@ -1,24 +1,25 @@
 // Report: the state number as a state record.
 ghost use Rattle.std.specs.Prelude.{◌≡◌, ◌≤◌, length};
 ghost use Rattle.laws.specs.Overlay.{overlay};
+ghost use Rattle.kinds.specs.Refusal.{refusal_in};
 ghost use Rattle.kinds.specs.Sizes as sizesOf;
 ghost use Rattle.rules.specs.Install.{report_code, state_words, report_of};
+ghost use Rattle.rules.specs.Valid.{site_ok};
 ghost use Rattle.lent.specs.Lent.{site_of, Replied};
 
 use kinds::kind::STATE;
-use kinds::reason::{MALFORMED, SHORT};
-use kinds::{Answer, Core, RecordHead, Reply, sizes};
+use kinds::{Answer, Core, RecordHead, Refusal, Reply, sizes};
 
-fn report_code(ok: bool, room: usize) -> u64
-    ensures { result ≡ report_code ok room }
+fn check_report(p: Core, live: &[u64], history: &[u64], room: usize) -> Result<(), Refusal>
+    ensures { refusal_in result ≡ report_code (site_ok (site_of p live.now history.now)) room }
 {
     if room < sizes::PART {
-        return SHORT;
+        return Err(Refusal::Short);
     }
-    if !ok {
-        return MALFORMED;
+    if !valid::site_ok(p, live, history) {
+        return Err(Refusal::Malformed);
     }
-    0
+    Ok(())
 }
 
 // Writes the state record, and returns how many words it has.
@@ -45,13 +46,10 @@ pub fn report(p: Core, live: &[u64], history: &[u64], out: &mut [u64]) -> Reply
         ≡ overlay out.old
         (report_of (site_of p live.now history.now) (length out.old)).words }
 {
-    let ok = valid::site_ok(p, live, history);
-    let code = report_code(ok, out.len());
-    if code != 0 {
-        return shell::refused(p, code);
+    if let Err(cause) = check_report(p, live, history, out.len()) {
+        return shell::refused(p, cause);
     }
-    let seats = p.seats;
-    let state = queue::state_number(seats, live, p.counters.clock);
+    let state = queue::state_number(p.seats, live, p.counters.clock);
     let words = write_state(out, p.counters.own, state);
     shell::unaltered(p, Answer::Reported { state }, words)
 }

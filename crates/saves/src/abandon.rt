@@ -2,26 +2,28 @@
 ghost use Rattle.std.specs.Prelude.{◌≡◌, ◌≤◌, length};
 ghost use Rattle.kinds.specs.Sizes as sizes;
 ghost use Rattle.laws.specs.Overlay.{overlay};
-ghost use Rattle.rules.specs.Commit.{abandon_code, abandon_of};
+ghost use Rattle.kinds.specs.Refusal.{refusal_in};
+ghost use Rattle.rules.specs.Commit.{abandon_of};
 ghost use Rattle.lent.specs.Lent.{site_of, Replied};
-ghost use Rattle.saves.specs.AtPlace.{abandon_at};
+ghost use Rattle.saves.specs.AtPlace.{abandon_at, abandon_code_at};
 ghost use Rattle.saves.specs.Own.{Placed};
 
-use crate::codes::request_code;
-use kinds::reason::{ABANDONED, SPENT, STAGE};
+use crate::codes::check_request;
+use kinds::reason::ABANDONED;
 use kinds::stage::DECIDED;
-use kinds::{Core, Reply};
+use kinds::{Core, Refusal, Reply, Turn};
 
-fn abandon_code(stage: u64, low: bool) -> u64
-    ensures { result ≡ abandon_code stage low }
+fn check_abandon(t: Turn) -> Result<(), Refusal>
+    ensures { refusal_in result ≡ abandon_code_at t }
 {
-    if stage == DECIDED {
-        return STAGE;
+    let course = t.sub.course;
+    if course.stage == DECIDED {
+        return Err(Refusal::Stage);
     }
-    if !low {
-        return SPENT;
+    if !messages::counts_low(t.channels.sent, course.mask, t.counters.own) {
+        return Err(Refusal::Spent);
     }
-    0
+    Ok(())
 }
 
 // The part at a place is aborted, unless it is decided.
@@ -33,13 +35,8 @@ fn abandon_at(p: Core, live: &mut [u64], history: &[u64], place: usize, out: &mu
         ≡ overlay out.old (abandon_at (site_of p live.old history.now) place).words }
 {
     let t = shell::turn_at(p, live, place);
-    let course = t.sub.course;
-    let channels = p.channels;
-    let sent = channels.sent;
-    let low = messages::counts_low(sent, course.mask, p.counters.own);
-    let code = abandon_code(course.stage, low);
-    if code != 0 {
-        return shell::refused(p, code);
+    if let Err(cause) = check_abandon(t) {
+        return shell::refused(p, cause);
     }
     let a = course::coordinator::abort_step(t, ABANDONED, out);
     shell::settled(p, live, place, a)
@@ -53,12 +50,8 @@ pub fn abandon(p: Core, live: &mut [u64], history: &[u64], tx: u64, out: &mut [u
         (abandon_of (site_of p live.old history.now) (length out.old) tx).words }
 {
     let ok = valid::site_ok(p, live, history);
-    let seats = p.seats;
-    let place = live::place_of(seats, tx);
-    let coordinator = numbers::coordinator_of(tx);
-    let code = request_code(ok, out.len(), place, coordinator == p.counters.own);
-    if code != 0 {
-        return shell::refused(p, code);
+    match check_request(p, ok, out.len(), tx) {
+        Ok(place) => abandon_at(p, live, history, place, out),
+        Err(cause) => shell::refused(p, cause),
     }
-    abandon_at(p, live, history, place, out)
 }

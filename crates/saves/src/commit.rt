@@ -7,33 +7,37 @@ ghost use Rattle.rules.specs.Effect.{taken_of, turn_at};
 ghost use Rattle.rules.specs.Join.{joined};
 ghost use Rattle.rules.specs.Certify.{concurrent, vote_of};
 ghost use Rattle.rules.specs.Course.{CanSendAll, cast_step};
-ghost use Rattle.rules.specs.Commit.{commit_code, request_change, commit_change, commit_lists, commit_of};
+ghost use Rattle.kinds.specs.Refusal.{refusal_in};
+ghost use Rattle.rules.specs.Commit.{request_change, commit_change, commit_lists, commit_of};
 ghost use Rattle.lent.specs.Lent.{site_of, Replied};
-ghost use Rattle.saves.specs.AtPlace.{commit_at};
+ghost use Rattle.saves.specs.AtPlace.{commit_at, commit_code_at};
 ghost use Rattle.saves.specs.Own.{Own, Placed};
 
-use crate::codes::request_code;
-use kinds::reason::{FULL, OUTSTANDING, SPENT, STAGE, UNCERTAIN};
+use crate::codes::check_request;
+use kinds::reason::{FULL, UNCERTAIN};
 use kinds::sizes::{ENTRY, GATHERED, HISTORY, LIVE};
 use kinds::stage::ACTIVE;
-use kinds::{Core, Reply, Taken, Turn};
+use kinds::{Core, Refusal, Reply, Taken, Turn};
 
 // The words of a site's own list: all other live and all remembered.
 const LIST: usize = ENTRY * (LIVE + HISTORY);
 
-fn commit_code(stage: u64, heard: bool, low: bool) -> u64
-    ensures { result ≡ commit_code stage heard low }
+fn check_commit(t: Turn) -> Result<(), Refusal>
+    requires { (1 ≤ t.counters.own) × (t.counters.own ≤ sizes.sites) }
+    ensures { refusal_in result ≡ commit_code_at t }
 {
-    if stage != ACTIVE {
-        return STAGE;
+    let course = t.sub.course;
+    let own = t.counters.own;
+    if course.stage != ACTIVE {
+        return Err(Refusal::Stage);
     }
-    if !heard {
-        return OUTSTANDING;
+    if !live::all_heard(own, course.heard, course.mask) {
+        return Err(Refusal::Outstanding);
     }
-    if !low {
-        return SPENT;
+    if !messages::counts_low(t.channels.sent, course.mask, own) {
+        return Err(Refusal::Spent);
     }
-    0
+    Ok(())
 }
 
 // Votes on the own list at once: a lone participant's course.
@@ -162,15 +166,8 @@ fn commit_at(
         ≡ overlay out.old (commit_at (site_of p live.old history.now) lists.old place).words }
 {
     let t = shell::turn_at(p, live, place);
-    let c = t.sub.course;
-    let own = p.counters.own;
-    let heard = live::all_heard(own, c.heard, c.mask);
-    let channels = p.channels;
-    let sent = channels.sent;
-    let low = messages::counts_low(sent, c.mask, own);
-    let code = commit_code(c.stage, heard, low);
-    if code != 0 {
-        return shell::refused(p, code);
+    if let Err(cause) = check_commit(t) {
+        return shell::refused(p, cause);
     }
     let a = commit_step(p, live, history, place, lists, out);
     shell::settled(p, live, place, a)
@@ -193,12 +190,8 @@ pub fn commit(
         (commit_of (site_of p live.old history.now) (length out.old) lists.old tx).words }
 {
     let ok = valid::handed_ok(p, live, history, lists);
-    let seats = p.seats;
-    let place = live::place_of(seats, tx);
-    let coordinator = numbers::coordinator_of(tx);
-    let code = request_code(ok, out.len(), place, coordinator == p.counters.own);
-    if code != 0 {
-        return shell::refused(p, code);
+    match check_request(p, ok, out.len(), tx) {
+        Ok(place) => commit_at(p, live, history, place, lists, out),
+        Err(cause) => shell::refused(p, cause),
     }
-    commit_at(p, live, history, place, lists, out)
 }

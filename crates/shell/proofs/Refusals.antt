@@ -1,7 +1,8 @@
 -- A cause has a number that is not 0: where a check finds one, the rule refuses with its number.
-use Rattle.std.specs.Prelude.{ℕ, ◌≡◌, refl, List, false, ltb, true, eqb}
-use Rattle.std.proofs.Common.{◌∙◌, arith, ltb-true, ne_eqb}
-use Rattle.kinds.specs.Refusal.{number_of}
+use Rattle.std.specs.Prelude.{ℕ, ◌≡◌, refl, List, true, false, ltb, eqb, Option, Some, None, Result, Ok, Err, IsErrAnd}
+use Rattle.std.proofs.Common.{◌∙◌, arith, ltb-true, ne_eqb, ok_or}
+use Rattle.std.proofs.lemmas.Result.{err_from_is_err_and}
+use Rattle.kinds.specs.Refusal.{number_of, refusal_in}
 use Rattle.kinds.specs.declared.refusal.Refusal.{Refusal}
 use Rattle.kinds.specs.declared.refusal.Refusal.TheVariants.{Short, Malformed, BadTable, Elsewhere, NotNext, Unknown, NotCoordinator, Stage}
 use Rattle.kinds.specs.declared.refusal.Refusal.TheVariants.{Outstanding, Forgotten, Held, Newer, TooMany, TooLong, Full, Spent, Behind}
@@ -48,3 +49,17 @@ refuses cause code s lent e f = rw (stopped cause code f, f)
 -- Where a check finds none, the rule does what it would do.
 pub passes : (code : ℕ) (s : Site) (lent : List ℕ) (e : Effect) → 0 ≡ code → unless code s lent e ≡ e
 passes code s lent e f = rw (← f)
+
+-- A check's cause that `?` passes on,
+pub passed_on : {A : Type 0} (r : Result A Refusal) (cause : Refusal) (code : ℕ) → IsErrAnd r (λ e. e ≡ cause) → number_of cause ≡ code
+    → refusal_in r ≡ code
+passed_on r cause code g e = let p = err_from_is_err_and r g in rw (p.1, p.2) e
+
+-- and what a search found, where `ok_or` answers a cause for none.
+pub found : {X : Type 0} (o : Option X) (cause : Refusal) (x : X) → Ok x ≡ ok_or o cause → o ≡ Some x
+found (Some y) cause x e = cc
+found None cause x e = cc
+
+pub lacked : {X : Type 0} (o : Option X) (cause other : Refusal) → Err other ≡ ok_or o cause → (o ≡ None) × (other ≡ cause)
+lacked (Some y) cause other e = (cc, cc)
+lacked None cause other e = (refl, cc)

@@ -1,111 +1,75 @@
 // Read, write and search.
-ghost use Rattle.std.specs.Prelude.{◌≡◌, length, List, [], ℕ, ◌<◌};
+ghost use Rattle.std.specs.Prelude.{◌≡◌, length, List, [], ℕ, ◌<◌, IfOk};
 ghost use Rattle.kinds.specs.Sizes as sizes;
 ghost use Rattle.kinds.specs.State.{with_keys};
+ghost use Rattle.kinds.specs.Refusal.{refusal_in};
 ghost use Rattle.rules.specs.Effect.{taken_of, turn_at};
 ghost use Rattle.rules.specs.Course.{with_sub_of};
-ghost use Rattle.site.specs.Accessed.{Accessed, Writable};
-ghost use Rattle.rules.specs.Live.{stage_at};
-ghost use Rattle.rules.specs.Access.{key_code, access_code, read_code, long_code, write_code, write_code_at, late_code, written as written_of};
+ghost use Rattle.site.specs.Accessed.{Accessed, Writable, key_code_at, access_code_at};
+ghost use Rattle.rules.specs.Live.{place_of};
+ghost use Rattle.rules.specs.Access.{read_code, long_code, write_code_at, late_code, written as written_of};
 ghost use Rattle.rules.specs.Access.{read_at, write_at, read_of, write_of, search_of};
-ghost use Rattle.lent.specs.Layout.{live_of};
 ghost use Rattle.lent.specs.Lent.{site_of, Replied};
 
-use kinds::reason::{
-    ELSEWHERE, FORGOTTEN, HELD, MALFORMED, NEWER, STAGE, TOO_LONG, TOO_MANY, UNKNOWN,
-};
-use kinds::sizes::{BASE, LIVE, READS};
-use kinds::stage::{ACTIVE, FREE};
-use kinds::{Answer, Core, House, Keys, Reply, Seat, Snapshot, Taken, Turn, Value};
+use kinds::sizes::{BASE, READS};
+use kinds::stage::ACTIVE;
+use kinds::{Answer, Core, Keys, Refusal, Reply, Snapshot, Taken, Turn, Value};
 
 // The first cause against the state and the key.
-fn key_code(ok: bool, room: usize, o: House, own: u64, key: u64) -> u64
-    ensures { result ≡ key_code ok room o own key }
+fn check_key(p: Core, live: &[u64], history: &[u64], room: usize, key: u64) -> Result<(), Refusal>
+    ensures { refusal_in result ≡ key_code_at (site_of p live.now history.now) room key }
 {
-    let known = numbers::is_key(key);
-    let site = numbers::home_of(o, key);
-    if room != BASE {
-        return MALFORMED;
+    if room != BASE || !valid::site_ok(p, live, history) || !numbers::is_key(key) {
+        return Err(Refusal::Malformed);
     }
-    if !ok {
-        return MALFORMED;
+    let house = tables::lent_house(p.house, live.len(), history.len());
+    if numbers::home_of(house, key) != p.counters.own {
+        return Err(Refusal::Elsewhere);
     }
-    if !known {
-        return MALFORMED;
-    }
-    if site != own {
-        return ELSEWHERE;
-    }
-    0
+    Ok(())
 }
 
-fn access_code(ok: bool, room: usize, o: House, own: u64, key: u64, place: usize, stage: u64) -> u64
-    ensures { result ≡ access_code ok room o own key place stage }
+// Then that of the part: where it is, if it may read and write the key.
+fn check_access(
+    p: Core,
+    live: &[u64],
+    history: &[u64],
+    room: usize,
+    tx: u64,
+    key: u64,
+) -> Result<usize, Refusal>
+    ensures code { refusal_in result ≡ access_code_at (site_of p live.now history.now) room tx key }
+    ensures place { IfOk result (λ i. i ≡ place_of (site_of p live.now history.now).live tx) }
 {
-    let code = key_code(ok, room, o, own, key);
-    if code != 0 {
-        return code;
+    check_key(p, live, history, room, key)?;
+    let place = live::place_of(p.seats, tx).ok_or(Refusal::Unknown)?;
+    if p.seats[place].stage != ACTIVE {
+        return Err(Refusal::Stage);
     }
-    if LIVE <= place {
-        return UNKNOWN;
-    }
-    if stage != ACTIVE {
-        return STAGE;
-    }
-    0
+    Ok(place)
 }
 
-fn read_code(lost: bool, has: bool, read: usize) -> u64
-    ensures { result ≡ read_code lost has read }
+// A key that is read already needs no room.
+fn check_read(lost: bool, has: bool, read: usize) -> Result<(), Refusal>
+    ensures { refusal_in result ≡ read_code lost has read }
 {
     if lost {
-        return FORGOTTEN;
+        return Err(Refusal::Forgotten);
     }
-    if has {
-        return 0;
+    if !has && READS <= read {
+        return Err(Refusal::TooMany);
     }
-    if READS <= read {
-        return TOO_MANY;
-    }
-    0
+    Ok(())
 }
 
 // The last cause of a write: the value does not fit (Q12.5).
-fn long_code(value: Value) -> u64
-    ensures { result ≡ long_code value }
+fn check_long(value: Value) -> Result<(), Refusal>
+    ensures { refusal_in result ≡ long_code value }
 {
     if !values::fits(value) {
-        return TOO_LONG;
+        return Err(Refusal::TooLong);
     }
-    0
-}
-
-// `most` is how many keys the part's desk lets it write (Q10.4).
-fn write_code(lost: bool, held: bool, newer: bool, most: usize, wrote: usize, value: Value) -> u64
-    ensures { result ≡ write_code lost held newer most wrote value }
-{
-    if lost {
-        return FORGOTTEN;
-    }
-    if held {
-        return HELD;
-    }
-    if newer {
-        return NEWER;
-    }
-    if most <= wrote {
-        return TOO_MANY;
-    }
-    long_code(value)
-}
-
-fn stage_at(seats: [Seat; LIVE], place: usize) -> u64
-    ensures { (w : List ℕ) → result ≡ stage_at (live_of seats w) place }
-{
-    if place < LIVE {
-        return seats[place].stage;
-    }
-    FREE
+    Ok(())
 }
 
 // A part with other keys, as a step that sends nothing.
@@ -114,11 +78,10 @@ fn with_keys(t: Turn, keys: Keys, answer: Answer) -> Taken
 {
     let mut sub = t.sub;
     sub.keys = keys;
-    let turn = course::turn::with_sub(t, sub);
     Taken {
         answer,
         words: 0,
-        turn,
+        turn: course::turn::with_sub(t, sub),
     }
 }
 
@@ -146,15 +109,12 @@ fn read_at(
     let snapshot = t.sub.snapshot;
     let lost = history::is_forgotten(installs, snapshot);
     let has = keys::read_key(keys, key);
-    let code = read_code(lost, has, keys.read);
-    if code != 0 {
-        return shell::refused(p, code);
+    if let Err(cause) = check_read(lost, has, keys.read) {
+        return shell::refused(p, cause);
     }
-    let found = history::search(history, installs, base, snapshot, key);
-    let value = found.value;
+    let value = history::search(history, installs, base, snapshot, key).value;
     let more = keys::with_read(keys, key);
-    let a = with_keys(t, more, Answer::Found { value });
-    shell::settled(p, live, place, a)
+    shell::settled(p, live, place, with_keys(t, more, Answer::Found { value }))
 }
 
 // Reads a key of this site.
@@ -162,16 +122,10 @@ pub fn read(p: Core, live: &mut [u64], history: &[u64], base: &[u64], tx: u64, k
     ensures { Replied p live.old history.now result live.new history.now
         (read_of (site_of p live.old history.now) base.now tx key) }
 {
-    let ok = valid::site_ok(p, live, history);
-    let house = tables::lent_house(p.house, live.len(), history.len());
-    let seats = p.seats;
-    let place = live::place_of(seats, tx);
-    let stage = stage_at(seats, place);
-    let code = access_code(ok, base.len(), house, p.counters.own, key, place, stage);
-    if code != 0 {
-        return shell::refused(p, code);
+    match check_access(p, live, history, base.len(), tx, key) {
+        Ok(place) => read_at(p, live, history, base, place, key),
+        Err(cause) => shell::refused(p, cause),
     }
-    read_at(p, live, history, base, place, key)
 }
 
 // The version of a key of this site that any snapshot sees, and how many entries of the history the search looked at.
@@ -186,23 +140,19 @@ pub fn search(
     ensures { result ≡ search_of (site_of p live.now history.now) base.now
         (record { installs = snapshot }) key }
 {
-    let ok = valid::site_ok(p, live, history);
-    let house = tables::lent_house(p.house, live.len(), history.len());
-    let code = key_code(ok, base.len(), house, p.counters.own, key);
-    if code != 0 {
-        return Answer::Refused(code);
+    if let Err(cause) = check_key(p, live, history, base.len(), key) {
+        return Answer::Refused(cause.into());
     }
     let seen = Snapshot { installs: snapshot };
     let found = history::search(history, p.counters.installs, base, seen, key);
-    let value = found.value;
     Answer::Searched {
-        value,
+        value: found.value,
         looked: found.looked,
     }
 }
 
 // The first cause against a key that the part has not written.
-fn fresh_code(
+fn check_fresh(
     p: Core,
     live: &[u64],
     history: &[u64],
@@ -210,22 +160,29 @@ fn fresh_code(
     t: Turn,
     key: u64,
     value: Value,
-) -> u64
+) -> Result<(), Refusal>
     requires { Accessed p live.now history.now place × (t ≡ turn_at (site_of p live.now history.now) place) }
-    ensures { result ≡ write_code_at (site_of p live.now history.now) place key value }
+    ensures { refusal_in result ≡ write_code_at (site_of p live.now history.now) place key value }
 {
     let installs = p.counters.installs;
     let snapshot = t.sub.snapshot;
-    let seats = p.seats;
-    let lost = history::is_forgotten(installs, snapshot);
-    let held = live::key_held(seats, live, place, key);
-    let newer = history::is_newer(history, installs, snapshot, key);
-    let most = numbers::write_limit(t.sub.desk);
-    write_code(lost, held, newer, most, t.sub.keys.wrote, value)
+    if history::is_forgotten(installs, snapshot) {
+        return Err(Refusal::Forgotten);
+    }
+    if live::key_held(p.seats, live, place, key) {
+        return Err(Refusal::Held);
+    }
+    if history::is_newer(history, installs, snapshot, key) {
+        return Err(Refusal::Newer);
+    }
+    if numbers::write_limit(t.sub.desk) <= t.sub.keys.wrote {
+        return Err(Refusal::TooMany);
+    }
+    check_long(value)
 }
 
 // The first cause against a write of the part: causes 8 to 11 never arise for a key that it wrote before.
-fn late_code(
+fn check_late(
     p: Core,
     live: &[u64],
     history: &[u64],
@@ -233,15 +190,15 @@ fn late_code(
     t: Turn,
     key: u64,
     value: Value,
-) -> u64
+) -> Result<(), Refusal>
     requires { Accessed p live.now history.now place × (t ≡ turn_at (site_of p live.now history.now) place) }
-    ensures { result ≡ late_code (site_of p live.now history.now) place key value }
+    ensures { refusal_in result ≡ late_code (site_of p live.now history.now) place key value }
 {
-    let keys = t.sub.keys;
-    if keys::wrote_key(keys, key) {
-        return long_code(value);
+    if keys::wrote_key(t.sub.keys, key) {
+        check_long(value)
+    } else {
+        check_fresh(p, live, history, place, t, key, value)
     }
-    fresh_code(p, live, history, place, t, key, value)
 }
 
 // The part with the key written.
@@ -251,10 +208,8 @@ fn written(p: Core, live: &mut [u64], place: usize, t: Turn, key: u64, value: Va
     ensures { (h : List ℕ) → t ≡ turn_at (site_of p live.old h) place
         → Replied p live.old h result live.new h (written_of (site_of p live.old h) place key value) }
 {
-    let keys = t.sub.keys;
-    let more = keys::with_write(keys, key, value);
-    let a = with_keys(t, more, Answer::Done);
-    shell::settled(p, live, place, a)
+    let more = keys::with_write(t.sub.keys, key, value);
+    shell::settled(p, live, place, with_keys(t, more, Answer::Done))
 }
 
 // What a part writes.
@@ -271,11 +226,10 @@ fn write_at(
         (write_at (site_of p live.old history.now) place key value) }
 {
     let t = shell::turn_at(p, live, place);
-    let code = late_code(p, live, history, place, t, key, value);
-    if code != 0 {
-        return shell::refused(p, code);
+    match check_late(p, live, history, place, t, key, value) {
+        Ok(()) => written(p, live, place, t, key, value),
+        Err(cause) => shell::refused(p, cause),
     }
-    written(p, live, place, t, key, value)
 }
 
 // Writes a key of this site privately, and holds it until install or abort.
@@ -283,14 +237,8 @@ pub fn write(p: Core, live: &mut [u64], history: &[u64], tx: u64, key: u64, valu
     ensures { Replied p live.old history.now result live.new history.now
         (write_of (site_of p live.old history.now) tx key value) }
 {
-    let ok = valid::site_ok(p, live, history);
-    let house = tables::lent_house(p.house, live.len(), history.len());
-    let seats = p.seats;
-    let place = live::place_of(seats, tx);
-    let stage = stage_at(seats, place);
-    let code = access_code(ok, BASE, house, p.counters.own, key, place, stage);
-    if code != 0 {
-        return shell::refused(p, code);
+    match check_access(p, live, history, BASE, tx, key) {
+        Ok(place) => write_at(p, live, history, place, key, value),
+        Err(cause) => shell::refused(p, cause),
     }
-    write_at(p, live, history, place, key, value)
 }

@@ -1,32 +1,29 @@
 // Begin: the site becomes coordinator of a new transaction, for a desk (Q10.1).
-ghost use Rattle.std.specs.Prelude.{◌≡◌, List, ℕ, ◌≤◌, ◌<◌};
+ghost use Rattle.std.specs.Prelude.{◌≡◌, List, ℕ, ◌≤◌, ◌<◌, IfOk};
+ghost use Rattle.kinds.specs.Refusal.{refusal_in};
 ghost use Rattle.kinds.specs.Sizes as sizes;
 ghost use Rattle.rules.specs.Effect.{taken_of};
-ghost use Rattle.rules.specs.Begin.{begin_code, next_tx, begun as begunOf, begin_of};
+ghost use Rattle.rules.specs.Begin.{next_tx, begun as begunOf, begin_of};
+ghost use Rattle.rules.specs.Live.{free_place};
 ghost use Rattle.lent.specs.Lent.{site_of, Replied};
-ghost use Rattle.site.specs.Accessed.{Unspent};
+ghost use Rattle.site.specs.Accessed.{Unspent, begin_code_at};
 
-use kinds::reason::{FULL, MALFORMED, SPENT};
-use kinds::sizes::{LAST_SERIAL, LIVE};
-use kinds::{Answer, Core, Counters, Reply, Taken, Turn};
+use kinds::sizes::LAST_SERIAL;
+use kinds::{Answer, Core, Counters, Refusal, Reply, Taken, Turn};
 
-fn begin_code(ok: bool, known: bool, c: Counters, place: usize) -> u64
-    ensures { result ≡ begin_code ok known c place }
+// The free place, if a transaction can begin.
+fn check_begin(p: Core, live: &[u64], history: &[u64], desk: u64) -> Result<usize, Refusal>
+    ensures code { refusal_in result ≡ begin_code_at (site_of p live.now history.now) desk }
+    ensures place { IfOk result (λ i. i ≡ free_place (site_of p live.now history.now).live) }
 {
-    let serial = c.serial;
-    if !ok {
-        return MALFORMED;
+    if !valid::site_ok(p, live, history) || !numbers::is_desk(desk) {
+        return Err(Refusal::Malformed);
     }
-    if !known {
-        return MALFORMED;
+    let place = live::free_place(p.seats).ok_or(Refusal::Full)?;
+    if LAST_SERIAL <= p.counters.serial {
+        return Err(Refusal::Spent);
     }
-    if LIVE <= place {
-        return FULL;
-    }
-    if LAST_SERIAL <= serial {
-        return SPENT;
-    }
-    0
+    Ok(place)
 }
 
 fn next_tx(c: Counters) -> u64
@@ -42,20 +39,18 @@ fn begun(p: Core, desk: u64) -> Taken
     ensures { (w h : List ℕ) → result ≡ taken_of (begunOf (site_of p w h) desk) }
 {
     let mut counters = p.counters;
-    let channels = p.channels;
     let tx = next_tx(counters);
     let mask = numbers::mask_of(counters.own);
     let sub = course::turn::new_sub(tx, desk, mask, counters.installs);
-    counters.serial = counters.serial + 1;
-    let turn = Turn {
-        counters,
-        channels,
-        sub,
-    };
+    counters.serial += 1;
     Taken {
         answer: Answer::Begun { tx },
         words: 0,
-        turn,
+        turn: Turn {
+            counters,
+            channels: p.channels,
+            sub,
+        },
     }
 }
 
@@ -63,14 +58,8 @@ pub fn begin(p: Core, live: &mut [u64], history: &[u64], desk: u64) -> Reply
     ensures { Replied p live.old history.now result live.new history.now
         (begin_of (site_of p live.old history.now) desk) }
 {
-    let ok = valid::site_ok(p, live, history);
-    let known = numbers::is_desk(desk);
-    let seats = p.seats;
-    let place = live::free_place(seats);
-    let code = begin_code(ok, known, p.counters, place);
-    if code != 0 {
-        return shell::refused(p, code);
+    match check_begin(p, live, history, desk) {
+        Ok(place) => shell::settled(p, live, place, begun(p, desk)),
+        Err(cause) => shell::refused(p, cause),
     }
-    let a = begun(p, desk);
-    shell::settled(p, live, place, a)
 }

@@ -1,52 +1,56 @@
 // Enlist: a participant more, and JOIN to it.
-ghost use Rattle.std.specs.Prelude.{◌≡◌, length};
+ghost use Rattle.std.specs.Prelude.{◌≡◌, ◌≤◌, length, IfOk};
 ghost use Rattle.laws.specs.Overlay.{overlay};
-ghost use Rattle.rules.specs.Enlist.{enlist_code, joiner_code, enlist_at, enlist_of};
-ghost use Rattle.site.specs.Accessed.{Accessed, Sendable};
+ghost use Rattle.kinds.specs.Refusal.{refusal_in};
+ghost use Rattle.kinds.specs.Sizes as sizes;
+ghost use Rattle.rules.specs.Enlist.{enlist_at, enlist_of};
+ghost use Rattle.rules.specs.Live.{place_of};
+ghost use Rattle.site.specs.Accessed.{Accessed, Sendable, enlist_code_at, joiner_code_at};
 ghost use Rattle.lent.specs.Lent.{site_of, Replied};
 
-use kinds::reason::{MALFORMED, NOT_COORDINATOR, SHORT, SPENT, STAGE, UNKNOWN};
-use kinds::sizes::{LIVE, OUTGOING};
+use kinds::sizes::OUTGOING;
 use kinds::stage::ACTIVE;
-use kinds::{Core, Reply};
+use kinds::{Core, Refusal, Reply, Turn};
 
-fn enlist_code(ok: bool, room: usize, known: bool, place: usize, mine: bool) -> u64
-    ensures { result ≡ enlist_code ok room known place mine }
+// The place of the coordinator's part, if it may take a participant more.
+fn check_enlist(
+    p: Core,
+    live: &[u64],
+    history: &[u64],
+    room: usize,
+    tx: u64,
+    site: u64,
+) -> Result<usize, Refusal>
+    ensures code { refusal_in result ≡ enlist_code_at (site_of p live.now history.now) room tx site }
+    ensures place { IfOk result (λ i. i ≡ place_of (site_of p live.now history.now).live tx) }
 {
     if room < OUTGOING {
-        return SHORT;
+        return Err(Refusal::Short);
     }
-    if !ok {
-        return MALFORMED;
+    let house = tables::lent_house(p.house, live.len(), history.len());
+    if !valid::site_ok(p, live, history) || !numbers::is_site(house, site) {
+        return Err(Refusal::Malformed);
     }
-    if !known {
-        return MALFORMED;
+    let place = live::place_of(p.seats, tx).ok_or(Refusal::Unknown)?;
+    if numbers::coordinator_of(tx) != p.counters.own {
+        return Err(Refusal::NotCoordinator);
     }
-    if LIVE <= place {
-        return UNKNOWN;
-    }
-    if !mine {
-        return NOT_COORDINATOR;
-    }
-    0
+    Ok(place)
 }
 
-fn joiner_code(stage: u64, own: bool, there: bool, spent: bool) -> u64
-    ensures { result ≡ joiner_code stage own there spent }
+// Then what the part and the channel to the new participant say.
+fn check_joiner(t: Turn, site: u64) -> Result<(), Refusal>
+    requires { (1 ≤ site) × (site ≤ sizes.sites) }
+    ensures { refusal_in result ≡ joiner_code_at t site }
 {
-    if stage != ACTIVE {
-        return STAGE;
+    let course = t.sub.course;
+    if course.stage != ACTIVE || site == t.counters.own || numbers::in_mask(course.mask, site) {
+        return Err(Refusal::Stage);
     }
-    if own {
-        return STAGE;
+    if course::turn::channel_spent(t.channels, site) {
+        return Err(Refusal::Spent);
     }
-    if there {
-        return STAGE;
-    }
-    if spent {
-        return SPENT;
-    }
-    0
+    Ok(())
 }
 
 // The part at a place gets a participant more.
@@ -66,15 +70,15 @@ fn enlist_at(
         ≡ overlay out.old (enlist_at (site_of p live.old history.now) place site).words }
 {
     let t = shell::turn_at(p, live, place);
-    let course = t.sub.course;
-    let there = numbers::in_mask(course.mask, site);
-    let spent = course::turn::channel_spent(p.channels, site);
-    let code = joiner_code(course.stage, site == p.counters.own, there, spent);
-    if code != 0 {
-        return shell::refused(p, code);
+    if let Err(cause) = check_joiner(t, site) {
+        return shell::refused(p, cause);
     }
-    let a = course::coordinator::enlist_step(t, site, out);
-    shell::settled(p, live, place, a)
+    shell::settled(
+        p,
+        live,
+        place,
+        course::coordinator::enlist_step(t, site, out),
+    )
 }
 
 pub fn enlist(
@@ -91,15 +95,8 @@ pub fn enlist(
         ≡ overlay out.old
         (enlist_of (site_of p live.old history.now) (length out.old) tx site).words }
 {
-    let ok = valid::site_ok(p, live, history);
-    let house = tables::lent_house(p.house, live.len(), history.len());
-    let seats = p.seats;
-    let place = live::place_of(seats, tx);
-    let known = numbers::is_site(house, site);
-    let coordinator = numbers::coordinator_of(tx);
-    let code = enlist_code(ok, out.len(), known, place, coordinator == p.counters.own);
-    if code != 0 {
-        return shell::refused(p, code);
+    match check_enlist(p, live, history, out.len(), tx, site) {
+        Ok(place) => enlist_at(p, live, history, place, site, out),
+        Err(cause) => shell::refused(p, cause),
     }
-    enlist_at(p, live, history, place, site, out)
 }

@@ -5,18 +5,24 @@ use Rattle.kinds.specs.Sizes as sizes
 use Rattle.kinds.specs.declared.Entry.{Entry}
 use Rattle.lent.specs.Layout.{history_of}
 use Rattle.installs.specs.Forgettable.{oldest}
+use Rattle.installs.proofs.part.forget_oldest.Goals.{After-entry_at-e}
 use Rattle.installs.proofs.part.forget_oldest.Goals as goal
+
+-- the entry that is read is the oldest
+read : (c : After-entry_at-e) → c.entry_at-e.result.keys ≡ oldest (history_of c.args.history.now) c.args.installs
+read c = ap (λ (e : Entry). e.keys) c.entry_at-e.ensures ∙ rw c.next_slot.ensures
 
 pub returns-then-installs : goal.returns-then-installs
 returns-then-installs c = rw (lt-leb sizes.history c.args.installs c.if-installs.true)
 
 pub forget_into-requires : goal.forget_into-requires
 forget_into-requires c =
-    let read : let a = c.args in c.entry_at-e.result.keys ≡ oldest (history_of a.history.now) a.installs = ap (λ (e : Entry). e.keys) c.entry_at-e.ensures ∙ rw c.next_slot.ensures in
     let pre = c.requires in
-    record { base_len = pre.history_len.1; wrote_le_writes = rw read (pre.forgettable.few, pre.forgettable.low) }
+    record {
+      base_len = pre.history_len.1;
+      wrote_le_writes = rw (read (goal.at.forget_into-requires c).After-entry_at-e) (pre.forgettable.few, pre.forgettable.low);
+    }
 
 pub returns : goal.returns
 returns c =
-    let read : let a = c.args in c.entry_at-e.result.keys ≡ oldest (history_of a.history.now) a.installs = ap (λ (e : Entry). e.keys) c.entry_at-e.ensures ∙ rw c.next_slot.ensures in
-    rw (le-leb sizes.history c.args.installs c.if-installs.false, ← read) c.forget_into.ensures
+    rw (le-leb sizes.history c.args.installs c.if-installs.false, ← read (goal.at.returns c).After-entry_at-e) c.forget_into.ensures

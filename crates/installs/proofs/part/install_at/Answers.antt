@@ -16,7 +16,7 @@ use Rattle.rules.specs.House.{coordinator_of}
 use Rattle.rules.specs.Install.{base_after, installed_at, part_words}
 use Rattle.rules.specs.Valid.{site_ok}
 use Rattle.rules.specs.ValidLaws.{valid_site}
-use Rattle.lent.specs.Laws.{Lengths, lent_lengths}
+use Rattle.lent.specs.Laws.{lent_lengths}
 use Rattle.lent.specs.Lent.{Left, Replied, site_of}
 use Rattle.installs.specs.Forgettable.{Forgettable, oldest}
 use Rattle.installs.proofs.part.install_at.Goals as goal
@@ -40,29 +40,37 @@ unfolding installed_at
 replied p w h base place b coordinator words q v g e f k l = record { answer = rw (f, e); words = rw e at k; left = l }
 
 pub part_at-b-requires : goal.part_at-b-requires
-part_at-b-requires c =
-    let long : Lengths c.args.live.now c.args.history.now = lent_lengths c.args.p c.args.live.now c.args.history.now c.requires.installable.possible in
-    (long.live, c.requires.installable.low)
+part_at-b-requires c = ((lent_lengths _ _ _ c.requires.installable.possible).live, c.requires.installable.low)
 
 pub forget_oldest-requires : goal.forget_oldest-requires
 forget_oldest-requires c =
-    let handed : Site = let a = c.args in site_of a.p a.live.now a.history.now in
-    let long : Lengths c.args.live.now c.args.history.now = lent_lengths c.args.p c.args.live.now c.args.history.now c.requires.installable.possible in
-    record { history_len = (long.history, c.requires.base_len.0); forgettable = forgettable handed c.requires.installable.possible }
+    let a = c.args in
+    let possible = c.requires.installable.possible in
+    record {
+      history_len = ((lent_lengths _ _ _ possible).history, c.requires.base_len.0);
+      forgettable = forgettable (site_of a.p a.live.now a.history.now) possible;
+    }
 
 pub write_part-words-requires : goal.write_part-words-requires
 write_part-words-requires c =
-    let handed : Site = let a = c.args in site_of a.p a.live.now a.history.now in
-    (few handed c.args.place _ c.requires.installable.possible c.requires.installable.low c.part_at-b.ensures, c.requires.base_len.1)
+    let a = c.args in
+    let ready = c.requires.installable in
+    (few (site_of a.p a.live.now a.history.now) a.place _ ready.possible ready.low c.part_at-b.ensures, c.requires.base_len.1)
 
-pub kept-core-requires : goal.kept-core-requires
-kept-core-requires c =
-    let long : Lengths c.args.live.now c.args.history.now = lent_lengths c.args.p c.args.live.now c.args.history.now c.requires.installable.possible in
-    record { lengths = (long, c.requires.installable.unspent); place_lt_live = (c.requires.installable.low, c.part_at-b.ensures) }
+pub kept-requires : goal.kept-requires
+kept-requires c =
+    let ready = c.requires.installable in
+    record { lengths = (lent_lengths _ _ _ ready.possible, ready.unspent); place_lt_live = (ready.low, c.part_at-b.ensures) }
 
 pub returns : goal.returns
 unfolding installed_at base_after
 returns c =
     let a = c.args in
+    let part = c.part_at-b.ensures in
     let w = c.write_part-words.ensures in
-    record { replied = replied a.p a.live.now a.history.now a.base.now a.place _ _ _ _ _ _ c.part_at-b.ensures c.coordinator_of-coordinator.ensures w.0 (c.kept-core.ensures a.base.now); base_after = c.forget_oldest.ensures; out_after = rw (← c.part_at-b.ensures) w.1 }
+    record {
+      replied =
+          replied a.p a.live.now a.history.now a.base.now a.place _ _ _ _ _ _ part c.coordinator_of.ensures w.0 (c.kept.ensures a.base.now);
+      base_after = c.forget_oldest.ensures;
+      out_after = rw (← part) w.1;
+    }

@@ -49,9 +49,21 @@ leaves p w h place slot b free seat e v g base l n f m =
     (left_installed p w h c place slot free e n f m low l.live.0 l.history.0)
 
 pub put_entry-requires : goal.put_entry-requires
-put_entry-requires c = (c.requires.lengths.0.history, rw c.next_slot-slot.ensures (slot_low _))
+put_entry-requires c = (c.requires.lengths.0.history, rw c.next_slot.ensures (slot_low _))
 
 pub returns : goal.returns
 returns c =
     let seats : length c.args.p.seats ≡ sizes.live = search rules in
-    λ base. let a = c.args in leaves a.p a.live.now a.history.now a.place _ a.b _ _ _ _ _ base (record { part = c.requires.place_lt_live.1; freed = c.no_sub-free.ensures; sits = c.seat_of-seat.ensures; kept = c.entry_of.ensures; next = c.next_slot-slot.ensures; live = c.put_part.ensures; history = c.put_entry.ensures }) seats c.requires.lengths.0 c.requires.place_lt_live.0
+    λ base.
+    let a = c.args in
+    leaves a.p a.live.now a.history.now a.place _ a.b _ _ _ _ _ base
+    (record {
+      part = c.requires.place_lt_live.1;
+      freed = c.no_sub-free.ensures;
+      sits = c.seat_of.ensures;
+      kept = c.entry_of.ensures;
+      next = c.next_slot.ensures;
+      live = c.put_part.ensures;
+      history = c.put_entry.ensures;
+    })
+    seats c.requires.lengths.0 c.requires.place_lt_live.0

@@ -4,4 +4,4 @@ use Rattle.installs.proofs.part.part_head.Goals as goal
 
 pub returns : goal.returns
 unfolding part_head
-returns c = simp (c.coordinator_of-coordinator.ensures, c.requires)
+returns c = simp (c.coordinator_of.ensures, c.requires)

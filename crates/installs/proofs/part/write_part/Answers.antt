@@ -14,6 +14,7 @@ use Rattle.rules.specs.InstallLaws.{sorted_few}
 use Rattle.rules.specs.Keys.{sorted_count, sorted_words}
 use Rattle.rules.specs.KeysLaws.{words_length}
 use Rattle.rules.specs.Record.{record_words}
+use Rattle.installs.proofs.part.write_part.Goals.{After-sorted_words-n}
 use Rattle.installs.proofs.part.write_part.Goals as goal
 
 abbrev empty : List ℕ
@@ -23,32 +24,30 @@ taken_back : (k : Keys) (n : ℕ) (ws : List ℕ) → n ≡ sorted_count k → w
     → take (sizes.write * n) ws ≡ sorted_words k (sorted_count k)
 taken_back k n ws e f = rw (f, ← e) (overlay_back empty (sorted_words k n) (sizes.write * n) (words_length k n))
 
+-- a record has room for so many
+few : (c : After-sorted_words-n) → c.sorted_words-n.result ≤ sizes.writes
+few c = omega (arith, c.sorted_words-n.ensures.0, sorted_few c.args.b.keys, c.requires.0)
+
 pub overflow_mul-end : goal.overflow_mul-end
-overflow_mul-end c =
-    let keys : Keys = c.args.b.keys in
-    let few : c.sorted_words-n.result ≤ sizes.writes = omega (arith, c.sorted_words-n.ensures.0, sorted_few (keys), c.requires.0) in
-    omega (arith, few)
+overflow_mul-end c = omega (arith, few (goal.at.overflow_mul-end c).After-sorted_words-n)
 
 pub slice_bounds-ws-end : goal.slice_bounds-ws-end
-slice_bounds-ws-end c =
-    let keys : Keys = c.args.b.keys in
-    let few : c.sorted_words-n.result ≤ sizes.writes = omega (arith, c.sorted_words-n.ensures.0, sorted_few (keys), c.requires.0) in
-    omega (arith, few, c.sorted_words-n.auto.out)
+slice_bounds-ws-end c = omega (arith, few (goal.at.slice_bounds-ws-end c).After-sorted_words-n, c.sorted_words-n.auto.out)
 
 pub slice_bounds-write_record-end : goal.slice_bounds-write_record-end
 slice_bounds-write_record-end c =
-    let keys : Keys = c.args.b.keys in
-    let few : c.sorted_words-n.result ≤ sizes.writes = omega (arith, c.sorted_words-n.ensures.0, sorted_few (keys), c.requires.0) in
+    let few = few (goal.at.slice_bounds-write_record-end c).After-sorted_words-n in
     simp length-take (omega (arith, few, c.sorted_words-n.auto.out))
 
 pub write_record-requires : goal.write_record-requires
 unfolding part_head
 write_record-requires c =
-    let keys : Keys = c.args.b.keys in
-    let few : c.sorted_words-n.result ≤ sizes.writes = omega (arith, c.sorted_words-n.ensures.0, sorted_few (keys), c.requires.0) in
-    let pre = c.requires in
+    let few = few (goal.at.write_record-requires c).After-sorted_words-n in
     let e = c.sorted_words-n.ensures.0 in
-    rw c.part_head-head.ensures (simp length-take (omega (arith, few, e, c.sorted_words-n.auto.out)), (omega (arith, few, e), omega (arith, few, e, pre.1)))
+    rw c.part_head-head.ensures (
+      simp length-take (omega (arith, few, e, c.sorted_words-n.auto.out)),
+      (omega (arith, few, e), omega (arith, few, e, c.requires.1)),
+    )
 
 part_record : (own : ℕ) (b : Sub) (head : RecordHead) (ws : List ℕ) → head ≡ part_head own b
     → ws ≡ sorted_words b.keys (sorted_count b.keys) → record_words head ws ≡ part_words own b
@@ -57,7 +56,7 @@ part_record own b head ws e f = rw (e, f)
 
 pub returns : goal.returns
 returns c =
-    let keys : Keys = c.args.b.keys in
-    let written : take (sizes.write * c.sorted_words-n.result) c.sorted_words-n.new.out ≡ sorted_words keys (sorted_count keys) = let e = c.sorted_words-n.ensures in taken_back keys c.sorted_words-n.result _ e.0 e.1 in
     let a = c.args in
+    let e = c.sorted_words-n.ensures in
+    let written = taken_back a.b.keys c.sorted_words-n.result _ e.0 e.1 in
     rw (← part_record a.own a.b _ _ c.part_head-head.ensures written) c.write_record.ensures

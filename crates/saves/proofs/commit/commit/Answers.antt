@@ -1,44 +1,39 @@
 -- Refused, or the request of the transaction's part.
-use mathlib.Core.Path.{◌≡◌, sym, ◌∙◌}
-use borrow.Author.Tests.{eq-eqb, ne_eqb}
-use lib.ListN.{length}
+use Rattle.std.proofs.Common.{sym, refl}
 use Rattle.laws.specs.Overlay.{overlay_none}
-use Rattle.kinds.specs.declared.Site.{Site}
-use Rattle.rules.specs.CallLaws.{RequestClear, request_clear}
-use Rattle.rules.specs.Commit.{commit_of, request_code}
-use Rattle.rules.specs.Enlist.{is_mine}
-use Rattle.rules.specs.Live.{place_of}
-use Rattle.rules.specs.Valid.{handed_ok}
+use Rattle.rules.specs.CallLaws.{request_clear}
+use Rattle.rules.specs.Commit.{commit_of}
 use Rattle.rules.specs.ValidLaws.{handed_length, handed_site}
 use Rattle.lent.specs.Lent.{site_of}
+use Rattle.shell.proofs.Refusals.{stopped}
 use Rattle.saves.proofs.commit.commit.Goals as goal
 
-pub returns-then-code-ne0 : goal.returns-then-code-ne0
+pub returns-in-Err : goal.returns-in-Err
 unfolding commit_of
-returns-then-code-ne0 c =
-    let handed : Site = let a = c.args in site_of a.p a.live.now a.history.now in
-    let at : c.place_of-place.result ≡ place_of handed.live c.args.tx = c.place_of-place.ensures c.args.live.now in
-    let first : let a = c.args in let ok = handed_ok handed a.lists.now in c.request_code-code.result ≡ request_code ok (length a.out.now) c.place_of-place.result (is_mine handed a.tx) = rw (← c.handed_ok-ok.ensures, ← c.coordinator_of-coordinator.ensures) c.request_code-code.ensures in
+returns-in-Err c =
     let a = c.args in
-    let n = ne_eqb c.request_code-code.result 0 c.if-code-ne0.true in
-    record { replied = rw (← at, ← first, n) (c.refused.ensures _ _ a.lists.now); lists_after = rw (← at, ← first, n); out_after = rw (← at, ← first, n) (overlay_none a.out.now) }
+    let first = rw c.handed_ok-ok.ensures at (c.in-Err.ensures.code a.live.now a.history.now) in
+    rw (stopped c.in-Err.cause _ first, ← first)
+    (record { replied = c.refused.ensures _ _ a.lists.now; lists_after = refl; out_after = overlay_none a.out.now })
 
 pub commit_at-requires : goal.commit_at-requires
 commit_at-requires c =
-    let handed : Site = let a = c.args in site_of a.p a.live.now a.history.now in
-    let first : let a = c.args in let ok = handed_ok handed a.lists.now in c.request_code-code.result ≡ request_code ok (length a.out.now) c.place_of-place.result (is_mine handed a.tx) = rw (← c.handed_ok-ok.ensures, ← c.coordinator_of-coordinator.ensures) c.request_code-code.ensures in
-    let clear : let a = c.args in let ok = handed_ok handed a.lists.now in RequestClear ok (length a.out.now) c.place_of-place.result (is_mine handed a.tx) = request_clear _ _ _ _ (sym first ∙ c.if-code-ne0.false) in
-    let h = clear in
-    let l = c.args.lists.now in
-    record { placed = record { possible = handed_site handed l h.valid; low = h.held }; lists_len = (handed_length handed l h.valid, h.long) }
+    let a = c.args in
+    let s = site_of a.p a.live.now a.history.now in
+    let none = rw c.handed_ok-ok.ensures at (c.in-Ok.ensures.code a.live.now a.history.now) in
+    let clear = request_clear _ _ _ _ (sym none) in
+    record {
+      placed =
+          record {
+            possible = handed_site s a.lists.now clear.valid;
+            low = rw (c.in-Ok.ensures.place a.live.now a.history.now) clear.held;
+          };
+      lists_len = (handed_length s a.lists.now clear.valid, clear.long);
+    }
 
-pub returns : goal.returns
+pub returns-in-Ok : goal.returns-in-Ok
 unfolding commit_of
-returns c =
-    let handed : Site = let a = c.args in site_of a.p a.live.now a.history.now in
-    let at : c.place_of-place.result ≡ place_of handed.live c.args.tx = c.place_of-place.ensures c.args.live.now in
-    let first : let a = c.args in let ok = handed_ok handed a.lists.now in c.request_code-code.result ≡ request_code ok (length a.out.now) c.place_of-place.result (is_mine handed a.tx) = rw (← c.handed_ok-ok.ensures, ← c.coordinator_of-coordinator.ensures) c.request_code-code.ensures in
-    let clear : let a = c.args in let ok = handed_ok handed a.lists.now in RequestClear ok (length a.out.now) c.place_of-place.result (is_mine handed a.tx) = request_clear _ _ _ _ (sym first ∙ c.if-code-ne0.false) in
-    let z = eq-eqb c.request_code-code.result 0 c.if-code-ne0.false in
-    let r = c.commit_at.ensures in
-    record { replied = rw (← at, ← first, z) r.replied; lists_after = rw (← at, ← first, z) r.lists_after; out_after = rw (← at, ← first, z) r.out_after }
+returns-in-Ok c =
+    let a = c.args in
+    let none = rw c.handed_ok-ok.ensures at (c.in-Ok.ensures.code a.live.now a.history.now) in
+    rw (← none, ← c.in-Ok.ensures.place a.live.now a.history.now) c.commit_at.ensures

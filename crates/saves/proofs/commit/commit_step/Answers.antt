@@ -3,13 +3,11 @@ use Prim.Native.Nat.{ℕ}
 use mathlib.Core.Path.{◌≡◌, sym, ◌∙◌}
 use mathlib.Core.Bool.{Bool, true, false}
 use borrow.Author.Tests.{eq-eqb, ne_eqb}
-use lib.ListN.{length}
 use Rattle.kinds.specs.State.{sub_at}
 use Rattle.kinds.specs.declared.Site.{Site}
 use Rattle.kinds.specs.declared.Turn.{Turn}
 use Rattle.rules.specs.Commit.{is_full, is_lost}
 use Rattle.rules.specs.CommitLaws.{commit_full, commit_lost, commit_request, lists_kept, lists_lost, lists_made}
-use Rattle.rules.specs.Course.{CanSendAll}
 use Rattle.rules.specs.Effect.{turn_at}
 use Rattle.rules.specs.History.{is_forgotten}
 use Rattle.lent.specs.Laws.{lent_lengths}
@@ -31,59 +29,56 @@ unfolding turn_at
 lost-is s place t b e f = sym (rw e at f)
 
 pub turn_at-t-requires : goal.turn_at-t-requires
-turn_at-t-requires c =
-    let a = c.args in
-    let p = c.requires.placed.0 in
-    ((lent_lengths a.p a.live.now a.history.now p.possible).live, p.low)
+turn_at-t-requires c = ((lent_lengths _ _ _ c.requires.placed.0.possible).live, c.requires.placed.0.low)
 
 pub abort_step-requires : goal.abort_step-requires
-abort_step-requires c =
-    let handed : Site = let a = c.args in site_of a.p a.live.now a.history.now in
-    let turned : c.turn_at-t.result ≡ turn_at handed c.args.place = c.turn_at-t.ensures c.args.history.now in
-    let can : CanSendAll c.turn_at-t.result (length c.args.out.now) = rw turned c.requires.can_send_all in
-    can
+abort_step-requires c = rw (c.turn_at-t.ensures c.args.history.now) c.requires.can_send_all
 
 pub returns-then-t-ne0 : goal.returns-then-t-ne0
 returns-then-t-ne0 c =
-    let handed : Site = let a = c.args in site_of a.p a.live.now a.history.now in
-    let turned : c.turn_at-t.result ≡ turn_at handed c.args.place = c.turn_at-t.ensures c.args.history.now in
-    let full : is_full handed c.args.place ≡ true = is-full handed c.args.place _ turned c.if-t-ne0.true in
     let a = c.args in
-    let t = turned in
-    let e = commit_full handed a.place full in
-    record { value = rw (e, ← t) c.abort_step.ensures.value; lists_after = sym (lists_kept handed a.place a.lists.now full); out_after = rw (e, ← t) c.abort_step.ensures.out_after }
+    let s = site_of a.p a.live.now a.history.now in
+    let turned = c.turn_at-t.ensures a.history.now in
+    let full = is-full s a.place _ turned c.if-t-ne0.true in
+    let e = commit_full s a.place full in
+    record {
+      value = rw (e, ← turned) c.abort_step.ensures.value;
+      lists_after = sym (lists_kept s a.place a.lists.now full);
+      out_after = rw (e, ← turned) c.abort_step.ensures.out_after;
+    }
 
 pub abort_step-requires-then-is_forgotten : goal.abort_step-requires-then-is_forgotten
-abort_step-requires-then-is_forgotten c =
-    let handed : Site = let a = c.args in site_of a.p a.live.now a.history.now in
-    let turned : c.turn_at-t.result ≡ turn_at handed c.args.place = c.turn_at-t.ensures c.args.history.now in
-    let can : CanSendAll c.turn_at-t.result (length c.args.out.now) = rw turned c.requires.can_send_all in
-    can
+abort_step-requires-then-is_forgotten c = rw (c.turn_at-t.ensures c.args.history.now) c.requires.can_send_all
 
 pub returns-then-is_forgotten : goal.returns-then-is_forgotten
 returns-then-is_forgotten c =
-    let handed : Site = let a = c.args in site_of a.p a.live.now a.history.now in
-    let turned : c.turn_at-t.result ≡ turn_at handed c.args.place = c.turn_at-t.ensures c.args.history.now in
-    let listing : is_full handed c.args.place ≡ false = not_full handed c.args.place _ turned c.if-t-ne0.false in
-    let lost : is_lost handed c.args.place ≡ c.is_forgotten.result = lost-is handed c.args.place _ c.is_forgotten.result turned c.is_forgotten.ensures in
     let a = c.args in
-    let t = turned in
-    let l = lost ∙ c.if-is_forgotten.true in
-    let e = commit_lost handed a.place listing l in
-    record { value = rw (e, ← t) c.abort_step-then-is_forgotten.ensures.value; lists_after = sym (lists_lost handed a.place a.lists.now listing l); out_after = rw (e, ← t) c.abort_step-then-is_forgotten.ensures.out_after }
+    let s = site_of a.p a.live.now a.history.now in
+    let turned = c.turn_at-t.ensures a.history.now in
+    let listing = not_full s a.place _ turned c.if-t-ne0.false in
+    let lost = lost-is s a.place _ _ turned c.is_forgotten.ensures ∙ c.if-is_forgotten.true in
+    let e = commit_lost s a.place listing lost in
+    let step = c.abort_step-then-is_forgotten.ensures in
+    record {
+      value = rw (e, ← turned) step.value;
+      lists_after = sym (lists_lost s a.place a.lists.now listing lost);
+      out_after = rw (e, ← turned) step.out_after;
+    }
 
 pub list_step-requires : goal.list_step-requires
 list_step-requires c = c.requires
 
 pub returns : goal.returns
 returns c =
-    let handed : Site = let a = c.args in site_of a.p a.live.now a.history.now in
-    let turned : c.turn_at-t.result ≡ turn_at handed c.args.place = c.turn_at-t.ensures c.args.history.now in
-    let unfull : is_full handed c.args.place ≡ false = not_full handed c.args.place _ turned c.if-t-ne0.false in
-    let lost : is_lost handed c.args.place ≡ c.is_forgotten.result = lost-is handed c.args.place _ c.is_forgotten.result turned c.is_forgotten.ensures in
     let a = c.args in
-    let l = lost ∙ c.if-is_forgotten.false in
-    let e = commit_request handed a.place unfull l in
-    let made = lists_made handed a.place a.lists.now unfull l in
-    let r = c.list_step.ensures in
-    record { value = rw e r.result_value; lists_after = rw made r.lists_after; out_after = rw e r.out_after }
+    let s = site_of a.p a.live.now a.history.now in
+    let turned = c.turn_at-t.ensures a.history.now in
+    let unfull = not_full s a.place _ turned c.if-t-ne0.false in
+    let kept = lost-is s a.place _ _ turned c.is_forgotten.ensures ∙ c.if-is_forgotten.false in
+    let e = commit_request s a.place unfull kept in
+    let step = c.list_step.ensures in
+    record {
+      value = rw e step.result_value;
+      lists_after = rw (lists_made s a.place a.lists.now unfull kept) step.lists_after;
+      out_after = rw e step.out_after;
+    }

@@ -13,6 +13,7 @@ use Rattle.rules.specs.Join.{joined}
 use Rattle.rules.proofs.JoinLaws.{join_back, length_join}
 use Rattle.rules.specs.Message.{entry_count}
 use Rattle.lent.specs.Lent.{site_of}
+use Rattle.saves.proofs.commit.lone_step.Goals.{After-join-k}
 use Rattle.saves.proofs.commit.lone_step.Goals as goal
 
 -- whole entries that fit a message
@@ -24,61 +25,53 @@ casts : (s : Site) (place : ℕ) (t : Turn) (es j : List ℕ) (k v : ℕ) → es
     → cast_step t v es ≡ cast_step t (vote_of s place j (entry_count j)) j
 casts s place t es j k v e f g = rw (g, e, f)
 
+-- the join is as few entries as the list, and stands at the start of its words
+few : (c : After-join-k) → c.join-k.result ≤ sizes.conc_entries
+few c = omega (arith, c.join-k.ensures.upper_bound.0, c.requires.own.few)
+
+joins : (c : After-join-k) → take (sizes.entry * c.join-k.result) c.join-k.new.out ≡ joined c.args.own.now c.args.n
+joins c = join_back _ c.args.own.now _ c.args.n c.join-k.result c.join-k.ensures.upper_bound.1 c.join-k.ensures.out_after
+
+whole : (c : After-join-k) → length (joined c.args.own.now c.args.n) ≡ sizes.entry * c.join-k.result
+whole c = length_join c.args.own.now c.args.n c.join-k.result c.join-k.ensures.upper_bound.1
+
+long : (c : After-join-k) → length (take (sizes.entry * c.join-k.result) c.join-k.new.out) ≡ sizes.entry * c.join-k.result
+long c = ap length (joins c) ∙ whole c
+
 pub overflow_mul-e : goal.overflow_mul-e
-overflow_mul-e c =
-    let few : c.join-k.result ≤ sizes.conc_entries = omega (arith, c.join-k.ensures.upper_bound.0, c.requires.own.few) in
-    omega (arith, few)
+overflow_mul-e c = omega (arith, few (goal.at.overflow_mul-e c).After-join-k)
 
 pub slice_bounds-list-end : goal.slice_bounds-list-end
-slice_bounds-list-end c =
-    let few : c.join-k.result ≤ sizes.conc_entries = omega (arith, c.join-k.ensures.upper_bound.0, c.requires.own.few) in
-    omega (arith, few)
+slice_bounds-list-end c = omega (arith, few (goal.at.slice_bounds-list-end c).After-join-k)
 
 pub slice_bounds-vote_of-end : goal.slice_bounds-vote_of-end
-slice_bounds-vote_of-end c =
-    let joins : List ℕ = joined c.args.own.now c.args.n in
-    let back : take (sizes.entry * c.join-k.result) c.join-k.new.out ≡ joins = let a = c.args in join_back _ a.own.now _ a.n c.join-k.result c.join-k.ensures.upper_bound.1 c.join-k.ensures.out_after in
-    let whole : length joins ≡ sizes.entry * c.join-k.result = let a = c.args in length_join a.own.now a.n c.join-k.result c.join-k.ensures.upper_bound.1 in
-    let long : length (take (sizes.entry * c.join-k.result) c.join-k.new.out) ≡ sizes.entry * c.join-k.result = ap length back ∙ whole in
-    sym long
+slice_bounds-vote_of-end c = sym (long (goal.at.slice_bounds-vote_of-end c).After-join-k)
 
 pub vote_of-v-requires : goal.vote_of-v-requires
 vote_of-v-requires c =
-    let joins : List ℕ = joined c.args.own.now c.args.n in
-    let back : take (sizes.entry * c.join-k.result) c.join-k.new.out ≡ joins = let a = c.args in join_back _ a.own.now _ a.n c.join-k.result c.join-k.ensures.upper_bound.1 c.join-k.ensures.out_after in
-    let whole : length joins ≡ sizes.entry * c.join-k.result = let a = c.args in length_join a.own.now a.n c.join-k.result c.join-k.ensures.upper_bound.1 in
-    let long : length (take (sizes.entry * c.join-k.result) c.join-k.new.out) ≡ sizes.entry * c.join-k.result = ap length back ∙ whole in
-    let few : c.join-k.result ≤ sizes.conc_entries = omega (arith, c.join-k.ensures.upper_bound.0, c.requires.own.few) in
+    let at = (goal.at.vote_of-v-requires c).After-join-k in
     let own = c.requires.own in
-    let l = long in
-    record { valid = own.possible; low = own.low; entries = record { few = omega (arith, few); lie = omega (arith, l) } }
+    record {
+      valid = own.possible;
+      low = own.low;
+      entries = record { few = omega (arith, few at); lie = omega (arith, long at) };
+    }
 
 pub slice_bounds-list-end-2 : goal.slice_bounds-list-end-2
-slice_bounds-list-end-2 c =
-    let few : c.join-k.result ≤ sizes.conc_entries = omega (arith, c.join-k.ensures.upper_bound.0, c.requires.own.few) in
-    omega (arith, few)
+slice_bounds-list-end-2 c = omega (arith, few (goal.at.slice_bounds-list-end-2 c).After-join-k)
 
 pub slice_bounds-cast_step-end : goal.slice_bounds-cast_step-end
-slice_bounds-cast_step-end c =
-    let joins : List ℕ = joined c.args.own.now c.args.n in
-    let back : take (sizes.entry * c.join-k.result) c.join-k.new.out ≡ joins = let a = c.args in join_back _ a.own.now _ a.n c.join-k.result c.join-k.ensures.upper_bound.1 c.join-k.ensures.out_after in
-    let whole : length joins ≡ sizes.entry * c.join-k.result = let a = c.args in length_join a.own.now a.n c.join-k.result c.join-k.ensures.upper_bound.1 in
-    let long : length (take (sizes.entry * c.join-k.result) c.join-k.new.out) ≡ sizes.entry * c.join-k.result = ap length back ∙ whole in
-    sym long
+slice_bounds-cast_step-end c = sym (long (goal.at.slice_bounds-cast_step-end c).After-join-k)
 
 pub cast_step-requires : goal.cast_step-requires
 cast_step-requires c =
-    let joins : List ℕ = joined c.args.own.now c.args.n in
-    let back : take (sizes.entry * c.join-k.result) c.join-k.new.out ≡ joins = let a = c.args in join_back _ a.own.now _ a.n c.join-k.result c.join-k.ensures.upper_bound.1 c.join-k.ensures.out_after in
-    let whole : length joins ≡ sizes.entry * c.join-k.result = let a = c.args in length_join a.own.now a.n c.join-k.result c.join-k.ensures.upper_bound.1 in
-    let few : c.join-k.result ≤ sizes.conc_entries = omega (arith, c.join-k.ensures.upper_bound.0, c.requires.own.few) in
-    (c.requires.can_send_all, entries _ _ c.join-k.result back c.join-k.ensures.upper_bound.1 whole few)
+    let at = (goal.at.cast_step-requires c).After-join-k in
+    (c.requires.can_send_all, entries _ _ c.join-k.result (joins at) c.join-k.ensures.upper_bound.1 (whole at) (few at))
 
 pub returns : goal.returns
 returns c =
-    let handed : Site = let a = c.args in site_of a.p a.live.now a.history.now in
-    let joins : List ℕ = joined c.args.own.now c.args.n in
-    let back : take (sizes.entry * c.join-k.result) c.join-k.new.out ≡ joins = let a = c.args in join_back _ a.own.now _ a.n c.join-k.result c.join-k.ensures.upper_bound.1 c.join-k.ensures.out_after in
     let a = c.args in
-    let e = casts handed a.place a.t _ joins _ _ back c.join-k.ensures.upper_bound.1 c.vote_of-v.ensures in
+    let s = site_of a.p a.live.now a.history.now in
+    let back = joins (goal.at.returns c).After-join-k in
+    let e = casts s a.place a.t _ _ _ _ back c.join-k.ensures.upper_bound.1 c.vote_of-v.ensures in
     record { value = rw (← e) c.cast_step.ensures.value; out_after = rw (← e) c.cast_step.ensures.out_after }

@@ -3,7 +3,6 @@ use Prim.Native.Nat.{ℕ}
 use mathlib.Core.Path.{◌≡◌, sym, ap, ◌∙◌}
 use mathlib.Core.Bool.{Bool, true, false}
 use mathlib.Core.List.{List}
-use lib.ListN.{length}
 use Rattle.kinds.specs.State.{sub_at}
 use Rattle.kinds.specs.declared.Course.{Course}
 use Rattle.kinds.specs.declared.Site.{Site}
@@ -20,6 +19,7 @@ use Rattle.rules.specs.Message.{entry_count}
 use Rattle.rules.specs.ValidLaws.{valid_own}
 use Rattle.lent.specs.Laws.{lent_lengths}
 use Rattle.lent.specs.Lent.{site_of}
+use Rattle.saves.proofs.commit.request_step.Goals.{After-with_course-u}
 use Rattle.saves.proofs.commit.request_step.Goals as goal
 
 -- the turn of the place, with the course of the request
@@ -50,48 +50,44 @@ prepares : (s : Site) (place n : ℕ) (own : List ℕ) (t u : Turn) (d : Course)
 unfolding turn_at
 prepares s place n own t u d a k h = rw (request_prepare s place own n k h, a.asked, a.course, a.turned)
 
+asked_by : (c : After-with_course-u)
+    → Asked (site_of c.args.p c.args.live.now c.args.history.now) c.args.place c.args.n c.turn_at-t.result c.with_course-u.result
+    c.with_request-c.result
+asked_by c =
+    record {
+      turned = c.turn_at-t.ensures c.args.history.now;
+      course = c.with_request-c.ensures;
+      asked = c.with_course-u.ensures;
+    }
+
 pub turn_at-t-requires : goal.turn_at-t-requires
-turn_at-t-requires c =
-    let a = c.args in
-    ((lent_lengths a.p a.live.now a.history.now c.requires.own.possible).live, c.requires.own.low)
+turn_at-t-requires c = ((lent_lengths _ _ _ c.requires.own.possible).live, c.requires.own.low)
 
 pub all_heard-requires : goal.all_heard-requires
-all_heard-requires c =
-    let handed : Site = let a = c.args in site_of a.p a.live.now a.history.now in
-    valid_own handed c.requires.own.possible
+all_heard-requires c = let a = c.args in valid_own (site_of a.p a.live.now a.history.now) c.requires.own.possible
 
 pub lone_step-requires : goal.lone_step-requires
 lone_step-requires c =
-    let handed : Site = let a = c.args in site_of a.p a.live.now a.history.now in
-    let asked : Asked handed c.args.place c.args.n c.turn_at-t.result c.with_course-u.result c.with_request-c.result = record { turned = c.turn_at-t.ensures c.args.history.now; course = c.with_request-c.ensures; asked = c.with_course-u.ensures } in
-    let can : CanSendAll c.with_course-u.result (length c.args.out.now) = sendable handed c.args.place c.args.n _ _ _ _ asked c.requires.can_send_all in
-    record { own = c.requires.own; can_send_all = can }
+    let asked = asked_by (goal.at.lone_step-requires c).After-with_course-u in
+    record { own = c.requires.own; can_send_all = sendable _ _ _ _ _ _ _ asked c.requires.can_send_all }
 
 pub returns-then-all_heard : goal.returns-then-all_heard
 returns-then-all_heard c =
-    let handed : Site = let a = c.args in site_of a.p a.live.now a.history.now in
-    let asked : Asked handed c.args.place c.args.n c.turn_at-t.result c.with_course-u.result c.with_request-c.result = record { turned = c.turn_at-t.ensures c.args.history.now; course = c.with_request-c.ensures; asked = c.with_course-u.ensures } in
-    let count : entry_count c.args.own.now ≡ c.args.n = whole_count c.args.own.now c.args.n c.requires.own.long in
-    let lone : all_heard handed.counters.own 0 (sub_at handed c.args.place).course.mask ≡ c.all_heard.result = alone handed c.args.place c.args.n _ _ _ c.all_heard.result asked c.all_heard.ensures in
     let a = c.args in
-    let h = lone ∙ c.if-all_heard.true in
-    let e = votes handed a.place a.n a.own.now _ _ _ asked count h in
-    record { value = rw e c.lone_step.ensures.value; out_after = rw e c.lone_step.ensures.out_after }
+    let asked = asked_by (goal.at.returns-then-all_heard c).After-with_course-u in
+    let count = whole_count a.own.now a.n c.requires.own.long in
+    let lone = alone _ _ _ _ _ _ _ asked c.all_heard.ensures in
+    rw (votes _ _ _ a.own.now _ _ _ asked count (lone ∙ c.if-all_heard.true)) c.lone_step.ensures
 
 pub prepare_step-requires : goal.prepare_step-requires
 prepare_step-requires c =
-    let handed : Site = let a = c.args in site_of a.p a.live.now a.history.now in
-    let asked : Asked handed c.args.place c.args.n c.turn_at-t.result c.with_course-u.result c.with_request-c.result = record { turned = c.turn_at-t.ensures c.args.history.now; course = c.with_request-c.ensures; asked = c.with_course-u.ensures } in
-    let can : CanSendAll c.with_course-u.result (length c.args.out.now) = sendable handed c.args.place c.args.n _ _ _ _ asked c.requires.can_send_all in
-    can
+    let asked = asked_by (goal.at.prepare_step-requires c).After-with_course-u in
+    sendable _ _ _ _ _ _ _ asked c.requires.can_send_all
 
 pub returns : goal.returns
 returns c =
-    let handed : Site = let a = c.args in site_of a.p a.live.now a.history.now in
-    let asked : Asked handed c.args.place c.args.n c.turn_at-t.result c.with_course-u.result c.with_request-c.result = record { turned = c.turn_at-t.ensures c.args.history.now; course = c.with_request-c.ensures; asked = c.with_course-u.ensures } in
-    let count : entry_count c.args.own.now ≡ c.args.n = whole_count c.args.own.now c.args.n c.requires.own.long in
-    let lone : all_heard handed.counters.own 0 (sub_at handed c.args.place).course.mask ≡ c.all_heard.result = alone handed c.args.place c.args.n _ _ _ c.all_heard.result asked c.all_heard.ensures in
     let a = c.args in
-    let h = lone ∙ c.if-all_heard.false in
-    let e = prepares handed a.place a.n a.own.now _ _ _ asked count h in
-    record { value = rw e c.prepare_step.ensures.value; out_after = rw e c.prepare_step.ensures.out_after }
+    let asked = asked_by (goal.at.returns c).After-with_course-u in
+    let count = whole_count a.own.now a.n c.requires.own.long in
+    let lone = alone _ _ _ _ _ _ _ asked c.all_heard.ensures in
+    rw (prepares _ _ _ a.own.now _ _ _ asked count (lone ∙ c.if-all_heard.false)) c.prepare_step.ensures

@@ -4,4 +4,4 @@ use Rattle.site.proofs.access.with_keys.Goals as goal
 
 pub returns : goal.returns
 unfolding taken_of
-returns c = rw c.with_sub-turn.ensures
+returns c = rw c.with_sub.ensures

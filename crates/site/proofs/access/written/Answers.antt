@@ -33,4 +33,8 @@ settled-requires c = c.requires.live_len
 
 pub returns : goal.returns
 unfolding written
-returns c = λ h e. let a = c.args in c.settled.ensures _ (step-as (site_of a.p a.live.now h) a.place a.key a.value a.t _ _ e c.with_write-more.ensures c.with_keys-a.ensures) h []
+returns c =
+    λ h e.
+    let a = c.args in
+    let step = step-as (site_of a.p a.live.now h) a.place a.key a.value a.t _ _ e c.with_write-more.ensures c.with_keys.ensures in
+    c.settled.ensures _ step h []

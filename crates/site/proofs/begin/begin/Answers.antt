@@ -1,56 +1,31 @@
 -- Refused, or the new part settled at the free place.
-use Prim.Native.Nat.{ℕ}
-use mathlib.Core.Path.{◌≡◌, sym, ◌∙◌}
-use mathlib.Core.List.{[]}
-use native.Mathlib.Omega.{arith}
-use borrow.Author.Tests.{eq-eqb, ne_eqb}
-use Rattle.kinds.specs.declared.Site.{Site}
-use Rattle.rules.specs.Desk.{is_desk}
-use Rattle.rules.specs.Begin.{BeginClear, begin_clear, begin_code, begin_of, begun}
-use Rattle.rules.specs.Live.{free_place}
-use Rattle.rules.specs.Valid.{site_ok}
+use Rattle.std.proofs.Common.{sym, [], arith}
+use Rattle.rules.specs.Begin.{begin_clear, begin_of}
 use Rattle.rules.specs.ValidLaws.{valid_site}
 use Rattle.lent.specs.Laws.{lent_lengths}
 use Rattle.lent.specs.Lent.{site_of}
+use Rattle.shell.proofs.Refusals.{refuses}
 use Rattle.site.proofs.begin.begin.Goals as goal
 
-pub returns-then-code-ne0 : goal.returns-then-code-ne0
+pub returns-in-Err : goal.returns-in-Err
 unfolding begin_of
-returns-then-code-ne0 c =
-    let handed : Site = let a = c.args in site_of a.p a.live.now a.history.now in
-    let desk : ℕ = c.args.desk in
-    let code_of : ℕ = let s = handed in begin_code (site_ok s) (is_desk desk) s.counters (free_place s.live) in
-    let first : c.begin_code-code.result ≡ code_of = rw (← c.site_ok-ok.ensures, ← c.is_desk-known.ensures, ← c.free_place-place.ensures c.args.live.now) c.begin_code-code.ensures in
-    rw (← first, ne_eqb c.begin_code-code.result 0 c.if-code-ne0.true) (c.refused.ensures _ _ [])
+returns-in-Err c = rw (refuses _ _ _ [] _ c.in-Err.ensures.code) (c.refused.ensures _ _ [])
 
-pub begun-a-requires : goal.begun-a-requires
-begun-a-requires c =
-    let handed : Site = let a = c.args in site_of a.p a.live.now a.history.now in
-    let desk : ℕ = c.args.desk in
-    let code_of : ℕ = let s = handed in begin_code (site_ok s) (is_desk desk) s.counters (free_place s.live) in
-    let first : c.begin_code-code.result ≡ code_of = rw (← c.site_ok-ok.ensures, ← c.is_desk-known.ensures, ← c.free_place-place.ensures c.args.live.now) c.begin_code-code.ensures in
-    let clear : (let s = handed in BeginClear (site_ok s) (is_desk desk) s.counters (free_place s.live)) = begin_clear _ _ _ _ (sym first ∙ c.if-code-ne0.false) in
-    let h = clear in
-    let v = (valid_site handed h.valid).house in
-    record { first = v.own_low; last = omega (arith, v.own_high, v.few_sites); low = h.unspent }
+pub begun-requires : goal.begun-requires
+begun-requires c =
+    let a = c.args in
+    let clear = begin_clear _ _ _ _ (sym c.in-Ok.ensures.code) in
+    let v = (valid_site (site_of a.p a.live.now a.history.now) clear.valid).house in
+    record { first = v.own_low; last = omega (arith, v.own_high, v.few_sites); low = clear.unspent }
 
 pub settled-requires : goal.settled-requires
 settled-requires c =
-    let handed : Site = let a = c.args in site_of a.p a.live.now a.history.now in
-    let desk : ℕ = c.args.desk in
-    let code_of : ℕ = let s = handed in begin_code (site_ok s) (is_desk desk) s.counters (free_place s.live) in
-    let first : c.begin_code-code.result ≡ code_of = rw (← c.site_ok-ok.ensures, ← c.is_desk-known.ensures, ← c.free_place-place.ensures c.args.live.now) c.begin_code-code.ensures in
-    let clear : (let s = handed in BeginClear (site_ok s) (is_desk desk) s.counters (free_place s.live)) = begin_clear _ _ _ _ (sym first ∙ c.if-code-ne0.false) in
-    let h = clear in
-    let a = c.args in
-    ((lent_lengths a.p a.live.now a.history.now h.valid).live, rw (c.free_place-place.ensures a.live.now) h.free)
+    let clear = begin_clear _ _ _ _ (sym c.in-Ok.ensures.code) in
+    ((lent_lengths _ _ _ clear.valid).live, rw c.in-Ok.ensures.place clear.free)
 
-pub returns : goal.returns
+pub returns-in-Ok : goal.returns-in-Ok
 unfolding begin_of
-returns c =
-    let handed : Site = let a = c.args in site_of a.p a.live.now a.history.now in
-    let desk : ℕ = c.args.desk in
-    let code_of : ℕ = let s = handed in begin_code (site_ok s) (is_desk desk) s.counters (free_place s.live) in
-    let first : c.begin_code-code.result ≡ code_of = rw (← c.site_ok-ok.ensures, ← c.is_desk-known.ensures, ← c.free_place-place.ensures c.args.live.now) c.begin_code-code.ensures in
+returns-in-Ok c =
     let a = c.args in
-    rw (← first, eq-eqb c.begin_code-code.result 0 c.if-code-ne0.false, ← c.free_place-place.ensures a.live.now) (c.settled.ensures (begun handed a.desk) (c.begun-a.ensures a.live.now a.history.now) a.history.now [])
+    rw (← c.in-Ok.ensures.code, ← c.in-Ok.ensures.place)
+    (c.settled.ensures _ (c.begun.ensures a.live.now a.history.now) a.history.now [])
