@@ -27,7 +27,9 @@ of_rest true n t e zeros =
     (λ h. rw h)
     (λ h. let q : n + (k - n) ≡ k = omega (arith, ltb-false k n h) in
     rw (h, ← q, ← get_or-drop n t (k - n) 0) (zeros (k - n) 0 (omega arith) (omega (arith, length-drop n t, ltb-false k n h)))))
-of_rest false n t e (k, low, other) = not_all_below _ _ (n + k) (omega (arith, length-drop n t)) (rw (le-ltb (n + k) n (omega arith)) (rw (← get_or-drop n t k 0) (other 0)))
+of_rest false n t e (k, low, other) =
+    let behind = le-ltb (n + k) n (omega arith) in
+    not_all_below _ _ (n + k) (omega (arith, length-drop n t)) (rw (behind, ← get_or-drop n t k 0) (other 0))
 
 pub returns : goal.returns
 returns c =

@@ -38,4 +38,4 @@ shape_of-out c = simp length-set
 pub returns : goal.returns
 returns c =
     let a = c.args in
-    rw c.entry_offset-offset.ensures (overlay_sets a.out.now (head_words a.h) (omega arith))
+    rw c.entry_offset.ensures (overlay_sets a.out.now (head_words a.h) (omega arith))
