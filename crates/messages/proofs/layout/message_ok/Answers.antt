@@ -34,7 +34,8 @@ entries_ok-requires c =
     let s = shape_clear m (sym c.shape_ok.ensures ∙ c.if-not-shape_ok.false) in
     let h = head_clear c.args.o c.read_head-h.result (sym c.head_ok.ensures ∙ c.if-head_ok.true) in
     let n : c.read_head-h.result.count ≡ get_or m word.entry_count 0 = ap (λ (r : MessageHead). r.count) c.read_head-h.ensures in
-    record { sites_le_sites = search rules; n_le_cert_entries = omega (arith, most_at_most c.read_head-h.result.kind, length_rest m sizes.message_header) }
+    let few = most_at_most c.read_head-h.result.kind in
+    record { sites_le_sites = search rules; n_le_cert_entries = omega (arith, few, length_rest m sizes.message_header) }
 
 pub returns-then-head_ok : goal.returns-then-head_ok
 unfolding message_ok message_entries
