@@ -6,19 +6,20 @@
 mod run;
 
 ghost use Rattle.std.specs.Prelude.{◌≡◌};
+ghost use Rattle.kinds.specs.Refusal.{refusal_in};
 ghost use Rattle.rules.specs.Page.{page_of, offset_code, offset_of};
 
-use kinds::Answer;
-use kinds::reason::{MALFORMED, NO_PAGE};
 use kinds::sizes::LAST;
+use kinds::{Answer, Refusal};
 pub use run::pages;
 
 // The page of an offset, counted from 0, and the rest.
+#[tactic(auto, unfolding(rules::specs::Page::page_of, rules::specs::Page::page_code))]
 pub fn page(size: u64, offset: u64) -> Answer
     ensures { result ≡ page_of size offset }
 {
     if size == 0 {
-        return Answer::Refused(NO_PAGE);
+        return Answer::Refused(Refusal::NoPage.into());
     }
     Answer::Paged {
         page: offset / size,
@@ -26,31 +27,29 @@ pub fn page(size: u64, offset: u64) -> Answer
     }
 }
 
-// Whether the offset would pass the last is asked by a division, which cannot wrap.
-fn offset_code(size: u64, page: u64, rest: u64) -> u64
-    ensures { result ≡ offset_code size page rest }
+// Whether a page and a rest have an offset. Whether it would pass the last is asked by a division, which cannot wrap.
+#[tactic(auto, unfolding(rules::specs::Page::offset_code))]
+fn check_offset(size: u64, page: u64, rest: u64) -> Result<(), Refusal>
+    ensures { refusal_in result ≡ offset_code size page rest }
 {
     if size == 0 {
-        return NO_PAGE;
+        return Err(Refusal::NoPage);
     }
-    if size <= rest {
-        return MALFORMED;
+    if size <= rest || (LAST - rest) / size < page {
+        return Err(Refusal::Malformed);
     }
-    if (LAST - rest) / size < page {
-        return MALFORMED;
-    }
-    0
+    Ok(())
 }
 
 // The offset of a page and a rest.
+#[tactic(auto, unfolding(rules::specs::Page::offset_of))]
 pub fn offset(size: u64, page: u64, rest: u64) -> Answer
     ensures { result ≡ offset_of size page rest }
 {
-    let code = offset_code(size, page, rest);
-    if code != 0 {
-        return Answer::Refused(code);
-    }
-    Answer::Offset {
-        offset: page * size + rest,
+    match check_offset(size, page, rest) {
+        Err(cause) => Answer::Refused(cause.into()),
+        Ok(()) => Answer::Offset {
+            offset: page * size + rest,
+        },
     }
 }

@@ -29,9 +29,7 @@ pub fn put_writes(copy: &mut [u64], ws: &[u64], n: usize)
     requires by_index { (i : ℕ) → i < n → write_key ws.now i < sizes.keys }
     ensures { copy.new ≡ put_writes copy.old ws.now n }
 {
-    let mut i: usize = 0;
-    while i < n {
+    for i in 0..n {
         put_write(copy, ws, i);
-        i += 1;
     }
 }

@@ -9,17 +9,20 @@ use kinds::{House, word};
 use numbers::{is_mask, is_tx};
 
 // The transaction of the entry before, 0 before the first.
+#[tactic(auto, unfolding(rules::specs::Message::entry_before))]
 fn entry_before(es: &[u64], i: usize) -> u64
     requires { (i < sizes.cert_entries) × (sizes.entry * i + 2 < length es.now) }
     ensures { result ≡ entry_before es.now i }
 {
     if i == 0 {
-        return 0;
+        0
+    } else {
+        es[ENTRY * (i - 1) + word::ENTRY_TX]
     }
-    es[ENTRY * (i - 1) + word::ENTRY_TX]
 }
 
 // What one entry says: a transaction, participants and a mark of the house.
+#[tactic(auto, unfolding(rules::specs::Message::entry_possible))]
 fn entry_possible(o: House, es: &[u64], i: usize) -> bool
     requires sites_le_sites { o.sites ≤ sizes.sites }
     requires i_lt_cert_entries { (i < sizes.cert_entries) × (sizes.entry * i + 2 < length es.now) }
@@ -28,25 +31,16 @@ fn entry_possible(o: House, es: &[u64], i: usize) -> bool
     let tx = es[ENTRY * i + word::ENTRY_TX];
     let mask = es[ENTRY * i + word::ENTRY_MASK];
     let mark = es[ENTRY * i + word::ENTRY_MARK];
-    if !is_tx(o, tx) {
-        return false;
-    }
-    if !is_mask(o, mask) {
-        return false;
-    }
-    mark <= 1
+    is_tx(o, tx) && is_mask(o, mask) && mark <= 1
 }
 
+#[tactic(auto, unfolding(rules::specs::Message::entry_ok))]
 fn entry_ok(o: House, es: &[u64], i: usize) -> bool
     requires sites_le_sites { o.sites ≤ sizes.sites }
     requires i_lt_cert_entries { (i < sizes.cert_entries) × (sizes.entry * i + 2 < length es.now) }
     ensures { result ≡ entry_ok o es.now i }
 {
-    let before = entry_before(es, i);
-    if es[ENTRY * i + word::ENTRY_TX] <= before {
-        return false;
-    }
-    entry_possible(o, es, i)
+    entry_before(es, i) < es[ENTRY * i + word::ENTRY_TX] && entry_possible(o, es, i)
 }
 
 // Whether each of the first n entries is possible, in whatever order they stand.
@@ -55,14 +49,7 @@ pub fn entries_possible(o: House, es: &[u64], n: usize) -> bool
     requires n_le_cert_entries { (n ≤ sizes.cert_entries) × (sizes.entry * n ≤ length es.now) }
     ensures { result ≡ all_below (entry_possible o es.now) n }
 {
-    let mut i: usize = 0;
-    while i < n {
-        if !entry_possible(o, es, i) {
-            return false;
-        }
-        i += 1;
-    }
-    true
+    (0..n).all(|i| entry_possible(o, es, i))
 }
 
 pub fn entries_ok(o: House, es: &[u64], n: usize) -> bool
@@ -70,12 +57,5 @@ pub fn entries_ok(o: House, es: &[u64], n: usize) -> bool
     requires n_le_cert_entries { (n ≤ sizes.cert_entries) × (sizes.entry * n ≤ length es.now) }
     ensures { result ≡ all_below (entry_ok o es.now) n }
 {
-    let mut i: usize = 0;
-    while i < n {
-        if !entry_ok(o, es, i) {
-            return false;
-        }
-        i += 1;
-    }
-    true
+    (0..n).all(|i| entry_ok(o, es, i))
 }

@@ -10,72 +10,47 @@ use kinds::sizes::{CERT_ENTRIES, CONC_ENTRIES};
 use kinds::{House, MessageHead, kind, reason};
 use numbers::{coordinator_of, in_mask, is_desk, is_mask, is_site, is_tx};
 
+#[tactic(auto, unfolding(rules::specs::Message::to_coordinator))]
 fn to_coordinator(kind: u64) -> bool
     ensures { result ≡ to_coordinator kind }
 {
-    if kind == kind::JOINED {
-        return true;
-    }
-    if kind == kind::CONC {
-        return true;
-    }
-    kind == kind::VOTE
+    matches!(kind, kind::JOINED | kind::CONC | kind::VOTE)
 }
 
+#[tactic(auto, unfolding(rules::specs::Message::coordinator_end))]
 fn coordinator_end(h: MessageHead) -> u64
     ensures { result ≡ coordinator_end h }
 {
-    let kind = h.kind;
-    if to_coordinator(kind) {
-        return h.to;
-    }
-    h.from
+    if to_coordinator(h.kind) { h.to } else { h.from }
 }
 
+#[tactic(auto, unfolding(rules::specs::Message::carries_clock))]
 fn carries_clock(kind: u64) -> bool
     ensures { result ≡ carries_clock kind }
 {
-    if kind == kind::PREPARE {
-        return true;
-    }
-    if kind == kind::VOTE {
-        return true;
-    }
-    kind == kind::COMMIT
+    matches!(kind, kind::PREPARE | kind::VOTE | kind::COMMIT)
 }
 
 fn clock_ok(kind: u64, clock: u64) -> bool
     ensures { result ≡ pick (carries_clock kind) true (eqb clock 0) }
 {
-    if carries_clock(kind) {
-        return true;
-    }
-    clock == 0
+    carries_clock(kind) || clock == 0
 }
 
 fn joined_ok(argument: u64) -> bool
     ensures { result ≡ some (eqb argument 0 ∷ eqb argument reason.full ∷ []) }
 {
-    if argument == 0 {
-        return true;
-    }
-    argument == reason::FULL
+    matches!(argument, 0 | reason::FULL)
 }
 
 fn vote_ok(argument: u64) -> bool
     ensures { result
         ≡ some (eqb argument 0 ∷ eqb argument reason.unknown ∷ eqb argument reason.conflict ∷ eqb argument reason.uncertain ∷ []) }
 {
-    if argument == 0 {
-        return true;
-    }
-    if argument == reason::UNKNOWN {
-        return true;
-    }
-    if argument == reason::CONFLICT {
-        return true;
-    }
-    argument == reason::UNCERTAIN
+    matches!(
+        argument,
+        0 | reason::UNKNOWN | reason::CONFLICT | reason::UNCERTAIN
+    )
 }
 
 fn prepare_ok(o: House, mask: u64, from: u64, to: u64) -> bool
@@ -84,96 +59,56 @@ fn prepare_ok(o: House, mask: u64, from: u64, to: u64) -> bool
     requires le_to { (1 ≤ to) × (to ≤ sizes.sites) }
     ensures { result ≡ every (is_mask o mask ∷ in_mask mask from ∷ in_mask mask to ∷ []) }
 {
-    if !is_mask(o, mask) {
-        return false;
-    }
-    if !in_mask(mask, from) {
-        return false;
-    }
-    in_mask(mask, to)
+    is_mask(o, mask) && in_mask(mask, from) && in_mask(mask, to)
 }
 
+#[tactic(auto, unfolding(rules::specs::Message::argument_ok))]
 fn argument_ok(o: House, h: MessageHead) -> bool
     requires sites_le_sites { o.sites ≤ sizes.sites }
     requires le_from { (1 ≤ h.from) × (h.from ≤ sizes.sites) }
     requires le_to { (1 ≤ h.to) × (h.to ≤ sizes.sites) }
     ensures { result ≡ argument_ok o h }
 {
-    let kind = h.kind;
-    let argument = h.argument;
-    if kind == kind::JOIN {
-        return is_desk(argument);
+    match h.kind {
+        kind::JOIN => is_desk(h.argument),
+        kind::JOINED => joined_ok(h.argument),
+        kind::PREPARE => prepare_ok(o, h.argument, h.from, h.to),
+        kind::VOTE => vote_ok(h.argument),
+        _ => h.argument == 0,
     }
-    if kind == kind::JOINED {
-        return joined_ok(argument);
-    }
-    if kind == kind::PREPARE {
-        return prepare_ok(o, argument, h.from, h.to);
-    }
-    if kind == kind::VOTE {
-        return vote_ok(argument);
-    }
-    argument == 0
 }
 
+#[tactic(auto, unfolding(rules::specs::Message::most_entries))]
 fn most_entries(kind: u64) -> u64
     ensures { result ≡ most_entries kind }
 {
-    if kind == kind::CONC {
-        return CONC_ENTRIES as u64;
+    match kind {
+        kind::CONC => CONC_ENTRIES as u64,
+        kind::CERT => CERT_ENTRIES as u64,
+        _ => 0,
     }
-    if kind == kind::CERT {
-        return CERT_ENTRIES as u64;
-    }
-    0
 }
 
 // The kind, the two sites and the transaction, whose coordinator is the one that the kind asks.
+#[tactic(auto, unfolding(rules::specs::Message::ends_ok))]
 fn ends_ok(o: House, h: MessageHead) -> bool
     ensures { result ≡ ends_ok o h }
 {
-    let kind = h.kind;
-    let from = h.from;
-    let to = h.to;
-    let tx = h.tx;
-    let end = coordinator_end(h);
-    let coordinator = coordinator_of(tx);
-    if kind < kind::JOIN {
-        return false;
-    }
-    if kind::ABORT < kind {
-        return false;
-    }
-    if !is_site(o, from) {
-        return false;
-    }
-    if !is_site(o, to) {
-        return false;
-    }
-    if from == to {
-        return false;
-    }
-    if !is_tx(o, tx) {
-        return false;
-    }
-    coordinator == end
+    matches!(h.kind, kind::JOIN..=kind::ABORT)
+        && is_site(o, h.from)
+        && is_site(o, h.to)
+        && h.from != h.to
+        && is_tx(o, h.tx)
+        && coordinator_of(h.tx) == coordinator_end(h)
 }
 
+#[tactic(auto, unfolding(rules::specs::Message::head_ok))]
 pub fn head_ok(o: House, h: MessageHead) -> bool
     requires { o.sites ≤ sizes.sites }
     ensures { result ≡ head_ok o h }
 {
-    let kind = h.kind;
-    let count = h.count;
-    let most = most_entries(kind);
-    if !ends_ok(o, h) {
-        return false;
-    }
-    if !clock_ok(kind, h.clock) {
-        return false;
-    }
-    if !argument_ok(o, h) {
-        return false;
-    }
-    count <= most
+    ends_ok(o, h)
+        && clock_ok(h.kind, h.clock)
+        && argument_ok(o, h)
+        && h.count <= most_entries(h.kind)
 }

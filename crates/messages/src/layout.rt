@@ -9,15 +9,14 @@ use kinds::sizes::{ENTRY, MESSAGE_HEADER};
 use kinds::{House, MessageHead, word};
 
 // Where the entries stand: nowhere, if there are none.
+#[tactic(auto, unfolding(rules::specs::Message::entry_offset))]
 pub fn entry_offset(n: u64) -> u64
     ensures { result ≡ entry_offset n }
 {
-    if n == 0 {
-        return 0;
-    }
-    MESSAGE_HEADER as u64
+    if n == 0 { 0 } else { MESSAGE_HEADER as u64 }
 }
 
+#[tactic(auto, unfolding(rules::specs::Message::message_head))]
 pub fn read_head(m: &[u64]) -> MessageHead
     requires { sizes.message_header ≤ length m.now }
     ensures { result ≡ message_head m.now }
@@ -35,6 +34,7 @@ pub fn read_head(m: &[u64]) -> MessageHead
 }
 
 // Length, count and offset agree. A count above the length is no entry count of it, and three times another does not wrap.
+#[tactic(auto, unfolding(rules::specs::Message::message_shape))]
 fn shape_ok(m: &[u64]) -> bool
     ensures { result ≡ message_shape m.now }
 {
@@ -42,23 +42,15 @@ fn shape_ok(m: &[u64]) -> bool
     if size < MESSAGE_HEADER as u64 {
         return false;
     }
-    let length = m[word::LENGTH];
     let count = m[word::ENTRY_COUNT];
-    let offset = m[word::ENTRY_OFFSET];
-    let place = entry_offset(count);
-    if length != size {
-        return false;
-    }
-    if size < count {
-        return false;
-    }
-    if size != MESSAGE_HEADER as u64 + ENTRY as u64 * count {
-        return false;
-    }
-    offset == place
+    m[word::LENGTH] == size
+        && count <= size
+        && size == MESSAGE_HEADER as u64 + ENTRY as u64 * count
+        && m[word::ENTRY_OFFSET] == entry_offset(count)
 }
 
 // Whether the words are those of some message of the house (M17).
+#[tactic(auto, unfolding(rules::specs::Message::message_ok))]
 pub fn message_ok(o: House, m: &[u64]) -> bool
     requires { o.sites ≤ sizes.sites }
     ensures { result ≡ message_ok o m.now }
@@ -67,9 +59,5 @@ pub fn message_ok(o: House, m: &[u64]) -> bool
         return false;
     }
     let h = read_head(m);
-    if !head_ok(o, h) {
-        return false;
-    }
-    let n = h.count as usize;
-    entries_ok(o, &m[MESSAGE_HEADER..], n)
+    head_ok(o, h) && entries_ok(o, &m[MESSAGE_HEADER..], h.count as usize)
 }

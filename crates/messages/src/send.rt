@@ -10,49 +10,26 @@ use kinds::MessageHead;
 use kinds::sizes::{LAST, SITES};
 
 // Whether site i + 1 is a participant other than the sender.
+#[tactic(auto, unfolding(rules::specs::Send::is_recipient))]
 pub fn is_recipient(mask: u64, sender: u64, i: usize) -> bool
     requires { i < sizes.sites }
     ensures { result ≡ is_recipient mask sender i }
 {
-    if (mask >> i) % 2 != 1 {
-        return false;
-    }
-    i as u64 + 1 != sender
+    (mask >> i) % 2 == 1 && i as u64 + 1 != sender
 }
 
 fn count_low(sent: [u64; SITES], mask: u64, sender: u64, i: usize) -> bool
     requires { i < sizes.sites }
     ensures { result ≡ pick (is_recipient mask sender i) (ltb (get_or sent i 0) sizes.last) true }
 {
-    if is_recipient(mask, sender, i) {
-        return sent[i] < LAST;
-    }
-    true
+    !is_recipient(mask, sender, i) || sent[i] < LAST
 }
 
 // Whether a further message to each recipient can be counted (cause 13).
 pub fn counts_low(sent: [u64; SITES], mask: u64, sender: u64) -> bool
     ensures { result ≡ counts_low sent mask sender }
 {
-    let mut i: usize = 0;
-    while i < SITES {
-        if !count_low(sent, mask, sender, i) {
-            return false;
-        }
-        i += 1;
-    }
-    true
-}
-
-fn step_recipient(mut sent: [u64; SITES], mask: u64, sender: u64, i: usize) -> [u64; SITES]
-    requires { (i < sizes.sites) × (is_recipient mask sender i ≡ true → get_or sent i 0 < sizes.last) }
-    ensures { result ≡ pick (is_recipient mask sender i) (step_count sent i) sent }
-{
-    if is_recipient(mask, sender, i) {
-        sent[i] += 1;
-        return sent;
-    }
-    sent
+    (0..SITES).all(|i| count_low(sent, mask, sender, i))
 }
 
 // The counts after one message to each recipient.
@@ -61,11 +38,10 @@ pub fn step_recipients(sent: [u64; SITES], mask: u64, sender: u64) -> [u64; SITE
     ensures { result ≡ step_recipients sent mask sender sizes.sites }
 {
     let mut counts = sent;
-    let mut i: usize = 0;
-    while i < SITES {
-        let next = step_recipient(counts, mask, sender, i);
-        counts = next;
-        i += 1;
+    for i in 0..SITES {
+        if is_recipient(mask, sender, i) {
+            counts[i] += 1;
+        }
     }
     counts
 }
@@ -88,13 +64,16 @@ fn write_to(
     if !is_recipient(mask, h.from, i) {
         return 0;
     }
-    let mut g = h;
-    g.to = i as u64 + 1;
-    g.channel = sent[i] + 1;
+    let g = MessageHead {
+        to: i as u64 + 1,
+        channel: sent[i] + 1,
+        ..h
+    };
     write_message(out, g, es)
 }
 
 // Writes the message to each recipient, each directly behind the one before, and returns how many words were written.
+#[tactic(auto, using(rules::specs::SendLaws::messages_fit))]
 pub fn broadcast(
     out: &mut [u64],
     h: MessageHead,
@@ -109,10 +88,8 @@ pub fn broadcast(
         × (out.new ≡ overlay out.old (messages_to h sent mask es.now sizes.sites)) }
 {
     let mut at: usize = 0;
-    let mut i: usize = 0;
-    while i < SITES {
+    for i in 0..SITES {
         at += write_to(&mut out[at..], h, sent, mask, i, es);
-        i += 1;
     }
     at
 }

@@ -13,9 +13,7 @@ fn write_head(out: &mut [u64], h: MessageHead)
     requires { (sizes.message_header ≤ length out.old) × (h.count ≤ sizes.cert_entries) }
     ensures { out.new ≡ overlay out.old (head_words h) }
 {
-    let count = h.count;
-    let offset = entry_offset(count);
-    out[word::LENGTH] = MESSAGE_HEADER as u64 + ENTRY as u64 * count;
+    out[word::LENGTH] = MESSAGE_HEADER as u64 + ENTRY as u64 * h.count;
     out[word::KIND] = h.kind;
     out[word::FROM] = h.from;
     out[word::TO] = h.to;
@@ -23,8 +21,8 @@ fn write_head(out: &mut [u64], h: MessageHead)
     out[word::MESSAGE_TX] = h.tx;
     out[word::CLOCK] = h.clock;
     out[word::ARGUMENT] = h.argument;
-    out[word::ENTRY_COUNT] = count;
-    out[word::ENTRY_OFFSET] = offset;
+    out[word::ENTRY_COUNT] = h.count;
+    out[word::ENTRY_OFFSET] = entry_offset(h.count);
 }
 
 // Writes the message, and returns how many words it has.

@@ -16,13 +16,11 @@ use kinds::sizes::{KEYS, PROOFING_WRITES, SERIALS, SITES, WRITES};
 use kinds::{House, Key};
 use slices::copy_words;
 
+#[tactic(auto, unfolding(rules::specs::House::count_ok))]
 pub fn count_ok(n: u64) -> bool
     ensures { result ≡ count_ok n }
 {
-    if n < 1 {
-        return false;
-    }
-    n <= SITES as u64
+    1 <= n && n <= SITES as u64
 }
 
 // Whether the first `n` words are a good table (Q3.3).
@@ -30,19 +28,13 @@ pub fn table_ok(n: u64, t: &[u64]) -> bool
     requires { (1 ≤ n) × (n ≤ sizes.sites) × (n ≤ length t.now) }
     ensures { result ≡ table_ok n t.now }
 {
-    let sites = n as usize;
     if t[0] != 0 {
         return false;
     }
-    let mut i: usize = 1;
-    while i < sites {
-        if t[i] <= t[i - 1] {
+    for i in 1..n as usize {
+        if t[i] <= t[i - 1] || KEYS as u64 <= t[i] {
             return false;
         }
-        if KEYS as u64 <= t[i] {
-            return false;
-        }
-        i += 1;
     }
     true
 }
@@ -52,30 +44,14 @@ fn rest_ok(n: u64, t: &[u64]) -> bool
     requires { (n ≤ sizes.sites) × (length t.now ≡ sizes.sites) }
     ensures { result ≡ rest_ok n t.now }
 {
-    let mut i = n as usize;
-    while i < SITES {
-        if t[i] != 0 {
-            return false;
-        }
-        i += 1;
-    }
-    true
+    t[n as usize..].iter().all(|first| *first == 0)
 }
 
+#[tactic(auto, unfolding(rules::specs::House::house_ok, rules::specs::House::count_ok))]
 pub fn house_ok(h: House) -> bool
     ensures { result ≡ house_ok h }
 {
-    let sites = h.sites;
-    let firsts = h.firsts;
-    let counted = count_ok(sites);
-    if !counted {
-        return false;
-    }
-    let good = table_ok(sites, &firsts);
-    if !good {
-        return false;
-    }
-    rest_ok(sites, &firsts)
+    count_ok(h.sites) && table_ok(h.sites, &h.firsts) && rest_ok(h.sites, &h.firsts)
 }
 
 // The house of `n` sites with the table `t`.
@@ -85,22 +61,17 @@ pub fn house_of(n: u64, t: &[u64]) -> House
 {
     let mut firsts: [Key; SITES] = [0; SITES];
     copy_words(&mut firsts, t);
-    House {
-        sites: n,
-        firsts: firsts,
-    }
+    House { sites: n, firsts }
 }
 
+#[tactic(auto, unfolding(rules::specs::House::is_site))]
 pub fn is_site(h: House, s: u64) -> bool
     ensures { result ≡ is_site h s }
 {
-    let sites = h.sites;
-    if s < 1 {
-        return false;
-    }
-    s <= sites
+    1 <= s && s <= h.sites
 }
 
+#[tactic(auto, unfolding(rules::specs::House::is_key))]
 pub fn is_key(key: Key) -> bool
     ensures { result ≡ is_key key }
 {
@@ -111,20 +82,13 @@ pub fn is_key(key: Key) -> bool
 pub fn home_of(h: House, key: Key) -> u64
     ensures { result ≡ home_of h key }
 {
-    let sites = h.sites;
-    let firsts = h.firsts;
     if KEYS as u64 <= key {
         return SITES as u64 + 1;
     }
-    let mut i: usize = 0;
-    while i < SITES - 1 {
-        if sites <= i as u64 + 1 {
-            return i as u64 + 1;
+    for i in 1..SITES {
+        if h.sites <= i as u64 || key < h.firsts[i] {
+            return i as u64;
         }
-        if key < firsts[i + 1] {
-            return i as u64 + 1;
-        }
-        i += 1;
     }
     SITES as u64
 }
@@ -134,8 +98,7 @@ pub fn first_key(h: House, s: u64) -> Key
     requires { (1 ≤ s) × (s ≤ sizes.sites) }
     ensures { result ≡ first_key h s }
 {
-    let firsts = h.firsts;
-    firsts[(s - 1) as usize]
+    h.firsts[(s - 1) as usize]
 }
 
 // and the key that its range ends before: the last site's keys run to 2,047 (Q3.2).
@@ -143,14 +106,14 @@ pub fn end_key(h: House, s: u64) -> Key
     requires { h.sites ≤ sizes.sites }
     ensures { result ≡ end_key h s }
 {
-    let sites = h.sites;
-    let firsts = h.firsts;
-    if s < sites {
-        return firsts[s as usize];
+    if s < h.sites {
+        h.firsts[s as usize]
+    } else {
+        KEYS as u64
     }
-    KEYS as u64
 }
 
+#[tactic(auto, unfolding(rules::specs::House::tx_of))]
 pub fn tx_of(coordinator: u64, serial: u64) -> u64
     requires { (coordinator ≤ sizes.sites) × (serial < sizes.serials) }
     ensures { result ≡ tx_of coordinator serial }
@@ -158,30 +121,29 @@ pub fn tx_of(coordinator: u64, serial: u64) -> u64
     coordinator * SERIALS + serial
 }
 
+#[tactic(auto, unfolding(rules::specs::House::coordinator_of))]
 pub fn coordinator_of(tx: u64) -> u64
     ensures { result ≡ coordinator_of tx }
 {
     tx / SERIALS
 }
 
+#[tactic(auto, unfolding(rules::specs::House::serial_of))]
 pub fn serial_of(tx: u64) -> u64
     ensures { result ≡ serial_of tx }
 {
     tx % SERIALS
 }
 
+#[tactic(auto, unfolding(rules::specs::House::is_tx, rules::specs::House::coordinator_of, rules::specs::House::serial_of))]
 pub fn is_tx(h: House, tx: u64) -> bool
     ensures { result ≡ is_tx h tx }
 {
-    let coordinator = coordinator_of(tx);
-    let serial = serial_of(tx);
-    if !is_site(h, coordinator) {
-        return false;
-    }
-    1 <= serial
+    is_site(h, coordinator_of(tx)) && 1 <= serial_of(tx)
 }
 
 // The mask of one site.
+#[tactic(auto, unfolding(rules::specs::House::mask_of))]
 pub fn mask_of(site: u64) -> u64
     requires { (1 ≤ site) × (site ≤ sizes.sites) }
     ensures { result ≡ mask_of site }
@@ -189,6 +151,7 @@ pub fn mask_of(site: u64) -> u64
     1 << (site - 1)
 }
 
+#[tactic(auto, unfolding(rules::specs::House::in_mask))]
 pub fn in_mask(mask: u64, site: u64) -> bool
     requires { (1 ≤ site) × (site ≤ sizes.sites) }
     ensures { result ≡ in_mask mask site }
@@ -196,45 +159,38 @@ pub fn in_mask(mask: u64, site: u64) -> bool
     (mask >> (site - 1)) % 2 == 1
 }
 
+#[tactic(auto, unfolding(rules::specs::House::is_mask))]
 pub fn is_mask(h: House, mask: u64) -> bool
     requires { h.sites ≤ sizes.sites }
     ensures { result ≡ is_mask h mask }
 {
-    let sites = h.sites;
-    mask < 1 << sites
+    mask < 1 << h.sites
 }
 
+#[tactic(auto, unfolding(rules::specs::House::participants))]
 pub fn participants(mask: u64) -> u64
     ensures { result ≡ participantsOf mask }
 {
-    u64::count_ones(mask) as u64
+    mask.count_ones() as u64
 }
 
 // One fewer than the participants, of whom this site is one.
+#[tactic(auto, unfolding(rules::specs::House::replies_wanted))]
 pub fn replies_wanted(own: u64, mask: u64) -> u64
     requires { (1 ≤ own) × (own ≤ sizes.sites) }
     ensures { result ≡ replies_wanted own mask }
 {
-    let n = participants(mask | mask_of(own));
-    if n == 0 {
-        return 0;
-    }
-    n - 1
+    participants(mask | mask_of(own)).saturating_sub(1)
 }
 
 // (m, d) precedes (n, c): by commit number, then by coordinator.
 pub fn precedes(m: u64, d: u64, n: u64, c: u64) -> bool
     ensures { result ≡ precedesOf m d n c }
 {
-    if m < n {
-        return true;
-    }
-    if m == n {
-        return d < c;
-    }
-    false
+    (m, d) < (n, c)
 }
 
+#[tactic(auto, unfolding(rules::specs::Desk::is_desk))]
 pub fn is_desk(d: u64) -> bool
     ensures { result ≡ is_desk d }
 {
@@ -242,11 +198,13 @@ pub fn is_desk(d: u64) -> bool
 }
 
 // How many keys a part for a desk may write.
+#[tactic(auto, unfolding(rules::specs::Desk::write_limit))]
 pub fn write_limit(d: u64) -> usize
     ensures { result ≡ write_limit d }
 {
     if d == PROOFING {
-        return PROOFING_WRITES;
+        PROOFING_WRITES
+    } else {
+        WRITES
     }
-    WRITES
 }

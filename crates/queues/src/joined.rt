@@ -24,8 +24,7 @@ fn copy_writes(out: &mut [u64], queues: &[u64], mask: u64, i: usize) -> usize
     if !in_mask(mask, i as u64 + 1) {
         return 0;
     }
-    let m = queued_part(queues, i, 0);
-    let ws = &m[RECORD_HEADER..];
+    let ws = &queued_part(queues, i, 0)[RECORD_HEADER..];
     copy_words(out, ws);
     ws.len()
 }
@@ -38,11 +37,9 @@ fn join_writes(out: &mut [u64], queues: &[u64], mask: u64, n: usize) -> usize
     ensures value { result ≡ length (joined_writes queues.now mask n) }
     ensures out_after { out.new ≡ overlay out.old (joined_writes queues.now mask n) }
 {
-    let mut at: usize = 0;
-    let mut i: usize = 0;
-    while i < n {
+    let mut at = 0;
+    for i in 0..n {
         at += copy_writes(&mut out[at..], queues, mask, i);
-        i += 1;
     }
     at
 }
@@ -56,16 +53,12 @@ pub fn write_merged(out: &mut [u64], queues: &[u64], n: usize, r: RecordHead) ->
     ensures out_after { out.new ≡ overlay out.old (merged_words queues.now n r) }
 {
     let mut ws = [0u64; WRITE * MERGED_WRITES];
-    let mask = r.mask;
-    let k = join_writes(&mut ws, queues, mask, n);
+    let k = join_writes(&mut ws, queues, r.mask, n);
     let head = RecordHead {
         kind: MERGED,
         site: 0,
-        number: r.number,
-        coordinator: r.coordinator,
-        tx: r.tx,
-        mask: mask,
         count: (k / WRITE) as u64,
+        ..r
     };
     write_record(out, head, &ws[..k])
 }

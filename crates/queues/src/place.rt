@@ -24,8 +24,7 @@ pub fn place_words(queues: &[u64], i: usize, j: usize) -> &[u64]
     ensures { (length result.now ≡ sizes.part) × (result.now ≡ place_words queues.now i j) }
 {
     let at = place_at(i, j);
-    let end = at + PART;
-    &queues[at..end]
+    &queues[at..at + PART]
 }
 
 // The part in them.
@@ -36,8 +35,7 @@ pub fn queued_part(queues: &[u64], i: usize, j: usize) -> &[u64]
     ensures { result.now ≡ queued_part queues.now i j }
 {
     let place = place_words(queues, i, j);
-    let n = place[LENGTH] as usize;
-    &place[..n]
+    &place[..place[LENGTH] as usize]
 }
 
 pub fn read_head(queues: &[u64], i: usize) -> RecordHead

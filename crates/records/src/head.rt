@@ -9,6 +9,7 @@ use kinds::{House, RecordHead, kind};
 use numbers::{coordinator_of, in_mask, is_mask, is_site, is_tx};
 
 // The largest house: a copy knows no other.
+#[tactic(auto, unfolding(rules::specs::House::whole_house, rules::specs::House::even_table, laws::specs::Overlay::overlay))]
 fn whole_house() -> House
     ensures { result ≡ whole_house }
 {
@@ -19,88 +20,44 @@ fn whole_house() -> House
 }
 
 // The transaction, its coordinator and its participants.
+#[tactic(auto, unfolding(rules::specs::Record::pair_ok))]
 fn pair_ok(o: House, r: RecordHead) -> bool
     requires { o.sites ≤ sizes.sites }
     ensures { result ≡ pair_ok o r }
 {
-    let tx = r.tx;
-    let coordinator = r.coordinator;
-    let mask = r.mask;
-    let own = coordinator_of(tx);
-    if !is_tx(o, tx) {
-        return false;
-    }
-    if coordinator != own {
-        return false;
-    }
-    is_mask(o, mask)
+    is_tx(o, r.tx) && r.coordinator == coordinator_of(r.tx) && is_mask(o, r.mask)
 }
 
+#[tactic(auto, unfolding(rules::specs::Record::part_head_ok))]
 pub fn part_head_ok(o: House, r: RecordHead) -> bool
     requires { o.sites ≤ sizes.sites }
     ensures { result ≡ part_head_ok o r }
 {
-    let kind = r.kind;
-    let site = r.site;
-    let mask = r.mask;
-    let count = r.count;
-    if kind != kind::PART {
-        return false;
-    }
-    if !is_site(o, site) {
-        return false;
-    }
-    if !pair_ok(o, r) {
-        return false;
-    }
-    if !in_mask(mask, site) {
-        return false;
-    }
-    count <= WRITES as u64
+    r.kind == kind::PART
+        && is_site(o, r.site)
+        && pair_ok(o, r)
+        && in_mask(r.mask, r.site)
+        && r.count <= WRITES as u64
 }
 
+#[tactic(auto, unfolding(rules::specs::Record::state_head_ok))]
 pub fn state_head_ok(o: House, r: RecordHead) -> bool
     ensures { result ≡ state_head_ok o r }
 {
-    let kind = r.kind;
-    let site = r.site;
-    let coordinator = r.coordinator;
-    let tx = r.tx;
-    let mask = r.mask;
-    let count = r.count;
-    if kind != kind::STATE {
-        return false;
-    }
-    if !is_site(o, site) {
-        return false;
-    }
-    if coordinator != 0 {
-        return false;
-    }
-    if tx != 0 {
-        return false;
-    }
-    if mask != 0 {
-        return false;
-    }
-    count == 0
+    r.kind == kind::STATE
+        && is_site(o, r.site)
+        && r.coordinator == 0
+        && r.tx == 0
+        && r.mask == 0
+        && r.count == 0
 }
 
+#[tactic(auto, unfolding(rules::specs::Record::merged_head_ok, rules::specs::House::whole_house))]
 pub fn merged_head_ok(r: RecordHead) -> bool
     ensures { result ≡ merged_head_ok r }
 {
-    let kind = r.kind;
-    let site = r.site;
-    let count = r.count;
-    let o = whole_house();
-    if kind != kind::MERGED {
-        return false;
-    }
-    if site != 0 {
-        return false;
-    }
-    if !pair_ok(o, r) {
-        return false;
-    }
-    count <= MERGED_WRITES as u64
+    r.kind == kind::MERGED
+        && r.site == 0
+        && pair_ok(whole_house(), r)
+        && r.count <= MERGED_WRITES as u64
 }

@@ -10,15 +10,14 @@ use kinds::sizes::{RECORD_HEADER, WRITE};
 use kinds::{House, RecordHead, word};
 
 // Where the writes stand: nowhere, if there are none.
+#[tactic(auto, unfolding(rules::specs::Record::write_offset))]
 pub fn write_offset(n: u64) -> u64
     ensures { result ≡ write_offset n }
 {
-    if n == 0 {
-        return 0;
-    }
-    RECORD_HEADER as u64
+    if n == 0 { 0 } else { RECORD_HEADER as u64 }
 }
 
+#[tactic(auto, unfolding(rules::specs::Record::record_head))]
 pub fn read_record(m: &[u64]) -> RecordHead
     requires { sizes.record_header ≤ length m.now }
     ensures { result ≡ record_head m.now }
@@ -35,6 +34,7 @@ pub fn read_record(m: &[u64]) -> RecordHead
 }
 
 // Length, count and offset agree. A count above the length is no write count of it, and twice another does not wrap.
+#[tactic(auto, unfolding(rules::specs::Record::record_shape))]
 fn shape_ok(m: &[u64]) -> bool
     ensures { result ≡ record_shape m.now }
 {
@@ -42,23 +42,15 @@ fn shape_ok(m: &[u64]) -> bool
     if size < RECORD_HEADER as u64 {
         return false;
     }
-    let length = m[word::LENGTH];
     let count = m[word::WRITE_COUNT];
-    let offset = m[word::WRITE_OFFSET];
-    let place = write_offset(count);
-    if length != size {
-        return false;
-    }
-    if size < count {
-        return false;
-    }
-    if size != RECORD_HEADER as u64 + WRITE as u64 * count {
-        return false;
-    }
-    offset == place
+    m[word::LENGTH] == size
+        && count <= size
+        && size == RECORD_HEADER as u64 + WRITE as u64 * count
+        && m[word::WRITE_OFFSET] == write_offset(count)
 }
 
 // Whether the words are those of some part record of the house (cause 2).
+#[tactic(auto, unfolding(rules::specs::Record::part_ok))]
 pub fn part_ok(o: House, m: &[u64]) -> bool
     requires { house_ok o ≡ true }
     ensures { result ≡ part_ok o m.now }
@@ -67,24 +59,19 @@ pub fn part_ok(o: House, m: &[u64]) -> bool
         return false;
     }
     let r = read_record(m);
-    if !part_head_ok(o, r) {
-        return false;
-    }
-    let n = r.count as usize;
-    part_writes_ok(o, r.site, &m[RECORD_HEADER..], n)
+    part_head_ok(o, r) && part_writes_ok(o, r.site, &m[RECORD_HEADER..], r.count as usize)
 }
 
 // The same of a state record.
+#[tactic(auto, unfolding(rules::specs::Record::state_ok))]
 pub fn state_ok(o: House, m: &[u64]) -> bool
     ensures { result ≡ state_ok o m.now }
 {
-    if !shape_ok(m) {
-        return false;
-    }
-    state_head_ok(o, read_record(m))
+    shape_ok(m) && state_head_ok(o, read_record(m))
 }
 
 // The same of a merged record, which may be of any house.
+#[tactic(auto, unfolding(rules::specs::Record::merged_ok))]
 pub fn merged_ok(m: &[u64]) -> bool
     ensures { result ≡ merged_ok m.now }
 {
@@ -92,9 +79,5 @@ pub fn merged_ok(m: &[u64]) -> bool
         return false;
     }
     let r = read_record(m);
-    if !merged_head_ok(r) {
-        return false;
-    }
-    let n = r.count as usize;
-    merged_writes_ok(&m[RECORD_HEADER..], n)
+    merged_head_ok(r) && merged_writes_ok(&m[RECORD_HEADER..], r.count as usize)
 }

@@ -13,17 +13,15 @@ fn write_head(out: &mut [u64], r: RecordHead)
     requires { (sizes.record_header ≤ length out.old) × (r.count ≤ sizes.merged_writes) }
     ensures { out.new ≡ overlay out.old (record_head_words r) }
 {
-    let count = r.count;
-    let offset = write_offset(count);
-    out[word::LENGTH] = RECORD_HEADER as u64 + WRITE as u64 * count;
+    out[word::LENGTH] = RECORD_HEADER as u64 + WRITE as u64 * r.count;
     out[word::KIND] = r.kind;
     out[word::SITE] = r.site;
     out[word::NUMBER] = r.number;
     out[word::COORDINATOR] = r.coordinator;
     out[word::RECORD_TX] = r.tx;
     out[word::RECORD_MASK] = r.mask;
-    out[word::WRITE_COUNT] = count;
-    out[word::WRITE_OFFSET] = offset;
+    out[word::WRITE_COUNT] = r.count;
+    out[word::WRITE_OFFSET] = write_offset(r.count);
 }
 
 // Writes the record, and returns how many words it has.

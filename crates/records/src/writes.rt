@@ -14,14 +14,12 @@ use numbers::{end_key, first_key};
 use values::{fits, value_at};
 
 // Whether the write's key is above that of the one before.
+#[tactic(auto, unfolding(rules::specs::Record::key_ascends))]
 fn key_ascends(ws: &[u64], i: usize) -> bool
     requires { (i < sizes.merged_writes) × (sizes.write * i + sizes.write ≤ length ws.now) }
     ensures { result ≡ key_ascends ws.now i }
 {
-    if i == 0 {
-        return true;
-    }
-    ws[WRITE * (i - 1) + word::WRITE_KEY] < ws[WRITE * i + word::WRITE_KEY]
+    i == 0 || ws[WRITE * (i - 1) + word::WRITE_KEY] < ws[WRITE * i + word::WRITE_KEY]
 }
 
 // Whether the write's value fits (Q12.6).
@@ -29,41 +27,17 @@ fn write_fits(ws: &[u64], i: usize) -> bool
     requires { (i < sizes.merged_writes) × (sizes.write * i + sizes.write ≤ length ws.now) }
     ensures { result ≡ fits_of (write_value ws.now i) }
 {
-    let v = value_at(ws, WRITE * i + word::WRITE_VALUE);
-    fits(v)
+    fits(value_at(ws, WRITE * i + word::WRITE_VALUE))
 }
 
 // Whether the key is above that of the write before, from `first` on and below `end`, and the value fits.
-fn part_write_ok(first: u64, end: u64, ws: &[u64], i: usize) -> bool
+fn write_ok(first: u64, end: u64, ws: &[u64], i: usize) -> bool
     requires { (i < sizes.merged_writes) × (sizes.write * i + sizes.write ≤ length ws.now) }
     ensures { result ≡ every (key_ascends ws.now i ∷ within first end (write_key ws.now i)
         ∷ fits_of (write_value ws.now i) ∷ []) }
 {
-    if !key_ascends(ws, i) {
-        return false;
-    }
     let key = ws[WRITE * i + word::WRITE_KEY];
-    if key < first {
-        return false;
-    }
-    if end <= key {
-        return false;
-    }
-    write_fits(ws, i)
-}
-
-fn merged_write_ok(ws: &[u64], i: usize) -> bool
-    requires { (i < sizes.merged_writes) × (sizes.write * i + sizes.write ≤ length ws.now) }
-    ensures { result ≡ merged_write_ok ws.now i }
-{
-    if !key_ascends(ws, i) {
-        return false;
-    }
-    let key = ws[WRITE * i + word::WRITE_KEY];
-    if KEYS as u64 <= key {
-        return false;
-    }
-    write_fits(ws, i)
+    key_ascends(ws, i) && first <= key && key < end && write_fits(ws, i)
 }
 
 // The keys of a site are those of its range (Q3.1), which is asked for once.
@@ -74,26 +48,13 @@ pub fn part_writes_ok(o: House, site: u64, ws: &[u64], n: usize) -> bool
 {
     let first = first_key(o, site);
     let end = end_key(o, site);
-    let mut i: usize = 0;
-    while i < n {
-        if !part_write_ok(first, end, ws, i) {
-            return false;
-        }
-        i += 1;
-    }
-    true
+    (0..n).all(|i| write_ok(first, end, ws, i))
 }
 
+// At a merged record they are those of any site.
 pub fn merged_writes_ok(ws: &[u64], n: usize) -> bool
     requires { (n ≤ sizes.merged_writes) × (sizes.write * n ≤ length ws.now) }
     ensures { result ≡ all_below (merged_write_ok ws.now) n }
 {
-    let mut i: usize = 0;
-    while i < n {
-        if !merged_write_ok(ws, i) {
-            return false;
-        }
-        i += 1;
-    }
-    true
+    (0..n).all(|i| write_ok(0, KEYS as u64, ws, i))
 }

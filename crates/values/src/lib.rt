@@ -10,16 +10,19 @@ use kinds::sizes::LAST;
 use kinds::{Value, word};
 
 // The value from word `at` on.
+#[tactic(auto, unfolding(rules::specs::Value::value_at))]
 pub fn value_at(ws: &[u64], at: usize) -> Value
     requires { at + sizes.value ≤ length ws.now }
     ensures { result ≡ value_at ws.now at }
 {
-    let start = ws[at + word::VALUE_START];
-    let length = ws[at + word::VALUE_LENGTH];
-    Value { start, length }
+    Value {
+        start: ws[at + word::VALUE_START],
+        length: ws[at + word::VALUE_LENGTH],
+    }
 }
 
 // Puts the value from word `at` on.
+#[tactic(auto, unfolding(rules::specs::Value::put_value))]
 pub fn put_value(ws: &mut [u64], at: usize, v: Value)
     requires { at + sizes.value ≤ length ws.old }
     ensures { ws.new ≡ put_value ws.old at v }
@@ -29,13 +32,9 @@ pub fn put_value(ws: &mut [u64], at: usize, v: Value)
 }
 
 // Whether start plus length is at most the last number: the sum itself could wrap.
+#[tactic(auto, unfolding(rules::specs::Value::fits))]
 pub fn fits(v: Value) -> bool
     ensures { result ≡ fits_of v }
 {
-    let start = v.start;
-    let length = v.length;
-    if LAST - start < length {
-        return false;
-    }
-    true
+    v.length <= LAST - v.start
 }

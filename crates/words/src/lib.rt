@@ -29,26 +29,13 @@ pub fn set_word(b: &mut [u8], i: usize, x: u64)
     put_word(&mut b[BYTES * i..], x);
 }
 
-// Sets every byte to 0.
-pub fn fill_bytes(b: &mut [u8])
-    ensures { b.new ≡ replicate (length b.old) 0 }
-{
-    let mut i: usize = 0;
-    while i < b.len() {
-        b[i] = 0;
-        i += 1;
-    }
-}
-
 // Writes words to as many bytes as they have.
 pub fn write_words(b: &mut [u8], ws: &[u64])
     requires { length b.old ≡ 8 * length ws.now }
     ensures { b.new ≡ bytes_of ws.now }
 {
-    let mut i: usize = 0;
-    while i < ws.len() {
+    for i in 0..ws.len() {
         put_word(&mut b[BYTES * i..], ws[i]);
-        i += 1;
     }
 }
 
@@ -57,10 +44,7 @@ pub fn read_words(ws: &mut [u64], b: &[u8])
     requires { length b.now / 8 ≤ length ws.old }
     ensures { ws.new ≡ overlay ws.old (words_of b.now) }
 {
-    let n = b.len() / BYTES;
-    let mut i: usize = 0;
-    while i < n {
+    for i in 0..b.len() / BYTES {
         ws[i] = word_at(b, i);
-        i += 1;
     }
 }

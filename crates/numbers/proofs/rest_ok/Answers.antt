@@ -1,24 +1,40 @@
-use borrow.Author.Count.{below_more}
-use borrow.Author.Rules.{rules}
-use borrow.Author.Tests.{lt-ltb, le-ltb, eq-eqb, ne_eqb}
-use Rattle.laws.specs.Scan.{not_all_below, all_end}
+-- The places from n on, as the scan of the eight asks them.
+use borrow.Author.Tests.{tests, le-ltb, ltb-false}
+use Rattle.std.proofs.Common.{ℕ, ◌+◌, ◌-◌, ◌<◌, ◌≡◌, Bool, true, false, List, length, drop, eqb, arith, rules, length-drop, ◌∙◌, ltb}
+use Rattle.std.proofs.lemmas.Iterator.{cases_from_all, YieldsList-from_slice}
+use Rattle.std.proofs.lemmas.List.{get_or-drop}
+use Rattle.std.specs.Prelude.{MatchBool}
+use Rattle.std.specs.List.{AllWithin, HoldsAt}
+use Rattle.laws.specs.Choice.{by_test}
+use Rattle.laws.specs.Overlay.{rest_is}
+use Rattle.laws.specs.Scan.{all_below_lem, not_all_below}
+use Rattle.kinds.specs.Sizes as sizes
 use Rattle.rules.specs.House.{rest_ok}
 use Rattle.numbers.proofs.rest_ok.Goals as goal
 
-pub loop-i-init : goal.loop-i-init
-loop-i-init c = (search rules, search rules, λ j h. rw (lt-ltb j c.args.n h))
+abbrev Zero : ℕ → Type 0
+Zero x = eqb x 0 ≡ true
 
-pub returns-then-t-i-ne0 : goal.returns-then-t-i-ne0
+abbrev Other : ℕ → Type 0
+Other x = eqb x 0 ≡ false
+
+of_rest : (r : Bool) (n : ℕ) (t : List ℕ) → length t ≡ sizes.sites
+    → MatchBool r (AllWithin Zero (drop n t) 0 (length (drop n t))) ((k : ℕ) × (k < length (drop n t)) × HoldsAt Other (drop n t) k)
+    → r ≡ rest_ok n t
 unfolding rest_ok
-returns-then-t-i-ne0 c =
-    let l = c.loop-i in
-    not_all_below _ _ l.i c.loop-i-test.true (rw (le-ltb l.i _ l.invariant.0) (ne_eqb _ _ c.if-t-i-ne0.true))
-
-pub loop-i-preserved : goal.loop-i-preserved
-loop-i-preserved c =
-    let l = c.loop-i in
-    (search rules, search rules, below_more _ _ l.invariant.2 (rw (le-ltb l.i _ l.invariant.0) (eq-eqb _ _ c.if-t-i-ne0.false)))
+of_rest true n t e zeros =
+    all_below_lem _ _ (λ k b. by_test (ltb k n)
+    (λ h. rw h)
+    (λ h. let q : n + (k - n) ≡ k = omega (arith, ltb-false k n h) in
+    rw (h, ← q, ← get_or-drop n t (k - n) 0) (zeros (k - n) 0 (omega arith) (omega (arith, length-drop n t, ltb-false k n h)))))
+of_rest false n t e (k, low, other) =
+    let behind = le-ltb (n + k) n (omega arith) in
+    not_all_below _ _ (n + k) (omega (arith, length-drop n t)) (rw (behind, ← get_or-drop n t k 0) (other 0))
 
 pub returns : goal.returns
-unfolding rest_ok
-returns c = all_end _ _ _ c.loop-i-test.false c.loop-i.invariant.2
+returns c =
+    of_rest _ _ _ (search rules)
+    (cases_from_all _ _ _ Zero Other c.all.ensures.ran
+    (YieldsList-from_slice _ (c.iter.ensures.rest ∙ rest_is c.args.t.now c.args.n))
+    (λ x q k. search (rules, tests))
+    (λ x q k. search (rules, tests)))

@@ -29,4 +29,4 @@ unfolding reader_start_of reader_start_code copy_start_of said_of returned_of
 returns c =
     let b = c.args.copy.now in
     let e = c.if-given-ne-COPY_BYTES.false in
-    rw (eq-eqb _ _ e, eq-eqb (length (words_of b)) sizes.copy (words_copy b e), zeros b e) (record { value = refl; copy_after = c.fill_bytes.ensures })
+    rw (eq-eqb _ _ e, eq-eqb (length (words_of b)) sizes.copy (words_copy b e), zeros b e) (record { value = refl; copy_after = c.fill.ensures.after (λ y k. k) })

@@ -1,4 +1,5 @@
 -- The word's bytes are laid where they stand; the rest stays.
+use borrow.Author.Rules.{rules}
 use lib.ListN.{length}
 use native.Mathlib.Omega.{arith}
 use Prim.Native.Nat.{◌*◌, ◌/◌}
@@ -9,9 +10,8 @@ use Rattle.words.proofs.set_word.Goals as goal
 
 pub returns : goal.returns
 returns c =
-    let known = c.slice_known-1 in
     let a = c.args in
     let pre = c.requires in
     let b = a.b.now in
     let p = put_part b c.put_word.new.b (word_bytes a.x) (8 * a.i) c.put_word.ensures in
-    rw p (hold_set (length b / 8) b a.i a.x (λ i. omega (arith, known.given i)) pre.1 pre.0 (omega arith))
+    rw p (hold_set (length b / 8) b a.i a.x (λ i. search rules) pre.1 pre.0 (omega arith))

@@ -12,7 +12,7 @@ use Rattle.words.proofs.write_words.Goals as goal
 
 pub loop-i-init : goal.loop-i-init
 unfolding bytes_of
-loop-i-init c = (search rules, (refl, overlay_none _))
+loop-i-init c = (refl, overlay_none _)
 
 pub put_word-requires : goal.put_word-requires
 put_word-requires c = rw (length_rest c.loop-i.b (8 * c.loop-i.i)) (omega (arith, c.requires))
@@ -24,15 +24,15 @@ loop-i-preserved c =
     let ws = c.args.ws.now in
     let n : length (bytes_of (take l.i ws)) ≡ 8 * l.i = omega (arith, length_bytes (take l.i ws), length-take-le l.i ws (omega arith)) in
     let word = word_bytes (get_or ws l.i 0) in
-    let laid = l.invariant.1.1 in
+    let laid = l.invariant.1 in
     let fits : 8 * l.i + 8 ≤ length b = omega (arith, c.requires) in
     let p = c.put_word in
     let e = behind b (bytes_of (take l.i ws)) word l.b p.new.b (8 * l.i) (sym n) fits laid p.ensures in
-    (omega arith, (search rules, rw (add-one l.i, bytes_more ws l.i (omega arith)) e))
+    (search rules, rw (add-one l.i, bytes_more ws l.i (omega arith)) e)
 
 pub returns : goal.returns
 returns c =
     let ws = c.args.ws.now in
     let e : take c.loop-i.i ws ≡ ws = take_all c.loop-i.i ws (omega arith) in
-    let laid = rw e at c.loop-i.invariant.1.1 in
+    let laid = rw e at c.loop-i.invariant.1 in
     laid ∙ overlay_all c.args.b.now (bytes_of ws) (c.requires ∙ sym (length_bytes ws))

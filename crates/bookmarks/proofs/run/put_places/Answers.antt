@@ -2,7 +2,6 @@ use Prim.Native.Nat.{ℕ, ◌+◌, ◌*◌, ◌/◌, ◌%◌}
 use mathlib.Core.Path.{◌≡◌, refl, ◌∙◌}
 use mathlib.Core.List.{List, [], ◌∷◌, ◌++◌, append-nil}
 use native.Mathlib.Omega.{arith}
-use borrow.Author.Rules.{rules}
 use lib.ListN.{length, take, get_or, length-set, length-append, drop_of_length-le}
 use lib.Seq.{take_all, length-take-le}
 use Rattle.laws.specs.Overlay.{overlay, overlay_none, overlay_more}
@@ -16,7 +15,7 @@ overlay_all d ws e = rw (drop_of_length-le d {i = length ws} (omega arith)) (app
 
 pub loop-i-init : goal.loop-i-init
 unfolding places_of
-loop-i-init c = (search rules, (refl, overlay_none _))
+loop-i-init c = (refl, overlay_none _)
 
 pub bounds-out-i-in-loop-i : goal.bounds-out-i-in-loop-i
 bounds-out-i-in-loop-i c = simp length-set (omega arith)
@@ -34,7 +33,7 @@ loop-i-preserved c =
     let x = overlay_more a.out.now ws (2 * l.i) page n (omega arith) in
     let y = overlay_more a.out.now (ws ++ (page ∷ [])) (2 * l.i + 1) rest m (omega arith) in
     let more = places_more a.size a.offsets.now l.i (omega arith) in
-    (omega arith, (simp length-set l.invariant.1.0, rw (l.invariant.1.1, x, y, ← more) refl))
+    (simp length-set l.invariant.0, rw (l.invariant.1, x, y, ← more) refl)
 
 pub returns : goal.returns
 returns c =
@@ -43,4 +42,4 @@ returns c =
     let e : take l.i a.offsets.now ≡ a.offsets.now = take_all l.i a.offsets.now (omega arith) in
     let ws = places_of a.size a.offsets.now in
     let n = length_places a.size a.offsets.now in
-    rw e at l.invariant.1.1 ∙ overlay_all a.out.now ws (omega (arith, n))
+    rw e at l.invariant.1 ∙ overlay_all a.out.now ws (omega (arith, n))

@@ -1,17 +1,16 @@
-use mathlib.Core.Path.{sym, ◌∙◌}
-use borrow.Author.Count.{below_more}
-use borrow.Author.Rules.{rules}
-use Rattle.laws.specs.Scan.{each_none, not_all_below, all_end}
+-- The test of every entry, as the scan by index.
+use borrow.Author.Tests.{tests}
+use Rattle.std.proofs.Common.{◌≡◌, true, false, rules, arith, refl}
+use Rattle.std.proofs.lemmas.Iterator.{cases_from_all, YieldsList-from_range}
+use Rattle.numbers.proofs.Ranges.{all_in_range}
+use Rattle.rules.specs.Message.{entry_possible}
 use Rattle.messages.proofs.entries.entries_possible.Goals as goal
 
-pub loop-i-init : goal.loop-i-init
-loop-i-init c = (search rules, each_none _)
-
-pub returns-then-not-entry_possible : goal.returns-then-not-entry_possible
-returns-then-not-entry_possible c = not_all_below _ _ _ c.loop-i-test.true (sym c.entry_possible.ensures ∙ c.if-not-entry_possible.true)
-
-pub loop-i-preserved : goal.loop-i-preserved
-loop-i-preserved c = (search rules, below_more _ _ c.loop-i.invariant.1 (sym c.entry_possible.ensures ∙ c.if-not-entry_possible.false))
-
 pub returns : goal.returns
-returns c = all_end _ _ _ c.loop-i-test.false c.loop-i.invariant.1
+returns c =
+    let a = c.args in
+    all_in_range (entry_possible a.o a.es.now) a.n _
+    (cases_from_all _ _ _ (λ i. entry_possible a.o a.es.now i ≡ true) (λ i. entry_possible a.o a.es.now i ≡ false) c.all.ensures.ran
+    (YieldsList-from_range 0 a.n a.n refl (omega arith))
+    (λ x q k. search (rules, tests))
+    (λ x q k. search (rules, tests)))

@@ -1,4 +1,3 @@
-use Prim.Native.Nat.{◌+◌, ◌≤◌}
 use mathlib.Core.List.{◌++◌}
 use mathlib.Core.Path.{◌≡◌, refl, ap, ◌∙◌}
 use native.Mathlib.Omega.{arith}
@@ -14,53 +13,36 @@ pub loop-i-init : goal.loop-i-init
 loop-i-init c =
     let a = c.args in
     let e = messages_none a.h a.sent a.mask a.es.now in
-    (search rules, (refl, (rw e, rw e (overlay_none a.out.now))))
-
-pub offset_bounds-out-at : goal.offset_bounds-out-at
-offset_bounds-out-at c =
-    let room : c.loop-i.at + length (words_to c.args.h c.args.sent c.args.mask c.args.es.now c.loop-i.i) ≤ sizes.outgoing = let a = c.args in let p = c.requires in omega (arith, messages_fit a.h a.sent a.mask a.es.now p.es_len.0 p.es_len.1 c.loop-i.i p.outgoing_in_bounds.1.0 p.outgoing_in_bounds.1.1 c.loop-i-test.true) in
-    omega (arith, room)
-
-pub slice_bounds-write_to-count : goal.slice_bounds-write_to-count
-slice_bounds-write_to-count c =
-    let room : c.loop-i.at + length (words_to c.args.h c.args.sent c.args.mask c.args.es.now c.loop-i.i) ≤ sizes.outgoing = let a = c.args in let p = c.requires in omega (arith, messages_fit a.h a.sent a.mask a.es.now p.es_len.0 p.es_len.1 c.loop-i.i p.outgoing_in_bounds.1.0 p.outgoing_in_bounds.1.1 c.loop-i-test.true) in
-    omega (arith, room)
-
-pub slice_bounds-write_to-start : goal.slice_bounds-write_to-start
-slice_bounds-write_to-start c =
-    let room : c.loop-i.at + length (words_to c.args.h c.args.sent c.args.mask c.args.es.now c.loop-i.i) ≤ sizes.outgoing = let a = c.args in let p = c.requires in omega (arith, messages_fit a.h a.sent a.mask a.es.now p.es_len.0 p.es_len.1 c.loop-i.i p.outgoing_in_bounds.1.0 p.outgoing_in_bounds.1.1 c.loop-i-test.true) in
-    omega (arith, room)
+    record { size = refl; written = rw e; laid = rw e (overlay_none a.out.now) }
 
 pub write_to-at-requires : goal.write_to-at-requires
 write_to-at-requires c =
-    let room : c.loop-i.at + length (words_to c.args.h c.args.sent c.args.mask c.args.es.now c.loop-i.i) ≤ sizes.outgoing = let a = c.args in let p = c.requires in omega (arith, messages_fit a.h a.sent a.mask a.es.now p.es_len.0 p.es_len.1 c.loop-i.i p.outgoing_in_bounds.1.0 p.outgoing_in_bounds.1.1 c.loop-i-test.true) in
+    let a = c.args in
     let l = c.loop-i in
     let p = c.requires in
-    record { i_lt_sites = (search rules, omega (arith, length_rest l.out l.at, room)); counts_low = p.counts_low; es_len = p.es_len }
-
-pub overflow_add-at : goal.overflow_add-at
-overflow_add-at c =
-    let room : c.loop-i.at + length (words_to c.args.h c.args.sent c.args.mask c.args.es.now c.loop-i.i) ≤ sizes.outgoing = let a = c.args in let p = c.requires in omega (arith, messages_fit a.h a.sent a.mask a.es.now p.es_len.0 p.es_len.1 c.loop-i.i p.outgoing_in_bounds.1.0 p.outgoing_in_bounds.1.1 c.loop-i-test.true) in
-    omega (arith, room)
+    let from = p.outgoing_in_bounds.1 in
+    let room = messages_fit a.h a.sent a.mask a.es.now p.es_len.0 p.es_len.1 l.i from.0 from.1 c.loop-i-test.true in
+    record { i_lt_sites = (search rules, omega (arith, length_rest l.out l.at)); counts_low = p.counts_low; es_len = p.es_len }
 
 pub loop-i-preserved : goal.loop-i-preserved
 loop-i-preserved c =
-    let room : c.loop-i.at + length (words_to c.args.h c.args.sent c.args.mask c.args.es.now c.loop-i.i) ≤ sizes.outgoing = let a = c.args in let p = c.requires in omega (arith, messages_fit a.h a.sent a.mask a.es.now p.es_len.0 p.es_len.1 c.loop-i.i p.outgoing_in_bounds.1.0 p.outgoing_in_bounds.1.1 c.loop-i-test.true) in
     let a = c.args in
     let l = c.loop-i in
+    let p = c.requires in
+    let from = p.outgoing_in_bounds.1 in
+    let room = messages_fit a.h a.sent a.mask a.es.now p.es_len.0 p.es_len.1 l.i from.0 from.1 c.loop-i-test.true in
     let k = c.write_to-at in
     let ws = messages_to a.h a.sent a.mask a.es.now l.i in
     let w = words_to a.h a.sent a.mask a.es.now l.i in
     let m = messages_more a.h a.sent a.mask a.es.now l.i in
-    let r = room in
-    let e = behind a.out.now ws w l.out k.new.out l.at l.invariant.1.1.0 (omega arith) l.invariant.1.1.1 k.ensures.1 in
+    let e = behind a.out.now ws w l.out k.new.out l.at l.invariant.written (omega arith) l.invariant.laid k.ensures.1 in
     let n = length-append ws w in
-    (omega arith, (ap length e ∙ length_overlay a.out.now (ws ++ w) (omega arith), (rw m (omega arith), rw m e)))
+    record { size = ap length e ∙ length_overlay a.out.now (ws ++ w) (omega arith); written = rw m (omega arith); laid = rw m e }
 
 pub shape_of-out : goal.shape_of-out
-shape_of-out c = c.loop-i.invariant.1.0
+shape_of-out c = c.loop-i.invariant.size
 
 pub returns : goal.returns
 returns c =
     let e : c.loop-i.i ≡ sizes.sites = omega arith in
-    rw (← e) c.loop-i.invariant.1.1
+    rw (← e) (c.loop-i.invariant.written, c.loop-i.invariant.laid)

@@ -1,25 +1,22 @@
-use mathlib.Core.Path.{sym, ◌∙◌}
-use borrow.Author.Count.{below_more}
-use borrow.Author.Rules.{rules}
-use Rattle.laws.specs.Scan.{each_none, not_all_below, all_end}
-use Rattle.rules.specs.Send.{counts_low}
-use Rattle.messages.proofs.send.counts_low.Invariants.{low}
+-- The test of every site, as the scan by index.
+use borrow.Author.Tests.{tests}
+use Rattle.std.proofs.Common.{ℕ, ◌≡◌, Bool, true, false, List, get_or, ltb, rules, refl}
+use Rattle.std.proofs.lemmas.Iterator.{cases_from_all, YieldsList-from_range}
+use Rattle.numbers.proofs.Ranges.{all_in_range}
+use Rattle.laws.specs.Choice.{pick}
+use Rattle.kinds.specs.Sizes as sizes
+use Rattle.rules.specs.Send.{is_recipient, counts_low}
 use Rattle.messages.proofs.send.counts_low.Goals as goal
 
-pub loop-i-init : goal.loop-i-init
-loop-i-init c = (search rules, each_none _)
-
-pub returns-then-not-count_low : goal.returns-then-not-count_low
-unfolding counts_low
-returns-then-not-count_low c =
-    let a = c.args in
-    not_all_below (low a.sent a.mask a.sender) _ _ c.loop-i-test.true (sym c.count_low.ensures ∙ c.if-not-count_low.true)
-
-pub loop-i-preserved : goal.loop-i-preserved
-loop-i-preserved c = (search rules, below_more _ _ c.loop-i.invariant.1 (sym c.count_low.ensures ∙ c.if-not-count_low.false))
+abbrev low : List ℕ → ℕ → ℕ → ℕ → Bool
+low sent mask sender i = pick (is_recipient mask sender i) (ltb (get_or sent i 0) sizes.last) true
 
 pub returns : goal.returns
 unfolding counts_low
 returns c =
     let a = c.args in
-    all_end (low a.sent a.mask a.sender) _ _ c.loop-i-test.false c.loop-i.invariant.1
+    all_in_range (low a.sent a.mask a.sender) sizes.sites _
+    (cases_from_all _ _ _ (λ i. low a.sent a.mask a.sender i ≡ true) (λ i. low a.sent a.mask a.sender i ≡ false) c.all.ensures.ran
+    (YieldsList-from_range 0 sizes.sites sizes.sites refl refl)
+    (λ x q k. search (rules, tests))
+    (λ x q k. search (rules, tests)))

@@ -12,4 +12,5 @@ returns c =
     let a = c.args in
     let w = c.write_head in
     let k = c.copy_words in
-    (omega arith, behind a.out.now (head_words a.h) a.es.now w.new.out k.new.out sizes.message_header refl (omega arith) w.ensures k.ensures)
+    let laid = behind a.out.now (head_words a.h) a.es.now w.new.out k.new.out sizes.message_header refl (omega arith) w.ensures k.ensures in
+    (omega arith, laid)

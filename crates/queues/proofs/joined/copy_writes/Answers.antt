@@ -16,48 +16,33 @@ returns-then-not-in_mask c =
     let e = sym c.in_mask.ensures ∙ c.if-not-in_mask.true in
     record { value = rw e refl; out_after = rw e (overlay_none _) }
 
-pub queued_part-m-requires : goal.queued_part-m-requires
-queued_part-m-requires c =
-    let in-mask = c.in_mask in
-    let pre = c.requires in
-    let p = part_fits _ _ _ pre.head_fits (sym in-mask.ensures ∙ c.if-not-in_mask.false) in
+pub queued_part-requires : goal.queued_part-requires
+queued_part-requires c =
+    let p = part_fits _ _ _ c.requires.head_fits (sym c.in_mask.ensures ∙ c.if-not-in_mask.false) in
     record { queues_len = search rules; i_lt_sites = search rules; length_bound = p.short }
 
 pub slice_bounds-ws-count : goal.slice_bounds-ws-count
 slice_bounds-ws-count c =
-    let if1 = c.if-not-in_mask in
-    let in-mask = c.in_mask in
-    let pre = c.requires in
-    let p = part_fits _ _ _ pre.head_fits (sym in-mask.ensures ∙ if1.false) in
-    omega (arith, ap length c.queued_part-m.ensures)
+    let p = part_fits _ _ _ c.requires.head_fits (sym c.in_mask.ensures ∙ c.if-not-in_mask.false) in
+    omega (arith, ap length c.queued_part.ensures)
 
 pub slice_bounds-ws-start : goal.slice_bounds-ws-start
 slice_bounds-ws-start c =
-    let if1 = c.if-not-in_mask in
-    let in-mask = c.in_mask in
-    let pre = c.requires in
-    let p = part_fits _ _ _ pre.head_fits (sym in-mask.ensures ∙ if1.false) in
-    omega (arith, ap length c.queued_part-m.ensures)
+    let p = part_fits _ _ _ c.requires.head_fits (sym c.in_mask.ensures ∙ c.if-not-in_mask.false) in
+    omega (arith, ap length c.queued_part.ensures)
 
 pub copy_words-requires : goal.copy_words-requires
 unfolding record_writes
 copy_words-requires c =
-    let queued-part = c.queued_part-m in
-    let if1 = c.if-not-in_mask in
-    let in-mask = c.in_mask in
-    let pre = c.requires in
-    let args = c.args in
-    let p = part_fits _ _ _ pre.head_fits (sym in-mask.ensures ∙ if1.false) in
-    let m = queued-part.result.now in
-    omega (arith, ap length queued-part.ensures, length_rest m sizes.record_header, length-drop sizes.record_header m, length-drop sizes.record_header (queued_part args.queues.now args.i 0))
+    let p = part_fits _ _ _ c.requires.head_fits (sym c.in_mask.ensures ∙ c.if-not-in_mask.false) in
+    let q = c.queued_part in
+    let m = q.result.now in
+    let h = sizes.record_header in
+    let behind = length-drop h (queued_part c.args.queues.now c.args.i 0) in
+    omega (arith, ap length q.ensures, length_rest m h, length-drop h m, behind)
 
 pub returns : goal.returns
 unfolding part_writes record_writes
 returns c =
-    let copy-words = c.copy_words in
-    let queued-part = c.queued_part-m in
-    let if1 = c.if-not-in_mask in
-    let in-mask = c.in_mask in
-    let e = sym in-mask.ensures ∙ if1.false in
-    let m = queued-part.result.now in
-    rw (e, ← queued-part.ensures) (record { value = rw rest_is refl; out_after = rw rest_is at copy-words.ensures })
+    let e = sym c.in_mask.ensures ∙ c.if-not-in_mask.false in
+    rw (e, ← c.queued_part.ensures) (record { value = rw rest_is refl; out_after = rw rest_is at c.copy_words.ensures })

@@ -8,19 +8,22 @@ use Rattle.queues.proofs.pop.pop_queues.Goals as goal
 
 pub loop-i-init : goal.loop-i-init
 unfolding pop_queues fold_below
-loop-i-init c = (search rules, (refl, refl))
+loop-i-init c = record { size = refl; popped = refl }
 
 pub loop-i-preserved : goal.loop-i-preserved
 loop-i-preserved c =
-    let pop-queue = c.pop_queue in
-    let args = c.args in
+    let a = c.args in
     let l = c.loop-i in
-    (search rules, (search rules, pop-queue.ensures ∙ ap (pop_queue_at args.mask l.i) l.invariant.1.1 ∙ sym (pops_more args.queues.now args.mask l.i)))
+    let more = sym (pops_more a.queues.now a.mask l.i) in
+    record {
+      size = search rules;
+      popped = c.pop_queue.ensures ∙ ap (pop_queue_at a.mask l.i) l.invariant.popped ∙ more;
+    }
 
 pub shape_of-queues : goal.shape_of-queues
-shape_of-queues c = c.loop-i.invariant.1.0
+shape_of-queues c = c.loop-i.invariant.size
 
 pub returns : goal.returns
 returns c =
     let e : c.loop-i.i ≡ c.args.n = omega arith in
-    rw (← e) c.loop-i.invariant.1.1
+    rw (← e) c.loop-i.invariant.popped

@@ -1,20 +1,17 @@
-use borrow.Author.Count.{below_more}
-use borrow.Author.Rules.{rules}
-use mathlib.Core.Path.{◌∙◌, sym}
-use Rattle.laws.specs.Scan.{all_end, each_none, not_all_below}
+-- The test of every place, as the scan by index.
+use borrow.Author.Tests.{tests}
+use Rattle.std.proofs.Common.{◌≡◌, true, false, arith, rules, refl}
+use Rattle.std.proofs.lemmas.Iterator.{cases_from_all, YieldsList-from_range}
+use Rattle.numbers.proofs.Ranges.{all_in_range}
+use Rattle.rules.specs.Merger.{queued_ok}
 use Rattle.queues.proofs.possible.places_ok.Goals as goal
 
-pub loop-j-init : goal.loop-j-init
-loop-j-init c = (search rules, each_none _)
-
-pub returns-then-not-queued_ok : goal.returns-then-not-queued_ok
-returns-then-not-queued_ok c = not_all_below _ _ _ c.loop-j-test.true (sym c.queued_ok.ensures ∙ c.if-not-queued_ok.true)
-
-pub loop-j-preserved : goal.loop-j-preserved
-loop-j-preserved c =
-    let queued-ok = c.queued_ok in
-    let loop = c.loop-j in
-    (search rules, below_more _ _ loop.invariant.1 (sym queued-ok.ensures ∙ c.if-not-queued_ok.false))
-
 pub returns : goal.returns
-returns c = all_end _ _ _ c.loop-j-test.false c.loop-j.invariant.1
+returns c =
+    let a = c.args in
+    let test = queued_ok a.o a.queues.now a.i in
+    all_in_range test a.n _
+    (cases_from_all _ _ _ (λ j. test j ≡ true) (λ j. test j ≡ false) c.all.ensures.ran
+    (YieldsList-from_range 0 a.n a.n refl (omega arith))
+    (λ x q k. search (rules, tests))
+    (λ x q k. search (rules, tests)))

@@ -1,20 +1,18 @@
-use borrow.Author.Count.{below_more}
-use borrow.Author.Rules.{rules}
-use mathlib.Core.Path.{◌∙◌, sym}
-use Rattle.laws.specs.Scan.{all_end, each_none, not_all_below}
+-- The test of every site, as the scan by index.
+use borrow.Author.Tests.{tests}
+use Rattle.std.proofs.Common.{ℕ, ◌≡◌, Bool, true, false, rules, refl}
+use Rattle.std.proofs.lemmas.Iterator.{cases_from_all, YieldsList-from_range}
+use Rattle.numbers.proofs.Ranges.{all_in_range}
+use Rattle.kinds.specs.Sizes as sizes
+use Rattle.rules.specs.Merger.{source_at, source_ok}
 use Rattle.queues.proofs.possible.sources_ok.Goals as goal
 
-pub loop-i-init : goal.loop-i-init
-loop-i-init c = (search rules, each_none _)
-
-pub returns-then-not-source_ok : goal.returns-then-not-source_ok
-returns-then-not-source_ok c = not_all_below _ _ _ c.loop-i-test.true (sym c.source_ok.ensures ∙ c.if-not-source_ok.true)
-
-pub loop-i-preserved : goal.loop-i-preserved
-loop-i-preserved c =
-    let source_ok = c.source_ok in
-    let loop = c.loop-i in
-    (search rules, below_more _ _ loop.invariant.1 (sym source_ok.ensures ∙ c.if-not-source_ok.false))
-
 pub returns : goal.returns
-returns c = all_end _ _ _ c.loop-i-test.false c.loop-i.invariant.1
+returns c =
+    let a = c.args in
+    let test : ℕ → Bool = λ i. source_ok a.g.house a.queues.now (source_at a.g i) i in
+    all_in_range test sizes.sites _
+    (cases_from_all _ _ _ (λ i. test i ≡ true) (λ i. test i ≡ false) c.all.ensures.ran
+    (YieldsList-from_range 0 sizes.sites sizes.sites refl refl)
+    (λ x q k. search (rules, tests))
+    (λ x q k. search (rules, tests)))

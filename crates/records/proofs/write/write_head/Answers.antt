@@ -1,35 +1,10 @@
 -- Nine stores from word 0 on lay nine words over the slice.
 use native.Mathlib.Omega.{arith}
-use lib.ListN.{length-set}
 use Rattle.laws.specs.Overlay.{overlay_sets}
 use Rattle.rules.specs.Record.{record_head_words}
 use Rattle.records.proofs.write.write_head.Goals as goal
 
-pub bounds-out-1 : goal.bounds-out-1
-bounds-out-1 c = simp length-set (omega arith)
-
-pub bounds-out-2 : goal.bounds-out-2
-bounds-out-2 c = simp length-set (omega arith)
-
-pub bounds-out-3 : goal.bounds-out-3
-bounds-out-3 c = simp length-set (omega arith)
-
-pub bounds-out-4 : goal.bounds-out-4
-bounds-out-4 c = simp length-set (omega arith)
-
-pub bounds-out-5 : goal.bounds-out-5
-bounds-out-5 c = simp length-set (omega arith)
-
-pub bounds-out-6 : goal.bounds-out-6
-bounds-out-6 c = simp length-set (omega arith)
-
-pub bounds-out-7 : goal.bounds-out-7
-bounds-out-7 c = simp length-set (omega arith)
-
-pub bounds-out-8 : goal.bounds-out-8
-bounds-out-8 c = simp length-set (omega arith)
-
 pub returns : goal.returns
 returns c =
     let a = c.args in
-    rw c.write_offset-offset.ensures (overlay_sets a.out.now (record_head_words a.r) (omega arith))
+    rw c.write_offset.ensures (overlay_sets a.out.now (record_head_words a.r) (omega arith))

@@ -12,4 +12,5 @@ returns c =
     let a = c.args in
     let w = c.write_head in
     let k = c.copy_words in
-    (omega arith, behind a.out.now (record_head_words a.r) a.ws.now w.new.out k.new.out sizes.record_header refl (omega arith) w.ensures k.ensures)
+    let h = record_head_words a.r in
+    (omega arith, behind a.out.now h a.ws.now w.new.out k.new.out sizes.record_header refl (omega arith) w.ensures k.ensures)

@@ -1,17 +1,17 @@
-use mathlib.Core.Path.{sym, ◌∙◌}
-use borrow.Author.Count.{below_more}
-use borrow.Author.Rules.{rules}
-use Rattle.laws.specs.Scan.{each_none, not_all_below, all_end}
+-- The test of every write, as the scan by index.
+use borrow.Author.Tests.{tests}
+use Rattle.std.proofs.Common.{◌≡◌, true, false, arith, rules, refl}
+use Rattle.std.proofs.lemmas.Iterator.{cases_from_all, YieldsList-from_range}
+use Rattle.numbers.proofs.Ranges.{all_in_range}
+use Rattle.rules.specs.Record.{merged_write_ok}
 use Rattle.records.proofs.writes.merged_writes_ok.Goals as goal
 
-pub loop-i-init : goal.loop-i-init
-loop-i-init c = (search rules, each_none _)
-
-pub returns-then-not-merged_write_ok : goal.returns-then-not-merged_write_ok
-returns-then-not-merged_write_ok c = not_all_below _ _ _ c.loop-i-test.true (sym c.merged_write_ok.ensures ∙ c.if-not-merged_write_ok.true)
-
-pub loop-i-preserved : goal.loop-i-preserved
-loop-i-preserved c = (search rules, below_more _ _ c.loop-i.invariant.1 (sym c.merged_write_ok.ensures ∙ c.if-not-merged_write_ok.false))
-
 pub returns : goal.returns
-returns c = all_end _ _ _ c.loop-i-test.false c.loop-i.invariant.1
+unfolding merged_write_ok
+returns c =
+    let a = c.args in
+    all_in_range (merged_write_ok a.ws.now) a.n _
+    (cases_from_all _ _ _ (λ i. merged_write_ok a.ws.now i ≡ true) (λ i. merged_write_ok a.ws.now i ≡ false) c.all.ensures.ran
+    (YieldsList-from_range 0 a.n a.n refl (omega arith))
+    (λ x q k. search (rules, tests))
+    (λ x q k. search (rules, tests)))

@@ -1,51 +1,39 @@
-use Prim.Native.Nat.{ℕ}
-use mathlib.Core.Path.{◌≡◌, sym, ◌∙◌}
-use mathlib.Core.List.{List}
-use borrow.Author.Count.{below_more}
-use borrow.Author.Rules.{rules}
-use native.Mathlib.Omega.{arith}
-use Rattle.laws.specs.Scan.{each_none, not_all_below, all_end}
+-- The test of every write, as the scan by index; a write is asked by the range what the rule asks by the table.
+use borrow.Author.Tests.{tests}
+use Rattle.std.proofs.Common.{ℕ, ◌≡◌, ◌∙◌, zero, suc, List, [], ◌∷◌, Bool, true, false, arith, rules, refl}
+use Rattle.std.proofs.lemmas.Iterator.{cases_from_all, YieldsList-from_range}
+use Rattle.numbers.proofs.Ranges.{all_in_range}
+use Rattle.laws.specs.Choice.{every}
+use Rattle.laws.specs.Scan.{all_below}
 use Rattle.kinds.specs.declared.House.{House}
-use Rattle.rules.specs.House.{first_key, end_key, in_range}
+use Rattle.rules.specs.House.{first_key, end_key, in_range, within}
+use Rattle.rules.specs.Value.{fits}
 use Rattle.rules.specs.ValidLaws.{ValidHouse}
-use Rattle.rules.specs.Record.{write_key, part_write_ok}
-use Rattle.records.proofs.writes.part_writes_ok.Invariants.{writeIn}
+use Rattle.rules.specs.Record.{write_key, write_value, key_ascends, part_write_ok}
 use Rattle.records.proofs.writes.part_writes_ok.Goals as goal
 
--- a write is asked by the range what the rule asks by the table
+abbrev write_in : ℕ → ℕ → List ℕ → ℕ → Bool
+write_in first end ws i = every (key_ascends ws i ∷ within first end (write_key ws i) ∷ fits (write_value ws i) ∷ [])
+
 same_write : (o : House) (site first end : ℕ) (ws : List ℕ) (i : ℕ) → first ≡ first_key o site → end ≡ end_key o site → ValidHouse o site
-    → part_write_ok o site ws i ≡ writeIn first end ws i
+    → write_in first end ws i ≡ part_write_ok o site ws i
 unfolding part_write_ok in_range
 same_write o site first end ws i a b v = rw (a, b, v.range (write_key ws i))
 
-pub first_key-first-requires : goal.first_key-first-requires
-first_key-first-requires c =
-    let v = c.requires.valid_house in
-    omega (arith, v.own_low, v.own_high, v.few_sites)
-
-pub end_key-end-requires : goal.end_key-end-requires
-end_key-end-requires c =
-    let v = c.requires.valid_house in
-    v.few_sites
-
-pub loop-i-init : goal.loop-i-init
-loop-i-init c = (search rules, each_none _)
-
-pub returns-then-not-part_write_ok : goal.returns-then-not-part_write_ok
-returns-then-not-part_write_ok c =
-    let Same : ℕ → Type 0 = λ i. let a = c.args in part_write_ok a.o a.site a.ws.now i ≡ writeIn c.first_key-first.result c.end_key-end.result a.ws.now i in
-    let by-range : (i : ℕ) → Same i = λ i. same_write _ _ _ _ _ i c.first_key-first.ensures c.end_key-end.ensures c.requires.valid_house in
-    let write = c.part_write_ok in
-    not_all_below _ _ _ c.loop-i-test.true (by-range _ ∙ sym write.ensures ∙ c.if-not-part_write_ok.true)
-
-pub loop-i-preserved : goal.loop-i-preserved
-loop-i-preserved c =
-    let loop = c.loop-i in
-    let write = c.part_write_ok in
-    (search rules, below_more _ _ loop.invariant.1 (sym write.ensures ∙ c.if-not-part_write_ok.false))
+all_same : (t u : ℕ → Bool) (n : ℕ) → ((i : ℕ) → t i ≡ u i) → all_below t n ≡ all_below u n
+unfolding all_below
+all_same t u zero e = refl
+all_same t u (suc n) e = rw (e n, all_same t u n e)
 
 pub returns : goal.returns
 returns c =
-    let Same : ℕ → Type 0 = λ i. let a = c.args in part_write_ok a.o a.site a.ws.now i ≡ writeIn c.first_key-first.result c.end_key-end.result a.ws.now i in
-    let by-range : (i : ℕ) → Same i = λ i. same_write _ _ _ _ _ i c.first_key-first.ensures c.end_key-end.ensures c.requires.valid_house in
-    all_end _ _ _ c.loop-i-test.false (λ j h. by-range j ∙ c.loop-i.invariant.1 j h)
+    let a = c.args in
+    let first = c.first_key-first in
+    let end = c.end_key-end in
+    let test = write_in first.result end.result a.ws.now in
+    all_in_range test a.n _
+    (cases_from_all _ _ _ (λ i. test i ≡ true) (λ i. test i ≡ false) c.all.ensures.ran
+    (YieldsList-from_range 0 a.n a.n refl (omega arith))
+    (λ x q k. search (rules, tests))
+    (λ x q k. search (rules, tests)))
+    ∙ all_same _ _ a.n (λ i. same_write a.o a.site _ _ a.ws.now i first.ensures end.ensures c.requires.valid_house)
