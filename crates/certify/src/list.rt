@@ -5,7 +5,7 @@ ghost use Rattle.kinds.specs.Sizes as sizes;
 ghost use Rattle.kinds.specs.Word as word;
 ghost use Rattle.rules.specs.Message.{entry_count};
 ghost use Rattle.rules.specs.History.{remembered as rememberedOf};
-ghost use Rattle.rules.specs.Certify.{mark_of, concurrent_words, prepared_words, installed_words};
+ghost use Rattle.rules.specs.Certify.{concurrent_words, prepared_words, installed_words};
 ghost use Rattle.rules.specs.Certify.{prepared_list, installed_list, concurrent as concurrentOf};
 ghost use Rattle.lent.specs.Layout.{sub_from, entry_from, live_of, history_of};
 ghost use Rattle.lent.specs.Lent.{site_of};
@@ -20,21 +20,12 @@ use tables::{keys_at, part_at};
 // Places for every candidate.
 const CANDIDATES: usize = ENTRY * (LIVE + HISTORY);
 
-fn mark_of(dependent: bool) -> u64
-    ensures { result ≡ mark_of dependent }
-{
-    if dependent {
-        return 1;
-    }
-    0
-}
-
 // An entry, marked where the two are dependent here.
 fn write_concurrent(out: &mut [u64], own: Keys, tx: u64, mask: u64, other: Keys)
     requires { Compared out.old own other }
     ensures { out.new ≡ overlay out.old (concurrent_words own tx mask other) }
 {
-    let mark = mark_of(keys::dependent(own, other));
+    let mark = u64::from(keys::dependent(own, other));
     write_entry(out, tx, Listed { mask, mark });
 }
 
@@ -52,18 +43,16 @@ fn write_prepared(
     ensures fact { let b = sub_from a live.now (sizes.place * i) in
         Entered out.old (prepared_words place own i b) result out.new }
 {
-    let stage = a.stage;
-    let tx = a.tx;
     if i == place {
         return 0;
     }
-    if !live::is_prepared(stage) {
+    if !live::is_prepared(a.stage) {
         return 0;
     }
     let at = PLACE * i;
     let mask = live[at + PLACE_MASK];
     let keys = keys_at(live, at + PLACE_KEYS);
-    write_concurrent(out, own, tx, mask, keys);
+    write_concurrent(out, own, a.tx, mask, keys);
     1
 }
 
@@ -75,13 +64,9 @@ fn prepared_list(out: &mut [u64], seats: [Seat; LIVE], live: &[u64], place: usiz
 {
     let own = keys_at(live, PLACE * place + PLACE_KEYS);
     let mut n: usize = 0;
-    let mut i: usize = 0;
-    while i < LIVE {
-        let a = seats[i];
+    for i in 0..LIVE {
         let at = ENTRY * n;
-        let more = write_prepared(&mut out[at..], live, place, own, i, a);
-        n = n + more;
-        i = i + 1;
+        n += write_prepared(&mut out[at..], live, place, own, i, seats[i]);
     }
     n
 }
@@ -107,12 +92,10 @@ fn installed_list(out: &mut [u64], history: &[u64], installs: u64, own: Keys, se
         out.new ≡ overlay out.old (installed_list past installs own seen result) }
 {
     let n = history::remembered(installs) - seen;
-    let mut i: usize = 0;
-    while i < n {
+    for i in 0..n {
         let slot = history::recall_slot(installs, seen + i);
         let at = ENTRY * i;
         write_installed(&mut out[at..], history, own, slot);
-        i = i + 1;
     }
     n
 }

@@ -20,14 +20,7 @@ pub fn is_among(txs: &[u64], n: usize, tx: u64) -> bool
     requires { n ≤ length txs.now }
     ensures { result ≡ among txs.now n tx }
 {
-    let mut i: usize = 0;
-    while i < n {
-        if txs[i] == tx {
-            return true;
-        }
-        i = i + 1;
-    }
-    false
+    txs[..n].contains(&tx)
 }
 
 // Puts the transaction of a seat behind the first `n`, and returns how many there are then.
@@ -36,8 +29,7 @@ fn with_held(txs: &mut [u64], n: usize, a: Seat) -> usize
     ensures upper_bound { result ≤ n + 1 }
     ensures by_index { (tx : ℕ) → among txs.new result tx ≡ pick (is_seat_of a tx) true (among txs.old n tx) }
 {
-    let stage = a.stage;
-    if stage == FREE {
+    if a.stage == FREE {
         return n;
     }
     txs[n] = a.tx;
@@ -51,11 +43,8 @@ fn held_txs(txs: &mut [u64], seats: [Seat; LIVE]) -> usize
     ensures by_index { (tx : ℕ) → among txs.new result tx ≡ any_below (λ i. is_seat_of (seat_at seats i) tx) sizes.live }
 {
     let mut n: usize = 0;
-    let mut i: usize = 0;
-    while i < LIVE {
-        let a = seats[i];
-        n = with_held(txs, n, a);
-        i = i + 1;
+    for a in &seats {
+        n = with_held(txs, n, *a);
     }
     n
 }
@@ -68,11 +57,9 @@ fn remembered_txs(txs: &mut [u64], n: usize, history: &[u64], installs: u64) -> 
         among txs.new result tx ≡ pick (among txs.old n tx) true past) }
 {
     let m = history::remembered(installs);
-    let mut i: usize = 0;
-    while i < m {
+    for i in 0..m {
         let slot = history::recall_slot(installs, i);
         txs[n + i] = history[SLOT * slot + SLOT_TX];
-        i = i + 1;
     }
     n + m
 }

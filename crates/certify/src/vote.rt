@@ -22,16 +22,16 @@ use kinds::word::{
 use kinds::{Core, Snapshot};
 use tables::keys_at;
 
+// The mark of an entry whose two transactions are dependent at the site that lists it.
+const MARKED: u64 = 1;
+
 // Marked, or dependent here: the keys from word `own` of the live words on, and from word `other` of the history on.
 fn is_conflict(mark: u64, live: &[u64], own: usize, history: &[u64], other: usize) -> bool
     requires { KeysIn live.now own × KeysIn history.now other }
     ensures { let deps = dependent (keys_from live.now own) (keys_from history.now other) in
         result ≡ some (eqb mark 1 ∷ deps ∷ []) }
 {
-    if mark == 1 {
-        return true;
-    }
-    keys::dependent(keys_at(live, own), keys_at(history, other))
+    mark == MARKED || keys::dependent(keys_at(live, own), keys_at(history, other))
 }
 
 // Whether an entry of the list is for the install in the slot, and is marked or dependent here.
@@ -51,15 +51,11 @@ fn conflicts_with(
     let to = SLOT * slot;
     let tx = history[to + SLOT_TX];
     let other = to + SLOT_KEYS;
-    let mut i: usize = 0;
-    while i < n {
+    for i in 0..n {
         let at = ENTRY * i;
-        if es[at + ENTRY_TX] == tx {
-            if is_conflict(es[at + ENTRY_MARK], live, own, history, other) {
-                return true;
-            }
+        if es[at + ENTRY_TX] == tx && is_conflict(es[at + ENTRY_MARK], live, own, history, other) {
+            return true;
         }
-        i = i + 1;
     }
     false
 }
@@ -80,13 +76,11 @@ fn any_conflict(
         result ≡ any_below (λ k. any_conflicts keys es.now n (past k)) (withinOf installs p) }
 {
     let seen = history::within(installs, p);
-    let mut k: usize = 0;
-    while k < seen {
+    for k in 0..seen {
         let slot = history::recall_slot(installs, k);
         if conflicts_with(es, n, live, own, history, slot) {
             return true;
         }
-        k = k + 1;
     }
     false
 }
@@ -97,10 +91,7 @@ fn is_unrecorded(txs: &[u64], m: usize, own: u64, tx: u64, mask: u64) -> bool
     requires le_own { (1 ≤ own) × (own ≤ sizes.sites) }
     ensures { result ≡ unrecorded txs.now m own tx mask }
 {
-    if !numbers::in_mask(mask, own) {
-        return false;
-    }
-    !is_among(txs, m, tx)
+    numbers::in_mask(mask, own) && !is_among(txs, m, tx)
 }
 
 // Whether an entry of the list names this site, and is not among the first m of those on record.
@@ -109,20 +100,19 @@ fn any_unrecorded(es: &[u64], n: usize, txs: &[u64], m: usize, own: u64) -> bool
     ensures { let list = es.now in
         result ≡ any_below (λ i. unrecorded txs.now m own (entry_tx list i) (entry_mask list i)) n }
 {
-    let mut i: usize = 0;
-    while i < n {
+    for i in 0..n {
         let at = ENTRY * i;
         let tx = es[at + ENTRY_TX];
         let mask = es[at + ENTRY_MASK];
         if is_unrecorded(txs, m, own, tx, mask) {
             return true;
         }
-        i = i + 1;
     }
     false
 }
 
 // The vote of the part at `place` on n entries: 0 is yes.
+// Stays: the rules' `vote_of` is a number, and the contracts of `course` and of the calls name it.
 pub fn vote_of(p: Core, live: &[u64], history: &[u64], place: usize, es: &[u64], n: usize) -> u64
     requires { Voting (site_of p live.now history.now) place es.now n }
     ensures { result ≡ vote_of (site_of p live.now history.now) place es.now n }

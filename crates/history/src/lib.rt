@@ -19,20 +19,14 @@ use values::{put_value, value_at};
 pub fn remembered(installs: u64) -> usize
     ensures { result ≡ rememberedOf installs }
 {
-    if installs < HISTORY as u64 {
-        return installs as usize;
-    }
-    HISTORY
+    installs.min(HISTORY as u64) as usize
 }
 
 // How many installs are forgotten.
 pub fn forgotten(installs: u64) -> u64
     ensures { result ≡ forgottenOf installs }
 {
-    if installs < HISTORY as u64 {
-        return 0;
-    }
-    installs - HISTORY as u64
+    installs.saturating_sub(HISTORY as u64)
 }
 
 // The slot of the `i`-th remembered install, oldest first.
@@ -48,23 +42,15 @@ pub fn recall_slot(installs: u64, i: usize) -> usize
 pub fn is_forgotten(installs: u64, p: Snapshot) -> bool
     ensures { result ≡ is_forgotten installs p }
 {
-    let seen = p.installs;
-    seen < forgotten(installs)
+    p.installs < forgotten(installs)
 }
 
 // How many remembered installs are within the snapshot.
 pub fn within(installs: u64, p: Snapshot) -> usize
     ensures { result ≡ withinOf installs p }
 {
-    let seen = p.installs;
-    let gone = forgotten(installs);
-    if installs <= seen {
-        return remembered(installs);
-    }
-    if seen < gone {
-        return 0;
-    }
-    (seen - gone) as usize
+    let seen = p.installs.min(installs);
+    seen.saturating_sub(forgotten(installs)) as usize
 }
 
 // The version of `k` that the snapshot sees, and how many entries were looked at: from the newest within the snapshot backwards, to the
@@ -75,22 +61,20 @@ pub fn search(h: &[u64], installs: u64, base: &[u64], p: Snapshot, k: Key) -> Se
     ensures { result ≡ search_in (history_of h.now) installs base.now p k }
 {
     let visible = within(installs, p);
-    let mut left = visible;
-    let mut looked: u64 = 0;
-    while left > 0 {
-        let slot = recall_slot(installs, left - 1);
+    for looked in 0..visible {
+        let slot = recall_slot(installs, visible - 1 - looked);
         let at = SLOT * slot + SLOT_KEYS;
         if wrote_key_in(h, at, k) {
-            let value = wrote_value_in(h, at, k);
-            let hit = looked + 1;
-            return Search { value, looked: hit };
+            return Search {
+                value: wrote_value_in(h, at, k),
+                looked: looked as u64 + 1,
+            };
         }
-        left -= 1;
-        looked += 1;
     }
-    let at = VALUE * k as usize;
-    let value = value_at(base, at);
-    Search { value, looked }
+    Search {
+        value: value_at(base, VALUE * k as usize),
+        looked: visible as u64,
+    }
 }
 
 // Whether a remembered install after the snapshot wrote `k`.
@@ -98,14 +82,11 @@ pub fn is_newer(h: &[u64], installs: u64, p: Snapshot, k: Key) -> bool
     requires { Slots h.now }
     ensures { result ≡ is_newer (history_of h.now) installs p k }
 {
-    let n = remembered(installs);
-    let mut i = within(installs, p);
-    while i < n {
+    for i in within(installs, p)..remembered(installs) {
         let slot = recall_slot(installs, i);
         if wrote_key_in(h, SLOT * slot + SLOT_KEYS, k) {
             return true;
         }
-        i += 1;
     }
     false
 }
@@ -116,12 +97,7 @@ pub fn forget_into(base: &mut [u64], b: Keys)
     requires wrote_le_writes { (b.wrote ≤ sizes.writes) × ((i : ℕ) → i < b.wrote → get_or b.writes i 0 < sizes.keys) }
     ensures { base.new ≡ forget_into base.old b }
 {
-    let n = b.wrote;
-    let mut i: usize = 0;
-    while i < n {
-        let key = b.writes[i];
-        let value = b.values[i];
-        put_value(base, VALUE * key as usize, value);
-        i += 1;
+    for i in 0..b.wrote {
+        put_value(base, VALUE * b.writes[i] as usize, b.values[i]);
     }
 }

@@ -6,46 +6,37 @@
 pub mod order;
 mod words;
 
-ghost use Rattle.std.specs.Prelude.{◌≡◌, ◌<◌, ◌≤◌, true, false, length};
+ghost use Rattle.std.specs.Prelude.{◌≡◌, ◌<◌, ◌≤◌, true, false, length, unwrap_or, IfSome};
 ghost use Rattle.kinds.specs.Sizes as sizes;
-ghost use Rattle.rules.specs.Keys.{key_place, wrote_key, read_key, wrote_value, with_read, with_write, common_key, dependent as dependentOf};
+ghost use Rattle.rules.specs.Keys.{key_place, wrote_key, read_key, wrote_value, with_read, with_write};
+ghost use Rattle.rules.specs.Keys.{common_key, dependent as dependentOf};
 
 use kinds::{Key, Keys, Value};
 pub use words::{keys_ok_in, wrote_key_in, wrote_value_in};
 
-// The place of `k` among the first `n` keys, or `n`.
-pub fn key_place(keys: &[Key], n: usize, k: Key) -> usize
+// The place of `k` among the first `n` keys.
+pub fn key_place(keys: &[Key], n: usize, k: Key) -> Option<usize>
     requires { n ≤ length keys.now }
-    ensures { result ≡ key_place keys.now n k }
+    ensures first { unwrap_or result n ≡ key_place keys.now n k }
+    ensures bound { IfSome result (λ i. i < n) }
 {
-    let mut i: usize = 0;
-    while i < n {
-        if keys[i] == k {
-            return i;
-        }
-        i += 1;
-    }
-    i
+    keys[..n].iter().position(|key| *key == k)
 }
 
 pub fn wrote_key(b: Keys, k: Key) -> bool
     requires { b.wrote ≤ sizes.writes }
     ensures { result ≡ wrote_key b k }
 {
-    let n = b.wrote;
     let writes = b.writes;
-    let place = key_place(&writes, n, k);
-    place < n
+    key_place(&writes, b.wrote, k).is_some()
 }
 
 pub fn read_key(b: Keys, k: Key) -> bool
     requires { b.read ≤ sizes.reads }
     ensures { result ≡ read_key b k }
 {
-    let n = b.read;
     let reads = b.reads;
-    let place = key_place(&reads, n, k);
-    place < n
+    key_place(&reads, b.read, k).is_some()
 }
 
 // The value that the part wrote to `k`.
@@ -53,8 +44,7 @@ pub fn wrote_value(b: Keys, k: Key) -> Value
     requires { (b.wrote ≤ sizes.writes) × (wrote_key b k ≡ true) }
     ensures { result ≡ wrote_value b k }
 {
-    let n = b.wrote;
-    let place = key_place(&b.writes, n, k);
+    let place = key_place(&b.writes, b.wrote, k).unwrap();
     b.values[place]
 }
 
@@ -66,10 +56,9 @@ pub fn with_read(b: Keys, k: Key) -> Keys
     if read_key(b, k) {
         return b;
     }
-    let n = b.read;
     let mut c = b;
-    c.reads[n] = k;
-    c.read = n + 1;
+    c.reads[b.read] = k;
+    c.read += 1;
     c
 }
 
@@ -78,16 +67,14 @@ pub fn with_write(b: Keys, k: Key, v: Value) -> Keys
     requires { (b.wrote ≤ sizes.writes) × (wrote_key b k ≡ false → b.wrote < sizes.writes) }
     ensures { result ≡ with_write b k v }
 {
-    let n = b.wrote;
-    let place = key_place(&b.writes, n, k);
     let mut c = b;
-    if place < n {
+    if let Some(place) = key_place(&b.writes, b.wrote, k) {
         c.values[place] = v;
         return c;
     }
-    c.writes[n] = k;
-    c.values[n] = v;
-    c.wrote = n + 1;
+    c.writes[b.wrote] = k;
+    c.values[b.wrote] = v;
+    c.wrote += 1;
     c
 }
 
@@ -96,20 +83,12 @@ pub fn common_key(a: &[Key], n: usize, b: &[Key], m: usize) -> bool
     requires { (n ≤ length a.now) × (m ≤ length b.now) }
     ensures { result ≡ common_key a.now n b.now m }
 {
-    let mut found = false;
-    let mut i: usize = 0;
-    'search: while i < n {
-        let mut j: usize = 0;
-        while j < m {
-            if a[i] == b[j] {
-                found = true;
-                break 'search;
-            }
-            j += 1;
+    for key in &a[..n] {
+        if b[..m].contains(key) {
+            return true;
         }
-        i += 1;
     }
-    found
+    false
 }
 
 // Whether one wrote a key that the other read or wrote.
@@ -118,11 +97,7 @@ pub fn dependent(a: Keys, b: Keys) -> bool
     requires read_le_reads_2 { (b.read ≤ sizes.reads) × (b.wrote ≤ sizes.writes) }
     ensures { result ≡ dependentOf a b }
 {
-    if common_key(&a.writes, a.wrote, &b.writes, b.wrote) {
-        return true;
-    }
-    if common_key(&a.writes, a.wrote, &b.reads, b.read) {
-        return true;
-    }
-    common_key(&a.reads, a.read, &b.writes, b.wrote)
+    common_key(&a.writes, a.wrote, &b.writes, b.wrote)
+        || common_key(&a.writes, a.wrote, &b.reads, b.read)
+        || common_key(&a.reads, a.read, &b.writes, b.wrote)
 }

@@ -3,38 +3,22 @@ ghost use Rattle.std.specs.Prelude.{◌≡◌, ℕ, ◌+◌, ◌*◌, ◌≤◌,
 ghost use Rattle.kinds.specs.Sizes as sizes;
 ghost use Rattle.kinds.specs.declared.House.{House};
 ghost use Rattle.rules.specs.Value.{values_fit};
-ghost use Rattle.rules.specs.Keys.{key_place, wrote_key, wrote_value, keys_at, keys_ok};
+ghost use Rattle.rules.specs.Keys.{wrote_key, wrote_value, keys_at, keys_ok};
 ghost use Rattle.lent.specs.Layout.{words_from, values_from, keys_from};
 ghost use Rattle.lent.specs.Read.{Wrote};
 ghost use Rattle.keys.specs.Range.{RangeOf};
 
+use super::key_place;
 use kinds::sizes::{READS, VALUE, WRITES};
 use kinds::{Key, Value, word};
-use std::num::wrapping_sub_u64;
 use values::{fits, value_at};
-
-// The place of `k` among the first `n` words from word `at` on, or `n`.
-fn key_place_in(w: &[u64], at: usize, n: usize, k: Key) -> usize
-    requires { (n ≤ sizes.writes) × (at + sizes.writes ≤ length w.now) }
-    ensures { result ≡ key_place (words_from w.now at sizes.writes) n k }
-{
-    let mut i: usize = 0;
-    while i < n {
-        if w[at + i] == k {
-            return i;
-        }
-        i += 1;
-    }
-    i
-}
 
 pub fn wrote_key_in(w: &[u64], o: usize, k: Key) -> bool
     requires { (o + sizes.keyset ≤ length w.now) × ((keys_from w.now o).wrote ≤ sizes.writes) }
     ensures { result ≡ wrote_key (keys_from w.now o) k }
 {
     let n = w[o + word::KEYS_WROTE] as usize;
-    let place = key_place_in(w, o + word::KEYS_WRITES, n, k);
-    place < n
+    key_place(&w[o + word::KEYS_WRITES..], n, k).is_some()
 }
 
 // The value that was written to `k`.
@@ -43,7 +27,7 @@ pub fn wrote_value_in(w: &[u64], o: usize, k: Key) -> Value
     ensures { result ≡ wrote_value (keys_from w.now o) k }
 {
     let n = w[o + word::KEYS_WROTE] as usize;
-    let place = key_place_in(w, o + word::KEYS_WRITES, n, k);
+    let place = key_place(&w[o + word::KEYS_WRITES..], n, k).unwrap();
     value_at(w, o + word::KEYS_VALUES + VALUE * place)
 }
 
@@ -54,13 +38,11 @@ fn keys_at_in(first: Key, count: u64, w: &[u64], at: usize, n: usize) -> bool
     ensures { (o : House) (own : ℕ) → RangeOf o own first count
         → result ≡ keys_at o own (words_from w.now at sizes.writes) n }
 {
-    let mut i: usize = 0;
-    while i < n {
-        let above = wrapping_sub_u64(w[at + i], first);
+    for i in 0..n {
+        let above = w[at + i].wrapping_sub(first);
         if count <= above {
             return false;
         }
-        i += 1;
     }
     true
 }
@@ -70,12 +52,10 @@ fn values_fit_in(w: &[u64], at: usize, n: usize) -> bool
     requires { (n ≤ sizes.writes) × (at + sizes.value * sizes.writes ≤ length w.now) }
     ensures { result ≡ values_fit (values_from w.now at sizes.writes) n }
 {
-    let mut i: usize = 0;
-    while i < n {
+    for i in 0..n {
         if !fits(value_at(w, at + VALUE * i)) {
             return false;
         }
-        i += 1;
     }
     true
 }

@@ -100,3 +100,10 @@ laid_stores (x ∷ ws) d o n u e h l =
 
 pub laid_words : (d ws : List ℕ) (o : ℕ) → o + length ws ≤ length d → Laid d o (length ws) ws (stores d o 0 ws)
 laid_words d ws o h = let z : 0 + length ws ≡ length ws = omega arith in rw z at (laid_stores ws d o 0 [] d (omega arith) (laid_none d o))
+
+-- k words more behind those that are stored one by one
+pub laid_behind : (d : List ℕ) (o n k : ℕ) (ws a f : List ℕ) → o + (n + k) ≤ length d → length ws ≡ n → length a ≡ k
+    → f ≡ put_at (o + n) (stores d o 0 ws) a → Laid d o (n + k) (ws ++ a) f
+laid_behind d o n k ws a f room h s q =
+    let headed : Laid d o n ws (stores d o 0 ws) = rw h at (laid_words d ws o (omega arith)) in
+    laid_more d o n k ws a (stores d o 0 ws) f (omega arith) headed s q

@@ -30,11 +30,7 @@ fn sixteen(w: &[u64], at: usize) -> [u64; READS]
     ensures { result ≡ words_from w.now at sizes.reads }
 {
     let mut r = [0u64; READS];
-    let mut i: usize = 0;
-    while i < READS {
-        r[i] = w[at + i];
-        i += 1;
-    }
+    r.copy_from_slice(&w[at..at + READS]);
     r
 }
 
@@ -44,11 +40,8 @@ fn sixteen_values(w: &[u64], at: usize) -> [Value; WRITES]
     ensures { result ≡ values_from w.now at sizes.writes }
 {
     let mut r = [FRESH; WRITES];
-    let mut i: usize = 0;
-    while i < WRITES {
-        let v = value_at(w, at + VALUE * i);
-        r[i] = v;
-        i += 1;
+    for i in 0..WRITES {
+        r[i] = value_at(w, at + VALUE * i);
     }
     r
 }
@@ -58,17 +51,12 @@ pub fn keys_at(w: &[u64], o: usize) -> Keys
     requires { o + sizes.keyset ≤ length w.now }
     ensures { result ≡ keys_from w.now o }
 {
-    let read = w[o + KEYS_READ] as usize;
-    let wrote = w[o + KEYS_WROTE] as usize;
-    let reads = sixteen(w, o + KEYS_READS);
-    let writes = sixteen(w, o + KEYS_WRITES);
-    let values = sixteen_values(w, o + KEYS_VALUES);
     Keys {
-        read,
-        wrote,
-        reads,
-        writes,
-        values,
+        read: w[o + KEYS_READ] as usize,
+        wrote: w[o + KEYS_WROTE] as usize,
+        reads: sixteen(w, o + KEYS_READS),
+        writes: sixteen(w, o + KEYS_WRITES),
+        values: sixteen_values(w, o + KEYS_VALUES),
     }
 }
 
@@ -90,14 +78,12 @@ pub fn part_at(seats: [Seat; LIVE], w: &[u64], place: usize) -> Sub
         reason: w[at + PLACE_REASON],
         listed: w[at + PLACE_LISTED] as usize,
     };
-    let desk = w[at + PLACE_DESK];
-    let keys = keys_at(w, at + PLACE_KEYS);
     Sub {
         tx: seat.tx,
-        desk,
+        desk: w[at + PLACE_DESK],
         snapshot,
         course,
-        keys,
+        keys: keys_at(w, at + PLACE_KEYS),
     }
 }
 
@@ -107,12 +93,11 @@ pub fn entry_at(h: &[u64], slot: usize) -> Entry
     ensures { result ≡ get_or (history_of h.now) slot past_entry }
 {
     let at = SLOT * slot;
-    let keys = keys_at(h, at + SLOT_KEYS);
     Entry {
         tx: h[at + SLOT_TX],
         mask: h[at + SLOT_MASK],
         number: h[at + SLOT_NUMBER],
-        keys,
+        keys: keys_at(h, at + SLOT_KEYS),
     }
 }
 
@@ -129,11 +114,8 @@ fn lay_values(out: &mut [u64], at: usize, a: [Value; WRITES])
     requires { at + sizes.value * sizes.writes ≤ length out.old }
     ensures { (length a ≡ sizes.writes) × (out.new ≡ put_at at out.old (flat value_words a)) }
 {
-    let mut i: usize = 0;
-    while i < WRITES {
-        let v = a[i];
-        put_value(out, at + VALUE * i, v);
-        i += 1;
+    for i in 0..WRITES {
+        put_value(out, at + VALUE * i, a[i]);
     }
 }
 
@@ -142,14 +124,11 @@ fn lay_keys(out: &mut [u64], o: usize, b: Keys)
     requires { o + sizes.keyset ≤ length out.old }
     ensures { Sized b × (out.new ≡ put_at o out.old (keys_words b)) }
 {
-    let reads = b.reads;
-    let writes = b.writes;
-    let values = b.values;
     out[o + KEYS_READ] = b.read as u64;
     out[o + KEYS_WROTE] = b.wrote as u64;
-    lay(out, o + KEYS_READS, reads);
-    lay(out, o + KEYS_WRITES, writes);
-    lay_values(out, o + KEYS_VALUES, values);
+    lay(out, o + KEYS_READS, b.reads);
+    lay(out, o + KEYS_WRITES, b.writes);
+    lay_values(out, o + KEYS_VALUES, b.values);
 }
 
 // Writes a part, but for its seat, to its place.
@@ -184,10 +163,9 @@ pub fn put_entry(h: &mut [u64], slot: usize, e: Entry)
 pub fn seat_of(b: Sub) -> Seat
     ensures { result ≡ seat_of b }
 {
-    let course = b.course;
     Seat {
         tx: b.tx,
-        stage: course.stage,
+        stage: b.course.stage,
     }
 }
 
@@ -205,10 +183,7 @@ pub fn no_house() -> House
 fn lent_ok(live: usize, history: usize) -> bool
     ensures { result ≡ lent_ok live history }
 {
-    if live != LIVE_WORDS {
-        return false;
-    }
-    history == HISTORY_WORDS
+    live == LIVE_WORDS && history == HISTORY_WORDS
 }
 
 // The house of a site whose live and history words have these lengths,
@@ -216,17 +191,15 @@ pub fn lent_house(o: House, live: usize, history: usize) -> House
     ensures { result ≡ lent_house o live history }
 {
     if lent_ok(live, history) {
-        return o;
+        o
+    } else {
+        no_house()
     }
-    no_house()
 }
 
 // and the number of sites at its start.
 pub fn lent_sites(sites: u64, live: usize, history: usize) -> u64
     ensures { result ≡ lent_sites sites live history }
 {
-    if lent_ok(live, history) {
-        return sites;
-    }
-    0
+    if lent_ok(live, history) { sites } else { 0 }
 }

@@ -35,11 +35,10 @@ fn course_ok(o: House, own: u64, seat: Seat, w: &[u64], at: usize) -> bool
     requires { ValidHouse o own × (at + sizes.place ≤ length w.now) }
     ensures { result ≡ course_ok o own (sub_from seat w.now at).course }
 {
-    let stage = seat.stage;
     let mask = w[at + word::PLACE_MASK];
     let heard = w[at + word::PLACE_HEARD];
     let listed = w[at + word::PLACE_LISTED] as usize;
-    if REJECTED < stage {
+    if REJECTED < seat.stage {
         return false;
     }
     if !is_mask(o, mask) {
@@ -65,10 +64,7 @@ fn desk_ok(w: &[u64], at: usize) -> bool
 {
     let desk = w[at + word::PLACE_DESK];
     let wrote = w[at + word::PLACE_KEYS + word::KEYS_WROTE] as usize;
-    if !is_desk(desk) {
-        return false;
-    }
-    wrote <= write_limit(desk)
+    is_desk(desk) && wrote <= write_limit(desk)
 }
 
 // The part of a seat, with its other words from word `at` on: a held one goes out in messages. The site's keys are `count`
@@ -77,8 +73,6 @@ fn part_ok(o: House, own: u64, first: Key, count: u64, seat: Seat, w: &[u64], at
     requires { ValidHouse o own × RangeOf o own first count × (at + sizes.place ≤ length w.now) }
     ensures { result ≡ sub_ok o own (sub_from seat w.now at) }
 {
-    let stage = seat.stage;
-    let tx = seat.tx;
     if !course_ok(o, own, seat, w, at) {
         return false;
     }
@@ -88,10 +82,7 @@ fn part_ok(o: House, own: u64, first: Key, count: u64, seat: Seat, w: &[u64], at
     if !desk_ok(w, at) {
         return false;
     }
-    if stage == FREE {
-        return true;
-    }
-    is_tx(o, tx)
+    seat.stage == FREE || is_tx(o, seat.tx)
 }
 
 // An install in a slot of the history, from word `at` on: one that is remembered goes out in messages too.
@@ -106,35 +97,23 @@ fn slot_ok(o: House, own: u64, first: Key, count: u64, used: bool, h: &[u64], at
     if !keys_ok_in(first, count, h, at + word::SLOT_KEYS) {
         return false;
     }
-    if !used {
-        return true;
-    }
-    let tx = h[at + word::SLOT_TX];
-    is_tx(o, tx)
+    !used || is_tx(o, h[at + word::SLOT_TX])
 }
 
 fn counters_ok(o: House, c: Counters) -> bool
     ensures { result ≡ counters_ok o c }
 {
-    let own = c.own;
-    let serial = c.serial;
-    if !is_site(o, own) {
-        return false;
-    }
-    serial <= LAST_SERIAL
+    is_site(o, c.own) && c.serial <= LAST_SERIAL
 }
 
 fn live_ok(o: House, own: u64, first: Key, count: u64, seats: [Seat; LIVE], w: &[u64]) -> bool
     requires { ValidHouse o own × RangeOf o own first count × (length w.now ≡ sizes.live_words) }
     ensures { result ≡ live_ok o own (live_of seats w.now) }
 {
-    let mut i: usize = 0;
-    while i < LIVE {
-        let seat = seats[i];
-        if !part_ok(o, own, first, count, seat, w, PLACE * i) {
+    for i in 0..LIVE {
+        if !part_ok(o, own, first, count, seats[i], w, PLACE * i) {
             return false;
         }
-        i += 1;
     }
     true
 }
@@ -144,12 +123,10 @@ fn history_ok(o: House, own: u64, first: Key, count: u64, installs: u64, h: &[u6
     ensures { result ≡ history_ok o own installs (history_of h.now) }
 {
     let n = remembered(installs);
-    let mut i: usize = 0;
-    while i < HISTORY {
+    for i in 0..HISTORY {
         if !slot_ok(o, own, first, count, i < n, h, SLOT * i) {
             return false;
         }
-        i += 1;
     }
     true
 }
@@ -158,22 +135,19 @@ pub fn site_ok(p: Core, live: &[u64], history: &[u64]) -> bool
     ensures { result ≡ site_ok (site_of p live.now history.now) }
 {
     let house = lent_house(p.house, live.len(), history.len());
-    let counters = p.counters;
-    let own = counters.own;
-    let installs = counters.installs;
-    let seats = p.seats;
     if !house_ok(house) {
         return false;
     }
-    if !counters_ok(house, counters) {
+    if !counters_ok(house, p.counters) {
         return false;
     }
+    let own = p.counters.own;
     let first = first_key(house, own);
     let count = end_key(house, own) - first;
-    if !live_ok(house, own, first, count, seats, live) {
+    if !live_ok(house, own, first, count, p.seats, live) {
         return false;
     }
-    history_ok(house, own, first, count, installs, history)
+    history_ok(house, own, first, count, p.counters.installs, history)
 }
 
 // The gathered entries of a part at this stage, at the front of `es`.
@@ -182,25 +156,18 @@ fn list_ok(o: House, stage: u64, listed: usize, es: &[u64]) -> bool
     requires listed_le_cert_entries { (listed ≤ sizes.cert_entries) × (sizes.gathered ≤ length es.now) }
     ensures { result ≡ pick (eqb stage stages.free) true (all_below (entry_possible o es.now) listed) }
 {
-    if stage == FREE {
-        return true;
-    }
-    entries_possible(o, es, listed)
+    stage == FREE || entries_possible(o, es, listed)
 }
 
 fn lists_ok(o: House, seats: [Seat; LIVE], w: &[u64], lists: &[u64]) -> bool
     requires { Gathered o w.now lists.now }
     ensures { result ≡ lists_ok o (live_of seats w.now) lists.now }
 {
-    let mut i: usize = 0;
-    while i < LIVE {
-        let seat = seats[i];
+    for i in 0..LIVE {
         let listed = w[PLACE * i + word::PLACE_LISTED] as usize;
-        let at = GATHERED * i;
-        if !list_ok(o, seat.stage, listed, &lists[at..]) {
+        if !list_ok(o, seats[i].stage, listed, &lists[GATHERED * i..]) {
             return false;
         }
-        i += 1;
     }
     true
 }
@@ -215,7 +182,5 @@ pub fn handed_ok(p: Core, live: &[u64], history: &[u64], lists: &[u64]) -> bool
     if !site_ok(p, live, history) {
         return false;
     }
-    let house = p.house;
-    let seats = p.seats;
-    lists_ok(house, seats, live, lists)
+    lists_ok(p.house, p.seats, live, lists)
 }

@@ -1,5 +1,5 @@
 -- After i writes the base values are the fold over them.
-use Prim.Native.Nat.{ℕ, ◌*◌, ◌-◌, ◌≤◌}
+use Prim.Native.Nat.{ℕ, ◌*◌}
 use mathlib.Core.Path.{◌≡◌}
 use mathlib.Core.List.{List}
 use lib.ListN.{length, get_or}
@@ -16,7 +16,4 @@ forgotten base b = λ i. fold_below (λ j l. put_value l (sizes.value * get_or b
 
 abbrev pub invariant-loop-i : goal.invariant-loop-i
 invariant-loop-i l = (length l.base ≡ length l.initial.base)
-    × ((l.i ≤ l.n) × (l.base ≡ forgotten l.initial.base l.b l.i))
-
-abbrev pub decreases-loop-i : goal.decreases-loop-i
-decreases-loop-i l = l.n - l.i
+    × (l.base ≡ forgotten l.initial.base l.b l.i)

@@ -1,11 +1,7 @@
 -- The lesser of the installs and the history's length.
-use native.Mathlib.Omega.{arith}
+use Rattle.std.proofs.Common.{arith}
 use Rattle.rules.specs.History.{remembered}
 use Rattle.history.proofs.remembered.Goals as goal
-
-pub returns-then-installs : goal.returns-then-installs
-unfolding remembered
-returns-then-installs c = omega arith
 
 pub returns : goal.returns
 unfolding remembered

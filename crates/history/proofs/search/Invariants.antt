@@ -1,7 +1,5 @@
--- The walk from here answers what the search does; the first entry that has the key ends the loop.
-use Prim.Native.Nat.{ℕ, ◌+◌, ◌≤◌}
-use mathlib.Core.Path.{◌≡◌}
-use mathlib.Core.List.{List}
+-- The walk from here answers what the search does.
+use Rattle.std.proofs.Common.{◌≡◌, ℕ, ◌-◌, List}
 use Rattle.kinds.specs.declared.Search.{Search}
 use Rattle.rules.specs.Value.{base_value}
 use Rattle.rules.specs.History.{recall, walk}
@@ -12,8 +10,6 @@ use Rattle.history.proofs.search.Given as goal
 abbrev pub rest : List ℕ → ℕ → List ℕ → ℕ → ℕ → ℕ → Search
 rest h installs base k = walk (recall (history_of h) installs) k (base_value base k)
 
-abbrev pub invariant-loop-left : goal.invariant-loop-left
-invariant-loop-left l = (l.looked + l.left ≤ l.visible) × (rest l.h l.installs l.base l.k l.visible 0 ≡ rest l.h l.installs l.base l.k l.left l.looked)
-
-abbrev pub decreases-loop-left : goal.decreases-loop-left
-decreases-loop-left l = l.left
+abbrev pub invariant-loop-looked : goal.invariant-loop-looked
+invariant-loop-looked l =
+    rest l.h l.installs l.base l.k l.visible 0 ≡ rest l.h l.installs l.base l.k (l.visible - l.looked) l.looked

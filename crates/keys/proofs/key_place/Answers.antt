@@ -1,22 +1,18 @@
-use Rattle.std.proofs.Common.{arith, rules, below_more, eq-eqb, ne_eqb}
-use Rattle.laws.specs.Scan.{none_none, first_below_lem, first_end}
-use Rattle.rules.specs.Keys.{key_place}
+-- The first of the first n keys that is the key.
+use borrow.Author.Tests.{tests}
+use Rattle.std.proofs.Common.{◌≡◌, take, true, false, eqb, rules}
+use Rattle.std.proofs.lemmas.Iterator.{IsFirst-from_position, YieldsList-from_slice}
+use Rattle.laws.proofs.Searches.{first_found}
+use Rattle.keys.proofs.Places.{first_taken}
 use Rattle.keys.proofs.key_place.Goals as goal
 
-pub loop-i-init : goal.loop-i-init
-loop-i-init c = (search rules, none_none _)
-
-pub returns-then-keys-i : goal.returns-then-keys-i
-unfolding key_place
-returns-then-keys-i c =
-    let l = c.loop-i in
-    first_below_lem _ _ _ (omega arith) l.invariant.1 (eq-eqb _ _ c.if-keys-i.true)
-
-pub loop-i-preserved : goal.loop-i-preserved
-loop-i-preserved c =
-    let l = c.loop-i in
-    (search rules, below_more _ _ l.invariant.1 (ne_eqb _ _ c.if-keys-i.false))
-
-pub returns : goal.returns
-unfolding key_place
-returns c = first_end _ _ _ (omega arith) (omega arith) c.loop-i.invariant.1
+pub returns-clause-first : goal.returns-clause-first
+returns-clause-first c =
+    let k = c.args.k in
+    let n = c.args.n in
+    first_taken c.args.keys.now n k c.position.result c.requires
+    (first_found (λ x. eqb x k) (take n c.args.keys.now) 0 _
+    (IsFirst-from_position _ _ _ (λ x. eqb x k ≡ true) (λ x. eqb x k ≡ false) c.position.ensures.ran
+    (YieldsList-from_slice (take n c.args.keys.now) cc)
+    (λ x q k. search (rules, tests))
+    (λ x q k. search (rules, tests))))

@@ -1,7 +1,9 @@
--- The place is below the count exactly where the key was read.
+-- There is a place exactly where the key was read.
+use Rattle.std.proofs.Common.{◌∙◌}
 use Rattle.rules.specs.Keys.{read_key}
+use Rattle.keys.proofs.Places.{some_below}
 use Rattle.keys.proofs.read_key.Goals as goal
 
 pub returns : goal.returns
 unfolding read_key
-returns c = rw c.key_place-place.ensures
+returns c = c.is_some.ensures ∙ some_below _ _ _ c.key_place.ensures.bound c.key_place.ensures.first

@@ -5,4 +5,4 @@ use Rattle.tables.proofs.entry_at.Goals as goal
 
 pub returns : goal.returns
 unfolding entry_from
-returns c = rw (history_at c.args.h.now c.args.slot c.requires.1, c.keys_at-keys.ensures)
+returns c = rw (history_at c.args.h.now c.args.slot c.requires.1, c.keys_at.ensures)

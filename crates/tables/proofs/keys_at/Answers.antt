@@ -4,4 +4,4 @@ use Rattle.tables.proofs.keys_at.Goals as goal
 
 pub returns : goal.returns
 unfolding keys_from
-returns c = rw (c.sixteen-reads.ensures, c.sixteen-writes.ensures, c.sixteen_values-values.ensures)
+returns c = rw (c.sixteen.ensures, c.sixteen-2.ensures, c.sixteen_values.ensures)

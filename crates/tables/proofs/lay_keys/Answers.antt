@@ -1,78 +1,35 @@
 -- The counts and the three lists are laid behind one another, which is one laying of the keys' words.
-use Prim.Native.Nat.{ℕ, ◌*◌, ◌≤◌}
-use mathlib.Core.Path.{◌≡◌}
-use mathlib.Core.List.{List, [], ◌∷◌, ◌++◌, append_assoc}
-use native.Mathlib.Omega.{arith}
-use lib.ListN.{length, length-set}
+use Rattle.std.proofs.Common.{◌≡◌, ℕ, ◌+◌, ◌*◌, ◌≤◌, List, [], ◌∷◌, ◌++◌, append_assoc, length, refl, arith, rules}
 use Rattle.kinds.specs.Sizes as sizes
 use Rattle.kinds.specs.Word as word
+use Rattle.kinds.specs.declared.Value.{Value}
+use Rattle.laws.specs.Overlay.{put_at}
 use Rattle.rules.specs.Value.{value_words}
 use Rattle.lent.specs.Rows.{flat}
 use Rattle.lent.specs.Layout.{keys_words}
 use Rattle.lent.specs.Values.{values_long}
 use Rattle.lent.specs.Shape.{Sized}
-use Rattle.tables.proofs.Laid.{Laid, laid_length, laid_more, stores, laid_words}
+use Rattle.tables.proofs.Laid.{laid_more, laid_behind, stores}
 use Rattle.tables.proofs.lay_keys.Goals as goal
 
-pub bounds-out-o-2 : goal.bounds-out-o-2
-bounds-out-o-2 c =
-    let room = c.requires in
-    simp length-set (omega arith)
-
-pub lay-requires : goal.lay-requires
-lay-requires c =
-    let room = c.requires in
-    simp length-set (omega arith)
-
-pub lay-requires-2 : goal.lay-requires-2
-lay-requires-2 c =
-    let Has : ℕ → List ℕ → List ℕ → Type 0 = λ n u e. Laid c.args.out.now c.args.o n u e in
-    let counts : List ℕ = c.args.b.read ∷ c.args.b.wrote ∷ [] in
-    let stored : List ℕ = stores c.args.out.now c.args.o 0 counts in
-    let counted : Has word.keys_reads counts stored = let room = c.requires in laid_words c.args.out.now counts c.args.o (omega arith) in
-    let one : Has word.keys_writes (counts ++ c.args.b.reads) c.lay.new.out = let room = c.requires in laid_more c.args.out.now c.args.o word.keys_reads sizes.reads counts c.args.b.reads stored c.lay.new.out (omega arith) counted c.lay.ensures.0 c.lay.ensures.1 in
-    let size : (n : ℕ) (u e : List ℕ) → n ≤ sizes.keyset → Has n u e → length e ≡ length c.args.out.now = λ n u e h l. let room = c.requires in laid_length c.args.out.now c.args.o n u e (omega arith) l in
-    let room = c.requires in
-    omega (arith, size word.keys_writes _ c.lay.new.out (omega arith) one)
-
-pub lay_values-requires : goal.lay_values-requires
-lay_values-requires c =
-    let Has : ℕ → List ℕ → List ℕ → Type 0 = λ n u e. Laid c.args.out.now c.args.o n u e in
-    let counts : List ℕ = c.args.b.read ∷ c.args.b.wrote ∷ [] in
-    let stored : List ℕ = stores c.args.out.now c.args.o 0 counts in
-    let counted : Has word.keys_reads counts stored = let room = c.requires in laid_words c.args.out.now counts c.args.o (omega arith) in
-    let one : Has word.keys_writes (counts ++ c.args.b.reads) c.lay.new.out = let room = c.requires in laid_more c.args.out.now c.args.o word.keys_reads sizes.reads counts c.args.b.reads stored c.lay.new.out (omega arith) counted c.lay.ensures.0 c.lay.ensures.1 in
-    let two-lists : List ℕ = (counts ++ c.args.b.reads) ++ c.args.b.writes in
-    let two : Has word.keys_values two-lists c.lay-2.new.out = let room = c.requires in laid_more c.args.out.now c.args.o word.keys_writes sizes.reads (counts ++ c.args.b.reads) c.args.b.writes c.lay.new.out c.lay-2.new.out (omega arith) one c.lay-2.ensures.0 c.lay-2.ensures.1 in
-    let size : (n : ℕ) (u e : List ℕ) → n ≤ sizes.keyset → Has n u e → length e ≡ length c.args.out.now = λ n u e h l. let room = c.requires in laid_length c.args.out.now c.args.o n u e (omega arith) l in
-    let room = c.requires in
-    omega (arith, size word.keys_values _ c.lay-2.new.out (omega arith) two)
-
-pub shape_of-out : goal.shape_of-out
-shape_of-out c =
-    let Has : ℕ → List ℕ → List ℕ → Type 0 = λ n u e. Laid c.args.out.now c.args.o n u e in
-    let counts : List ℕ = c.args.b.read ∷ c.args.b.wrote ∷ [] in
-    let stored : List ℕ = stores c.args.out.now c.args.o 0 counts in
-    let counted : Has word.keys_reads counts stored = let room = c.requires in laid_words c.args.out.now counts c.args.o (omega arith) in
-    let one : Has word.keys_writes (counts ++ c.args.b.reads) c.lay.new.out = let room = c.requires in laid_more c.args.out.now c.args.o word.keys_reads sizes.reads counts c.args.b.reads stored c.lay.new.out (omega arith) counted c.lay.ensures.0 c.lay.ensures.1 in
-    let two-lists : List ℕ = (counts ++ c.args.b.reads) ++ c.args.b.writes in
-    let two : Has word.keys_values two-lists c.lay-2.new.out = let room = c.requires in laid_more c.args.out.now c.args.o word.keys_writes sizes.reads (counts ++ c.args.b.reads) c.args.b.writes c.lay.new.out c.lay-2.new.out (omega arith) one c.lay-2.ensures.0 c.lay-2.ensures.1 in
-    let values : List ℕ = flat value_words c.args.b.values in
-    let three : Has sizes.keyset (two-lists ++ values) c.lay_values.new.out = let room = c.requires in laid_more c.args.out.now c.args.o word.keys_values (sizes.value * sizes.writes) two-lists values c.lay-2.new.out c.lay_values.new.out (omega arith) two (omega (arith, values_long c.args.b.values, c.lay_values.ensures.0)) c.lay_values.ensures.1 in
-    let size : (n : ℕ) (u e : List ℕ) → n ≤ sizes.keyset → Has n u e → length e ≡ length c.args.out.now = λ n u e h l. let room = c.requires in laid_length c.args.out.now c.args.o n u e (omega arith) l in
-    size sizes.keyset _ c.lay_values.new.out (omega arith) three
+laid : (d : List ℕ) (o read wrote : ℕ) (xs ys u v w : List ℕ) (vs : List Value) → o + sizes.keyset ≤ length d
+    → u ≡ put_at (o + word.keys_reads) (stores d o 0 (read ∷ wrote ∷ [])) xs → length xs ≡ sizes.reads
+    → v ≡ put_at (o + word.keys_writes) u ys → length ys ≡ sizes.writes
+    → w ≡ put_at (o + word.keys_values) v (flat value_words vs) → length vs ≡ sizes.writes
+    → w ≡ put_at o d (read ∷ wrote ∷ (xs ++ (ys ++ flat value_words vs)))
+laid d o read wrote xs ys u v w vs room e r f s g t =
+    let counts : List ℕ = read ∷ wrote ∷ [] in
+    let values : List ℕ = flat value_words vs in
+    let one = laid_behind d o word.keys_reads sizes.reads counts xs u (omega arith) refl r e in
+    let two = laid_more d o word.keys_writes sizes.writes (counts ++ xs) ys u v (omega arith) one s f in
+    let long : length values ≡ sizes.value * sizes.writes = omega (arith, values_long vs) in
+    let three =
+    laid_more d o word.keys_values (sizes.value * sizes.writes) ((counts ++ xs) ++ ys) values v w (omega arith) two long g in
+    simp append_assoc at three.whole
 
 pub returns : goal.returns
 unfolding keys_words
 returns c =
-    let Has : ℕ → List ℕ → List ℕ → Type 0 = λ n u e. Laid c.args.out.now c.args.o n u e in
-    let counts : List ℕ = c.args.b.read ∷ c.args.b.wrote ∷ [] in
-    let stored : List ℕ = stores c.args.out.now c.args.o 0 counts in
-    let counted : Has word.keys_reads counts stored = let room = c.requires in laid_words c.args.out.now counts c.args.o (omega arith) in
-    let one : Has word.keys_writes (counts ++ c.args.b.reads) c.lay.new.out = let room = c.requires in laid_more c.args.out.now c.args.o word.keys_reads sizes.reads counts c.args.b.reads stored c.lay.new.out (omega arith) counted c.lay.ensures.0 c.lay.ensures.1 in
-    let two-lists : List ℕ = (counts ++ c.args.b.reads) ++ c.args.b.writes in
-    let two : Has word.keys_values two-lists c.lay-2.new.out = let room = c.requires in laid_more c.args.out.now c.args.o word.keys_writes sizes.reads (counts ++ c.args.b.reads) c.args.b.writes c.lay.new.out c.lay-2.new.out (omega arith) one c.lay-2.ensures.0 c.lay-2.ensures.1 in
-    let values : List ℕ = flat value_words c.args.b.values in
-    let three : Has sizes.keyset (two-lists ++ values) c.lay_values.new.out = let room = c.requires in laid_more c.args.out.now c.args.o word.keys_values (sizes.value * sizes.writes) two-lists values c.lay-2.new.out c.lay_values.new.out (omega arith) two (omega (arith, values_long c.args.b.values, c.lay_values.ensures.0)) c.lay_values.ensures.1 in
-    let sized : Sized c.args.b = record { reads = c.lay.ensures.0; writes = c.lay-2.ensures.0; values = c.lay_values.ensures.0 } in
-    (sized, simp append_assoc at three.whole)
+    let sized : Sized c.args.b = record { reads = search rules; writes = search rules; values = search rules } in
+    let values = c.lay_values.ensures in
+    (sized, laid _ _ _ _ _ _ _ _ _ _ c.requires c.lay.ensures.1 c.lay.ensures.0 c.lay-2.ensures.1 c.lay-2.ensures.0 values.1 values.0)

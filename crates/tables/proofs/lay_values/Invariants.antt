@@ -1,5 +1,5 @@
 -- After i turns the words of the first i values are laid.
-use Prim.Native.Nat.{◌*◌, ◌-◌, ◌≤◌}
+use Prim.Native.Nat.{◌*◌}
 use lib.ListN.{take}
 use Rattle.kinds.specs.Sizes as sizes
 use Rattle.rules.specs.Value.{value_words}
@@ -8,7 +8,4 @@ use Rattle.tables.proofs.Laid.{Laid}
 use Rattle.tables.proofs.lay_values.Given as goal
 
 abbrev pub invariant-loop-i : goal.invariant-loop-i
-invariant-loop-i l = (l.i ≤ sizes.writes) × Laid l.initial.out l.at (sizes.value * l.i) (flat value_words (take l.i l.a)) l.out
-
-abbrev pub decreases-loop-i : goal.decreases-loop-i
-decreases-loop-i l = sizes.writes - l.i
+invariant-loop-i l = Laid l.initial.out l.at (sizes.value * l.i) (flat value_words (take l.i l.a)) l.out

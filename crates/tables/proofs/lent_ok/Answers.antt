@@ -1,14 +1,13 @@
 -- The two lengths.
-use borrow.Author.Rules.{rules}
 use borrow.Author.Tests.{eq-eqb, ne_eqb}
 use Rattle.laws.specs.Choice.{pick_self}
 use Rattle.lent.specs.Lent.{lent_ok}
 use Rattle.tables.proofs.lent_ok.Goals as goal
 
-pub returns-then-live-ne-LIVE_WORDS : goal.returns-then-live-ne-LIVE_WORDS
+pub returns-then-live-eq-LIVE_WORDS : goal.returns-then-live-eq-LIVE_WORDS
 unfolding lent_ok
-returns-then-live-ne-LIVE_WORDS c = search (eq-eqb, ne_eqb, rules)
+returns-then-live-eq-LIVE_WORDS c = simp (eq-eqb _ _ c.if-live-eq-LIVE_WORDS.true, pick_self)
 
-pub returns : goal.returns
+pub returns-else-live-eq-LIVE_WORDS : goal.returns-else-live-eq-LIVE_WORDS
 unfolding lent_ok
-returns c = search (pick_self, eq-eqb, ne_eqb, rules)
+returns-else-live-eq-LIVE_WORDS c = simp (ne_eqb _ _ c.if-live-eq-LIVE_WORDS.false)

@@ -7,6 +7,6 @@ pub returns-then-lent_ok : goal.returns-then-lent_ok
 unfolding lent_sites
 returns-then-lent_ok c = rw (sym c.lent_ok.ensures ∙ c.if-lent_ok.true)
 
-pub returns : goal.returns
+pub returns-else-lent_ok : goal.returns-else-lent_ok
 unfolding lent_sites
-returns c = rw (sym c.lent_ok.ensures ∙ c.if-lent_ok.false)
+returns-else-lent_ok c = rw (sym c.lent_ok.ensures ∙ c.if-lent_ok.false)

@@ -5,4 +5,4 @@ use Rattle.tables.proofs.part_at.Goals as goal
 
 pub returns : goal.returns
 unfolding sub_from
-returns c = rw (live_at c.args.seats c.args.w.now c.args.place c.requires.1, c.keys_at-keys.ensures)
+returns c = rw (live_at c.args.seats c.args.w.now c.args.place c.requires.1, c.keys_at.ensures)

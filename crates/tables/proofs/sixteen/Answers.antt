@@ -1,25 +1,16 @@
-use Prim.Native.Nat.{◌<◌}
-use mathlib.Core.Path.{◌≡◌, refl, sym, ◌∙◌}
-use native.Mathlib.Omega.{arith}
-use lib.ListN.{length-set}
-use lib.Seq.{get_or-set_same, get_or-set_other}
-use Rattle.laws.specs.Scan.{split_last}
-use Rattle.kinds.specs.Sizes as sizes
+-- The words that are copied are those from `at` on.
+use Rattle.std.proofs.Common.{◌≡◌, ◌+◌, ℕ, List, ◌≤◌, length, take, drop, sym, ◌∙◌, arith}
+use Rattle.std.proofs.lemmas.List.{get_or-take, get_or-drop, length-take-le, length-drop}
 use Rattle.lent.specs.Rows.{rows_same, rows_read}
 use Rattle.lent.specs.Layout.{words_from}
 use Rattle.tables.proofs.sixteen.Goals as goal
 
-pub loop-i-init : goal.loop-i-init
-loop-i-init c = (omega arith, (refl, λ j h. absurd (omega arith)))
-
-pub loop-i-preserved : goal.loop-i-preserved
-loop-i-preserved c =
-    let a = c.args in
-    let l = c.loop-i in
-    (omega arith, (simp length-set l.invariant.1.0, λ j h. split_last {i = j} {n = l.i} (omega arith) (λ (q : j ≡ l.i). rw q (get_or-set_same l.r l.i _ 0 (omega arith))) (λ (q : j < l.i). get_or-set_other l.r l.i j _ 0 (λ z. omega arith) ∙ l.invariant.1.1 j q)))
+copied : (w : List ℕ) (at n m : ℕ) → m ≡ n → at + n ≤ length w → take m (drop at w) ≡ words_from w at n
+unfolding words_from
+copied w at n m e h =
+    rw e
+    (sym (rows_read (take n (drop at w)) n 0 (length-take-le n (drop at w) (omega (arith, length-drop at w))))
+    ∙ rows_same _ _ n (λ j l. get_or-take n (drop at w) j 0 l ∙ get_or-drop at w j 0))
 
 pub returns : goal.returns
-unfolding words_from
-returns c =
-    let l = c.loop-i in
-    sym (rows_read l.r sizes.reads 0 l.invariant.1.0) ∙ rows_same _ _ sizes.reads (λ j h. l.invariant.1.1 j (omega arith))
+returns c = c.copy_from_slice.ensures.after ∙ copied c.args.w.now c.args.at _ _ (omega arith) c.requires

@@ -1,5 +1,5 @@
 -- The first i values of the array are those from `at` on.
-use Prim.Native.Nat.{ℕ, ◌+◌, ◌*◌, ◌-◌, ◌≤◌, ◌<◌}
+use Prim.Native.Nat.{ℕ, ◌+◌, ◌*◌, ◌<◌}
 use mathlib.Core.Path.{◌≡◌}
 use lib.ListN.{get_or, length}
 use Rattle.kinds.specs.Sizes as sizes
@@ -8,7 +8,4 @@ use Rattle.rules.specs.Value.{value_at}
 use Rattle.tables.proofs.sixteen_values.Given as goal
 
 abbrev pub invariant-loop-i : goal.invariant-loop-i
-invariant-loop-i l = (l.i ≤ sizes.writes) × ((length l.r ≡ sizes.writes) × ((j : ℕ) → j < l.i → get_or l.r j fresh ≡ value_at l.w (l.at + sizes.value * j)))
-
-abbrev pub decreases-loop-i : goal.decreases-loop-i
-decreases-loop-i l = sizes.writes - l.i
+invariant-loop-i l = ((length l.r ≡ sizes.writes) × ((j : ℕ) → j < l.i → get_or l.r j fresh ≡ value_at l.w (l.at + sizes.value * j)))

@@ -1,13 +1,13 @@
 -- The site, then the serial.
-use mathlib.Core.Path.{sym, ◌∙◌}
+use Rattle.std.proofs.Common.{sym, ◌∙◌}
 use Rattle.laws.specs.Choice.{pick_self}
 use Rattle.rules.specs.Valid.{counters_ok}
 use Rattle.valid.proofs.counters_ok.Goals as goal
 
-pub returns-then-not-is_site : goal.returns-then-not-is_site
+pub returns-then-is_site : goal.returns-then-is_site
 unfolding counters_ok
-returns-then-not-is_site c = simp (sym c.is_site.ensures ∙ c.if-not-is_site.true)
+returns-then-is_site c = simp (sym c.is_site.ensures ∙ c.if-is_site.true, pick_self)
 
-pub returns : goal.returns
+pub returns-else-is_site : goal.returns-else-is_site
 unfolding counters_ok
-returns c = simp (sym c.is_site.ensures ∙ c.if-not-is_site.false, pick_self)
+returns-else-is_site c = c.if-is_site.false ∙ simp (sym c.is_site.ensures ∙ c.if-is_site.false)

@@ -1,9 +1,7 @@
 -- The entries passed are good, and one that is not ends the loop.
-use Prim.Native.Nat.{◌-◌, ◌≤◌}
 use lib.Dec.{ltb}
 use lib.ListN.{get_or}
 use Rattle.laws.specs.Scan.{EachBelow}
-use Rattle.kinds.specs.Sizes as sizes
 use Rattle.kinds.specs.State.{past_entry}
 use Rattle.rules.specs.History.{remembered}
 use Rattle.rules.specs.Valid.{slot_ok}
@@ -11,8 +9,5 @@ use Rattle.lent.specs.Layout.{history_of}
 use Rattle.valid.proofs.history_ok.Given as goal
 
 abbrev pub invariant-loop-i : goal.invariant-loop-i
-invariant-loop-i l = (l.i ≤ sizes.history)
-    × EachBelow (λ j. slot_ok l.o l.own (ltb j (remembered l.installs)) (get_or (history_of l.h) j past_entry)) l.i
-
-abbrev pub decreases-loop-i : goal.decreases-loop-i
-decreases-loop-i l = sizes.history - l.i
+invariant-loop-i l =
+    EachBelow (λ j. slot_ok l.o l.own (ltb j (remembered l.installs)) (get_or (history_of l.h) j past_entry)) l.i

@@ -1,21 +1,39 @@
 -- The array holds the candidates, prepared ones and then installs, and the join of what it holds is the list.
-use Prim.Native.Nat.{ℕ, ◌+◌, ◌*◌, ◌-◌, ◌<◌}
-use lib.ListN.{drop, length-drop, length-take, replicate, take}
-use mathlib.Core.List.{◌++◌}
-use mathlib.Core.Path.{◌∙◌, ap, refl}
-use native.Mathlib.Omega.{arith}
+use Rattle.std.proofs.Common.{◌≡◌, ℕ, ◌+◌, ◌*◌, ◌-◌, ◌<◌, List, ◌++◌, replicate, take, drop, length-take, length-drop, refl, ap, ◌∙◌, arith}
+use Rattle.laws.specs.Overlay.{overlay}
 use Rattle.kinds.specs.Sizes as sizes
 use Rattle.kinds.specs.declared.Site.{Site}
 use Rattle.kinds.specs.declared.Sub.{Sub}
-use Rattle.rules.specs.Certify.{concurrent}
-use Rattle.rules.specs.History.{within}
+use Rattle.kinds.specs.State.{sub_at}
+use Rattle.rules.specs.Certify.{concurrent, prepared_list, installed_list}
+use Rattle.rules.specs.History.{remembered, within}
 use Rattle.rules.specs.HistoryLaws.{within_remembered}
 use Rattle.lent.specs.Laws.{lent_lengths}
 use Rattle.lent.specs.Lent.{site_of}
 use Rattle.certify.specs.Leaves.{part_few}
-use Rattle.certify.specs.Asks.{part_in, slot_in}
+use Rattle.certify.specs.Asks.{Entered, part_in, slot_in}
 use Rattle.certify.specs.Gather.{Gathered, Since, gather, prepared_below}
 use Rattle.certify.proofs.list.concurrent.Goals as goal
+
+-- words of the array: room for every candidate
+abbrev room : ℕ
+room = sizes.entry * (sizes.live + sizes.history)
+
+gathered : (s : Site) (place : ℕ) (b : Sub) (n m seen : ℕ) (xs ys : List ℕ) → place < sizes.live → b ≡ sub_at s place
+    → seen ≡ within s.counters.installs b.snapshot → Entered (replicate room 0) (prepared_list s.live place sizes.live) n xs
+    → m ≡ remembered s.counters.installs - seen
+    → ys
+    ≡ overlay (take (room - sizes.entry * n) (drop (sizes.entry * n) xs))
+    (installed_list s.history s.counters.installs b.keys seen m)
+    → Gathered s place n m (take (sizes.entry * n) xs ++ (ys ++ drop (room - sizes.entry * n) (drop (sizes.entry * n) xs)))
+gathered s place b n m seen xs ys low is early x q y =
+    let since : Since s place b.keys seen =
+    record {
+      low = low;
+      keys = ap (λ (x : Sub). x.keys) is;
+      early = early ∙ ap (λ (x : Sub). within s.counters.installs x.snapshot) is;
+    } in
+    gather s place n m b.keys seen (replicate room 0) xs ys room refl refl since x q y
 
 pub part_at-b-requires : goal.part_at-b-requires
 part_at-b-requires c =
@@ -28,90 +46,87 @@ prepared_list-n-requires c =
     record { low = c.requires.low; room = omega arith; parts = part_in a.p a.live.now a.history.now c.requires.valid }
 
 pub overflow_mul-at : goal.overflow_mul-at
-overflow_mul-at c =
-    let few : c.prepared_list-n.result < sizes.live = prepared_below _ _ _ c.requires.low c.prepared_list-n.ensures.long in
-    omega (arith, few)
+overflow_mul-at c = omega (arith, prepared_below _ _ _ c.requires.low c.prepared_list-n.ensures.long)
 
 pub offset_bounds-all-at : goal.offset_bounds-all-at
-offset_bounds-all-at c =
-    let few : c.prepared_list-n.result < sizes.live = prepared_below _ _ _ c.requires.low c.prepared_list-n.ensures.long in
-    omega (arith, few)
+offset_bounds-all-at c = omega (arith, prepared_below _ _ _ c.requires.low c.prepared_list-n.ensures.long)
 
 pub slice_bounds-installed_list-count : goal.slice_bounds-installed_list-count
-slice_bounds-installed_list-count c =
-    let few : c.prepared_list-n.result < sizes.live = prepared_below _ _ _ c.requires.low c.prepared_list-n.ensures.long in
-    omega (arith, few)
+slice_bounds-installed_list-count c = omega (arith, prepared_below _ _ _ c.requires.low c.prepared_list-n.ensures.long)
 
 pub slice_bounds-all-start : goal.slice_bounds-all-start
-slice_bounds-all-start c =
-    let few : c.prepared_list-n.result < sizes.live = prepared_below _ _ _ c.requires.low c.prepared_list-n.ensures.long in
-    omega (arith, few)
+slice_bounds-all-start c = omega (arith, prepared_below _ _ _ c.requires.low c.prepared_list-n.ensures.long)
 
 pub installed_list-m-requires : goal.installed_list-m-requires
 installed_list-m-requires c =
-    let site : Site = site_of c.args.p c.args.live.now c.args.history.now in
-    let few : c.prepared_list-n.result < sizes.live = prepared_below _ _ _ c.requires.low c.prepared_list-n.ensures.long in
     let a = c.args in
     let b = c.part_at-b in
-    let n = few in
-    record { early = omega (arith, c.within-seen.ensures, within_remembered a.p.counters.installs b.result.snapshot); room = simp (length-take, length-drop) (omega (arith, c.prepared_list-n.auto.out)); few_own = rw b.ensures (part_few site c.requires.valid a.place c.requires.low); slots = slot_in a.p a.live.now a.history.now c.requires.valid }
-
--- words of the array: room for every candidate
-abbrev room : ℕ
-room = sizes.entry * (sizes.live + sizes.history)
+    let n = prepared_below _ _ _ c.requires.low c.prepared_list-n.ensures.long in
+    record {
+      early = omega (arith, c.within-seen.ensures, within_remembered a.p.counters.installs b.result.snapshot);
+      room = simp (length-take, length-drop) (omega (arith, c.prepared_list-n.auto.out));
+      few_own = rw b.ensures (part_few (site_of a.p a.live.now a.history.now) c.requires.valid a.place c.requires.low);
+      slots = slot_in a.p a.live.now a.history.now c.requires.valid;
+    }
 
 pub overflow_add-end : goal.overflow_add-end
 overflow_add-end c =
-    let site : Site = site_of c.args.p c.args.live.now c.args.history.now in
-    let since : Since site c.args.place c.part_at-b.result.keys c.within-seen.result = let b = c.part_at-b.ensures in let installs = c.args.p.counters.installs in record { low = c.requires.low; keys = ap (λ (x : Sub). x.keys) b; early = c.within-seen.ensures ∙ ap (λ (x : Sub). within installs x.snapshot) b } in
-    let gathered : (let n = c.prepared_list-n.result in let xs = c.prepared_list-n.new.out in Gathered site c.args.place n c.installed_list-m.result (take (sizes.entry * n) xs ++ (c.installed_list-m.new.out ++ drop (room - sizes.entry * n) (drop (sizes.entry * n) xs)))) = let before = c.prepared_list-n in let e = c.installed_list-m.ensures in gather site c.args.place before.result c.installed_list-m.result c.part_at-b.result.keys c.within-seen.result (replicate room 0) before.new.out c.installed_list-m.new.out room refl refl since before.ensures e.value e.out_after in
-    omega (arith, gathered.few)
+    let site = site_of c.args.p c.args.live.now c.args.history.now in
+    let e = c.prepared_list-n.ensures in
+    let m = c.installed_list-m.ensures in
+    let g = gathered site _ _ _ _ _ _ _ c.requires.low c.part_at-b.ensures c.within-seen.ensures e m.value m.out_after in
+    omega (arith, g.few)
 
 pub overflow_mul-end : goal.overflow_mul-end
 overflow_mul-end c =
-    let site : Site = site_of c.args.p c.args.live.now c.args.history.now in
-    let since : Since site c.args.place c.part_at-b.result.keys c.within-seen.result = let b = c.part_at-b.ensures in let installs = c.args.p.counters.installs in record { low = c.requires.low; keys = ap (λ (x : Sub). x.keys) b; early = c.within-seen.ensures ∙ ap (λ (x : Sub). within installs x.snapshot) b } in
-    let gathered : (let n = c.prepared_list-n.result in let xs = c.prepared_list-n.new.out in Gathered site c.args.place n c.installed_list-m.result (take (sizes.entry * n) xs ++ (c.installed_list-m.new.out ++ drop (room - sizes.entry * n) (drop (sizes.entry * n) xs)))) = let before = c.prepared_list-n in let e = c.installed_list-m.ensures in gather site c.args.place before.result c.installed_list-m.result c.part_at-b.result.keys c.within-seen.result (replicate room 0) before.new.out c.installed_list-m.new.out room refl refl since before.ensures e.value e.out_after in
-    omega (arith, gathered.few)
+    let site = site_of c.args.p c.args.live.now c.args.history.now in
+    let e = c.prepared_list-n.ensures in
+    let m = c.installed_list-m.ensures in
+    let g = gathered site _ _ _ _ _ _ _ c.requires.low c.part_at-b.ensures c.within-seen.ensures e m.value m.out_after in
+    omega (arith, g.few)
 
 pub slice_bounds-all-end-2 : goal.slice_bounds-all-end-2
 slice_bounds-all-end-2 c =
-    let site : Site = site_of c.args.p c.args.live.now c.args.history.now in
-    let since : Since site c.args.place c.part_at-b.result.keys c.within-seen.result = let b = c.part_at-b.ensures in let installs = c.args.p.counters.installs in record { low = c.requires.low; keys = ap (λ (x : Sub). x.keys) b; early = c.within-seen.ensures ∙ ap (λ (x : Sub). within installs x.snapshot) b } in
-    let gathered : (let n = c.prepared_list-n.result in let xs = c.prepared_list-n.new.out in Gathered site c.args.place n c.installed_list-m.result (take (sizes.entry * n) xs ++ (c.installed_list-m.new.out ++ drop (room - sizes.entry * n) (drop (sizes.entry * n) xs)))) = let before = c.prepared_list-n in let e = c.installed_list-m.ensures in gather site c.args.place before.result c.installed_list-m.result c.part_at-b.result.keys c.within-seen.result (replicate room 0) before.new.out c.installed_list-m.new.out room refl refl since before.ensures e.value e.out_after in
-    let g = gathered in
+    let site = site_of c.args.p c.args.live.now c.args.history.now in
+    let e = c.prepared_list-n.ensures in
+    let m = c.installed_list-m.ensures in
+    let g = gathered site _ _ _ _ _ _ _ c.requires.low c.part_at-b.ensures c.within-seen.ensures e m.value m.out_after in
     omega arith
 
 pub slice_bounds-join-end : goal.slice_bounds-join-end
 slice_bounds-join-end c =
-    let site : Site = site_of c.args.p c.args.live.now c.args.history.now in
-    let since : Since site c.args.place c.part_at-b.result.keys c.within-seen.result = let b = c.part_at-b.ensures in let installs = c.args.p.counters.installs in record { low = c.requires.low; keys = ap (λ (x : Sub). x.keys) b; early = c.within-seen.ensures ∙ ap (λ (x : Sub). within installs x.snapshot) b } in
-    let gathered : (let n = c.prepared_list-n.result in let xs = c.prepared_list-n.new.out in Gathered site c.args.place n c.installed_list-m.result (take (sizes.entry * n) xs ++ (c.installed_list-m.new.out ++ drop (room - sizes.entry * n) (drop (sizes.entry * n) xs)))) = let before = c.prepared_list-n in let e = c.installed_list-m.ensures in gather site c.args.place before.result c.installed_list-m.result c.part_at-b.result.keys c.within-seen.result (replicate room 0) before.new.out c.installed_list-m.new.out room refl refl since before.ensures e.value e.out_after in
-    let g = gathered in
+    let site = site_of c.args.p c.args.live.now c.args.history.now in
+    let e = c.prepared_list-n.ensures in
+    let m = c.installed_list-m.ensures in
+    let g = gathered site _ _ _ _ _ _ _ c.requires.low c.part_at-b.ensures c.within-seen.ensures e m.value m.out_after in
     simp length-take (omega arith)
 
 pub overflow_add-n : goal.overflow_add-n
 overflow_add-n c =
-    let site : Site = site_of c.args.p c.args.live.now c.args.history.now in
-    let since : Since site c.args.place c.part_at-b.result.keys c.within-seen.result = let b = c.part_at-b.ensures in let installs = c.args.p.counters.installs in record { low = c.requires.low; keys = ap (λ (x : Sub). x.keys) b; early = c.within-seen.ensures ∙ ap (λ (x : Sub). within installs x.snapshot) b } in
-    let gathered : (let n = c.prepared_list-n.result in let xs = c.prepared_list-n.new.out in Gathered site c.args.place n c.installed_list-m.result (take (sizes.entry * n) xs ++ (c.installed_list-m.new.out ++ drop (room - sizes.entry * n) (drop (sizes.entry * n) xs)))) = let before = c.prepared_list-n in let e = c.installed_list-m.ensures in gather site c.args.place before.result c.installed_list-m.result c.part_at-b.result.keys c.within-seen.result (replicate room 0) before.new.out c.installed_list-m.new.out room refl refl since before.ensures e.value e.out_after in
-    omega (arith, gathered.few)
+    let site = site_of c.args.p c.args.live.now c.args.history.now in
+    let e = c.prepared_list-n.ensures in
+    let m = c.installed_list-m.ensures in
+    let g = gathered site _ _ _ _ _ _ _ c.requires.low c.part_at-b.ensures c.within-seen.ensures e m.value m.out_after in
+    omega (arith, g.few)
 
 pub join-requires : goal.join-requires
 join-requires c =
-    let site : Site = site_of c.args.p c.args.live.now c.args.history.now in
-    let since : Since site c.args.place c.part_at-b.result.keys c.within-seen.result = let b = c.part_at-b.ensures in let installs = c.args.p.counters.installs in record { low = c.requires.low; keys = ap (λ (x : Sub). x.keys) b; early = c.within-seen.ensures ∙ ap (λ (x : Sub). within installs x.snapshot) b } in
-    let gathered : (let n = c.prepared_list-n.result in let xs = c.prepared_list-n.new.out in Gathered site c.args.place n c.installed_list-m.result (take (sizes.entry * n) xs ++ (c.installed_list-m.new.out ++ drop (room - sizes.entry * n) (drop (sizes.entry * n) xs)))) = let before = c.prepared_list-n in let e = c.installed_list-m.ensures in gather site c.args.place before.result c.installed_list-m.result c.part_at-b.result.keys c.within-seen.result (replicate room 0) before.new.out c.installed_list-m.new.out room refl refl since before.ensures e.value e.out_after in
-    let g = gathered in
+    let site = site_of c.args.p c.args.live.now c.args.history.now in
+    let e = c.prepared_list-n.ensures in
+    let m = c.installed_list-m.ensures in
+    let g = gathered site _ _ _ _ _ _ _ c.requires.low c.part_at-b.ensures c.within-seen.ensures e m.value m.out_after in
     let long = c.requires.room in
     (omega arith, (simp length-take (omega arith), omega arith))
 
 pub returns : goal.returns
 unfolding concurrent
 returns c =
-    let site : Site = site_of c.args.p c.args.live.now c.args.history.now in
-    let since : Since site c.args.place c.part_at-b.result.keys c.within-seen.result = let b = c.part_at-b.ensures in let installs = c.args.p.counters.installs in record { low = c.requires.low; keys = ap (λ (x : Sub). x.keys) b; early = c.within-seen.ensures ∙ ap (λ (x : Sub). within installs x.snapshot) b } in
-    let gathered : (let n = c.prepared_list-n.result in let xs = c.prepared_list-n.new.out in Gathered site c.args.place n c.installed_list-m.result (take (sizes.entry * n) xs ++ (c.installed_list-m.new.out ++ drop (room - sizes.entry * n) (drop (sizes.entry * n) xs)))) = let before = c.prepared_list-n in let e = c.installed_list-m.ensures in gather site c.args.place before.result c.installed_list-m.result c.part_at-b.result.keys c.within-seen.result (replicate room 0) before.new.out c.installed_list-m.new.out room refl refl since before.ensures e.value e.out_after in
-    let g = gathered in
+    let site = site_of c.args.p c.args.live.now c.args.history.now in
+    let e = c.prepared_list-n.ensures in
+    let m = c.installed_list-m.ensures in
+    let g = gathered site _ _ _ _ _ _ _ c.requires.low c.part_at-b.ensures c.within-seen.ensures e m.value m.out_after in
     let j = c.join.ensures in
-    record { fact = (omega arith, rw (← g.count, ← g.are) j.upper_bound.1); out_after = rw (← g.count, ← g.are) j.out_after }
+    record {
+      fact = (omega arith, rw (← g.count, ← g.are) j.upper_bound.1);
+      out_after = rw (← g.count, ← g.are) j.out_after;
+    }

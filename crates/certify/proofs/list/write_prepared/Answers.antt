@@ -1,12 +1,8 @@
 -- Nothing is written for the part itself or for one that is not prepared, and one entry for another: its seat and its words.
 use borrow.Author.Tests.{eq-eqb, ne_eqb}
-use lib.Dec.{eqb}
-use mathlib.Core.Bool.{false}
-use mathlib.Core.Path.{◌∙◌, ◌≡◌, sym}
-use Prim.Native.Nat.{◌*◌}
+use mathlib.Core.Path.{◌∙◌, sym}
 use native.Mathlib.Omega.{arith}
 use Rattle.laws.specs.Overlay.{overlay_none}
-use Rattle.kinds.specs.Sizes as sizes
 use Rattle.rules.specs.Certify.{prepared_words}
 use Rattle.rules.specs.Live.{is_prepared}
 use Rattle.lent.specs.Layout.{sub_from}
@@ -22,10 +18,8 @@ returns-then-i-place c =
 pub returns-then-not-is_prepared : goal.returns-then-not-is_prepared
 unfolding prepared_words is_prepared sub_from
 returns-then-not-is_prepared c =
-    let another : (let a = c.args in eqb a.i a.place ≡ false) = let a = c.args in ne_eqb a.i a.place c.if-i-place.false in
-    let tells : (let a = c.args in is_prepared (sub_from a.a a.live.now (sizes.place * a.i)) ≡ c.is_prepared.result) = sym c.is_prepared.ensures in
-    let e = another in
-    let f = tells ∙ c.if-not-is_prepared.true in
+    let e = ne_eqb c.args.i c.args.place c.if-i-place.false in
+    let f = sym c.is_prepared.ensures ∙ c.if-not-is_prepared.true in
     record { upper_bound = omega arith; fact = record { long = rw (e, f); are = rw (e, f) (overlay_none _) } }
 
 pub write_concurrent-requires : goal.write_concurrent-requires
@@ -36,9 +30,7 @@ write_concurrent-requires c =
 pub returns : goal.returns
 unfolding prepared_words sub_from is_prepared
 returns c =
-    let another : (let a = c.args in eqb a.i a.place ≡ false) = let a = c.args in ne_eqb a.i a.place c.if-i-place.false in
-    let tells : (let a = c.args in is_prepared (sub_from a.a a.live.now (sizes.place * a.i)) ≡ c.is_prepared.result) = sym c.is_prepared.ensures in
-    let e = another in
-    let f = tells ∙ c.if-not-is_prepared.false in
+    let e = ne_eqb c.args.i c.args.place c.if-i-place.false in
+    let f = sym c.is_prepared.ensures ∙ c.if-not-is_prepared.false in
     let are = rw c.keys_at-keys.ensures at c.write_concurrent.ensures in
     record { upper_bound = omega arith; fact = record { long = rw (e, f); are = rw (e, f) are } }

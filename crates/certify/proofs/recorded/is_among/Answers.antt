@@ -1,20 +1,16 @@
-use borrow.Author.Count.{below_more}
-use borrow.Author.Rules.{rules}
-use borrow.Author.Tests.{eq-eqb, ne_eqb}
-use Rattle.certify.specs.Leaves.{among}
-use Rattle.laws.specs.Scan.{any_below_lem, any_end, none_none}
+-- What the search of the first n answers.
+use Rattle.std.proofs.Common.{◌≡◌, ℕ, ◌≤◌, Bool, List, length, take, eqb, ◌∙◌}
+use Rattle.std.proofs.lemmas.List.{get_or-take, length-take-le}
+use Rattle.std.specs.List.{IsAnyAnswer}
+use Rattle.laws.proofs.Searches.{some_found}
+use Rattle.certify.specs.Leaves.{among, any_same}
 use Rattle.certify.proofs.recorded.is_among.Goals as goal
 
-pub loop-i-init : goal.loop-i-init
-loop-i-init c = (search rules, none_none _)
-
-pub returns-then-txs-i : goal.returns-then-txs-i
+found : (txs : List ℕ) (n tx : ℕ) (r : Bool) → n ≤ length txs → IsAnyAnswer (λ y r. eqb y tx ≡ r) (take n txs) r → r ≡ among txs n tx
 unfolding among
-returns-then-txs-i c = any_below_lem _ _ c.loop-i.i c.loop-i-test.true (eq-eqb _ _ c.if-txs-i.true)
-
-pub loop-i-preserved : goal.loop-i-preserved
-loop-i-preserved c = (search rules, below_more _ _ c.loop-i.invariant.1 (ne_eqb _ _ c.if-txs-i.false))
+found txs n tx r few told =
+    let long : length (take n txs) ≡ n = length-take-le n txs few in
+    rw long at (some_found (λ y. eqb y tx) (take n txs) 0 r told) ∙ any_same _ _ n (λ i l. rw (get_or-take n txs i 0 l))
 
 pub returns : goal.returns
-unfolding among
-returns c = any_end _ _ _ c.loop-i-test.false c.loop-i.invariant.1
+returns c = found _ _ _ _ c.requires c.contains.ensures.cases

@@ -14,4 +14,11 @@ unfolding recall_place
 returns c =
     let a = c.args in
     let e = c.remembered_txs.ensures in
-    record { upper_bound = e.upper_bound; by_index = λ w tx. let past = any_recalled (history_of a.history.now) a.installs tx (remembered a.installs) in e.by_index tx ∙ rw (c.held_txs-n.ensures.by_index tx, seats_hold a.seats w tx, first_any) (or_two (any_below (λ i. is_seat_of (seat_at a.seats i) tx) sizes.live) past) }
+    record {
+      upper_bound = e.upper_bound;
+      by_index = λ w tx.
+          let past = any_recalled (history_of a.history.now) a.installs tx (remembered a.installs) in
+          e.by_index tx
+          ∙ rw (c.held_txs-n.ensures.by_index tx, seats_hold a.seats w tx, first_any)
+          (or_two (any_below (λ i. is_seat_of (seat_at a.seats i) tx) sizes.live) past);
+    }

@@ -1,12 +1,8 @@
 -- No entry passed names this site without a record, and one that does ends the loop.
-use Prim.Native.Nat.{◌-◌, ◌≤◌}
 use Rattle.laws.specs.Scan.{NoneBelow}
 use Rattle.rules.specs.Message.{entry_mask, entry_tx}
 use Rattle.certify.specs.Leaves.{unrecorded}
 use Rattle.certify.proofs.vote.any_unrecorded.Given as goal
 
 abbrev pub invariant-loop-i : goal.invariant-loop-i
-invariant-loop-i l = (l.i ≤ l.n) × NoneBelow (λ j. unrecorded l.txs l.m l.own (entry_tx l.es j) (entry_mask l.es j)) l.i
-
-abbrev pub decreases-loop-i : goal.decreases-loop-i
-decreases-loop-i l = l.n - l.i
+invariant-loop-i l = NoneBelow (λ j. unrecorded l.txs l.m l.own (entry_tx l.es j) (entry_mask l.es j)) l.i

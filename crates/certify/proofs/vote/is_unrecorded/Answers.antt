@@ -1,14 +1,10 @@
 -- Both tests: it names this site, and is not among those on record.
-use mathlib.Core.Path.{◌∙◌, sym}
+use Rattle.std.proofs.Common.{sym, ◌∙◌}
 use Rattle.laws.specs.Choice.{pick_self}
 use Rattle.certify.proofs.vote.is_unrecorded.Goals as goal
 
-pub returns-then-not-in_mask : goal.returns-then-not-in_mask
-returns-then-not-in_mask c =
-    let named = c.in_mask in
-    rw (sym named.ensures ∙ c.if-not-in_mask.true)
+pub returns-then-in_mask : goal.returns-then-in_mask
+returns-then-in_mask c = rw (sym c.in_mask.ensures ∙ c.if-in_mask.true, ← c.is_among.ensures) (sym (pick_self _))
 
-pub returns : goal.returns
-returns c =
-    let named = c.in_mask in
-    rw (sym named.ensures ∙ c.if-not-in_mask.false, ← c.is_among.ensures) (sym (pick_self _))
+pub returns-else-in_mask : goal.returns-else-in_mask
+returns-else-in_mask c = c.if-in_mask.false ∙ rw (sym c.in_mask.ensures ∙ c.if-in_mask.false)

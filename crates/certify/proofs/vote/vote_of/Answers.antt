@@ -1,11 +1,8 @@
 -- Conflicts are sought by install instead of by entry, doubts against the gathered transactions: both find the same.
-use mathlib.Core.Path.{◌∙◌, ◌≡◌, sym}
-use native.Mathlib.Omega.{arith}
-use Rattle.laws.specs.Scan.{any_below}
-use Rattle.kinds.specs.declared.Site.{Site}
-use Rattle.rules.specs.Certify.{conflicts_with, is_recorded, uncertain_of, vote_of}
+use Rattle.std.proofs.Common.{sym, ◌∙◌, arith}
+use Rattle.rules.specs.Certify.{is_recorded, vote_of}
 use Rattle.rules.specs.ValidLaws.{valid_own}
-use Rattle.lent.specs.Laws.{Lengths, lent_lengths}
+use Rattle.lent.specs.Laws.{lent_lengths}
 use Rattle.lent.specs.Lent.{site_of}
 use Rattle.certify.specs.Leaves.{none_uncertain, uncertain_by_record}
 use Rattle.certify.specs.Asks.{conflicts_in, part_in, slot_in}
@@ -25,54 +22,73 @@ offset_bounds-live-at c = omega (arith, c.requires.low)
 
 pub bounds-live-at : goal.bounds-live-at
 bounds-live-at c =
-    let lengths : Lengths c.args.live.now c.args.history.now = lent_lengths c.args.p c.args.live.now c.args.history.now c.requires.valid in
-    omega (arith, c.requires.low, lengths.live)
+    omega (arith, c.requires.low, (lent_lengths c.args.p c.args.live.now c.args.history.now c.requires.valid).live)
 
 pub any_conflict-requires : goal.any_conflict-requires
 any_conflict-requires c =
     let a = c.args in
     let pre = c.requires in
-    record { entries = pre.entries; part = part_in a.p a.live.now a.history.now pre.valid a.place pre.low; slots = slot_in a.p a.live.now a.history.now pre.valid }
+    record {
+      entries = pre.entries;
+      part = part_in a.p a.live.now a.history.now pre.valid a.place pre.low;
+      slots = slot_in a.p a.live.now a.history.now pre.valid;
+    }
 
 pub returns-then-any_conflict : goal.returns-then-any_conflict
 unfolding vote_of
 returns-then-any_conflict c =
-    let site : Site = site_of c.args.p c.args.live.now c.args.history.now in
-    let conflicts : (let a = c.args in any_below (conflicts_with site a.place a.es.now) a.n ≡ c.any_conflict.result) = let a = c.args in conflicts_in a.p a.live.now a.history.now a.place a.es.now a.n c.requires.low ∙ sym c.any_conflict.ensures in
-    rw (conflicts, c.if-any_conflict.true)
+    let a = c.args in
+    let conflicts = conflicts_in a.p a.live.now a.history.now a.place a.es.now a.n c.requires.low in
+    rw (conflicts ∙ sym c.any_conflict.ensures ∙ c.if-any_conflict.true)
 
 pub returns-then-forgotten-eq0 : goal.returns-then-forgotten-eq0
 unfolding vote_of
 returns-then-forgotten-eq0 c =
-    let site : Site = site_of c.args.p c.args.live.now c.args.history.now in
-    let conflicts : (let a = c.args in any_below (conflicts_with site a.place a.es.now) a.n ≡ c.any_conflict.result) = let a = c.args in conflicts_in a.p a.live.now a.history.now a.place a.es.now a.n c.requires.low ∙ sym c.any_conflict.ensures in
     let a = c.args in
+    let site = site_of a.p a.live.now a.history.now in
+    let conflicts = conflicts_in a.p a.live.now a.history.now a.place a.es.now a.n c.requires.low in
     let none = none_uncertain site a.es.now a.n (sym c.forgotten.ensures ∙ c.if-forgotten-eq0.true) in
-    rw (conflicts, c.if-any_conflict.false, none)
+    rw (conflicts ∙ sym c.any_conflict.ensures ∙ c.if-any_conflict.false, none)
 
 pub recorded_txs-m-requires : goal.recorded_txs-m-requires
 recorded_txs-m-requires c =
-    let lengths : Lengths c.args.live.now c.args.history.now = lent_lengths c.args.p c.args.live.now c.args.history.now c.requires.valid in
-    record { room = omega arith; long = lengths.history }
+    let long = (lent_lengths c.args.p c.args.live.now c.args.history.now c.requires.valid).history in
+    record { room = omega arith; long = long }
 
 pub any_unrecorded-requires : goal.any_unrecorded-requires
 any_unrecorded-requires c =
-    let site : Site = site_of c.args.p c.args.live.now c.args.history.now in
-    let own = valid_own site c.requires.valid in
-    record { entries = c.requires.entries; recorded = omega (arith, c.recorded_txs-m.ensures.upper_bound, c.recorded_txs-m.auto.txs); own_low = own.0; own_high = own.1 }
+    let own = valid_own (site_of c.args.p c.args.live.now c.args.history.now) c.requires.valid in
+    record {
+      entries = c.requires.entries;
+      recorded = omega (arith, c.recorded_txs-m.ensures.upper_bound, c.recorded_txs-m.auto.txs);
+      own_low = own.0;
+      own_high = own.1;
+    }
 
 pub returns-then-any_unrecorded : goal.returns-then-any_unrecorded
 unfolding vote_of is_recorded
 returns-then-any_unrecorded c =
-    let site : Site = site_of c.args.p c.args.live.now c.args.history.now in
-    let conflicts : (let a = c.args in any_below (conflicts_with site a.place a.es.now) a.n ≡ c.any_conflict.result) = let a = c.args in conflicts_in a.p a.live.now a.history.now a.place a.es.now a.n c.requires.low ∙ sym c.any_conflict.ensures in
-    let doubts : (any_below (uncertain_of site c.args.es.now) c.args.n ≡ c.any_unrecorded.result) = let a = c.args in let e = c.recorded_txs-m.ensures in uncertain_by_record site a.es.now a.n c.recorded_txs-m.new.txs c.recorded_txs-m.result (λ z. c.if-forgotten-eq0.false (c.forgotten.ensures ∙ z)) (e.by_index a.live.now) ∙ sym c.any_unrecorded.ensures in
-    rw (conflicts, c.if-any_conflict.false, doubts, c.if-any_unrecorded.true)
+    let a = c.args in
+    let site = site_of a.p a.live.now a.history.now in
+    let conflicts = conflicts_in a.p a.live.now a.history.now a.place a.es.now a.n c.requires.low in
+    let m = c.recorded_txs-m in
+    let some = λ (z : _). c.if-forgotten-eq0.false (c.forgotten.ensures ∙ z) in
+    let doubts = uncertain_by_record site a.es.now a.n m.new.txs m.result some (m.ensures.by_index a.live.now) in
+    rw (
+      conflicts ∙ sym c.any_conflict.ensures ∙ c.if-any_conflict.false,
+      doubts ∙ sym c.any_unrecorded.ensures ∙ c.if-any_unrecorded.true,
+    )
 
 pub returns : goal.returns
 unfolding vote_of is_recorded
 returns c =
-    let site : Site = site_of c.args.p c.args.live.now c.args.history.now in
-    let conflicts : (let a = c.args in any_below (conflicts_with site a.place a.es.now) a.n ≡ c.any_conflict.result) = let a = c.args in conflicts_in a.p a.live.now a.history.now a.place a.es.now a.n c.requires.low ∙ sym c.any_conflict.ensures in
-    let doubts : (any_below (uncertain_of site c.args.es.now) c.args.n ≡ c.any_unrecorded.result) = let a = c.args in let e = c.recorded_txs-m.ensures in uncertain_by_record site a.es.now a.n c.recorded_txs-m.new.txs c.recorded_txs-m.result (λ z. c.if-forgotten-eq0.false (c.forgotten.ensures ∙ z)) (e.by_index a.live.now) ∙ sym c.any_unrecorded.ensures in
-    rw (conflicts, c.if-any_conflict.false, doubts, c.if-any_unrecorded.false)
+    let a = c.args in
+    let site = site_of a.p a.live.now a.history.now in
+    let conflicts = conflicts_in a.p a.live.now a.history.now a.place a.es.now a.n c.requires.low in
+    let m = c.recorded_txs-m in
+    let some = λ (z : _). c.if-forgotten-eq0.false (c.forgotten.ensures ∙ z) in
+    let doubts = uncertain_by_record site a.es.now a.n m.new.txs m.result some (m.ensures.by_index a.live.now) in
+    rw (
+      conflicts ∙ sym c.any_conflict.ensures ∙ c.if-any_conflict.false,
+      doubts ∙ sym c.any_unrecorded.ensures ∙ c.if-any_unrecorded.false,
+    )

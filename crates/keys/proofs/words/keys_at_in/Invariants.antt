@@ -1,5 +1,5 @@
--- The words passed are in the range, and one that is not ends the loop.
-use Rattle.std.proofs.Common.{◌+◌, ◌-◌, ◌≤◌, get_or}
+-- The words passed are in the range.
+use Rattle.std.proofs.Common.{◌+◌, get_or}
 use Rattle.laws.specs.Scan.{EachBelow}
 use Rattle.kinds.specs.Sizes as sizes
 use Rattle.rules.specs.House.{within}
@@ -7,7 +7,4 @@ use Rattle.lent.specs.Layout.{words_from}
 use Rattle.keys.proofs.words.keys_at_in.Given as goal
 
 abbrev pub invariant-loop-i : goal.invariant-loop-i
-invariant-loop-i l = (l.i ≤ l.n) × EachBelow (λ j. within l.first (l.first + l.count) (get_or (words_from l.w l.at sizes.writes) j 0)) l.i
-
-abbrev pub decreases-loop-i : goal.decreases-loop-i
-decreases-loop-i l = l.n - l.i
+invariant-loop-i l = EachBelow (λ j. within l.first (l.first + l.count) (get_or (words_from l.w l.at sizes.writes) j 0)) l.i

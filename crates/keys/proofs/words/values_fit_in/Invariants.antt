@@ -1,5 +1,5 @@
--- The values passed fit, and one that does not ends the loop.
-use Rattle.std.proofs.Common.{◌-◌, ◌≤◌, get_or}
+-- The values passed fit.
+use Rattle.std.proofs.Common.{get_or}
 use Rattle.laws.specs.Scan.{EachBelow}
 use Rattle.kinds.specs.Sizes as sizes
 use Rattle.kinds.specs.State.{fresh}
@@ -8,7 +8,4 @@ use Rattle.lent.specs.Layout.{values_from}
 use Rattle.keys.proofs.words.values_fit_in.Given as goal
 
 abbrev pub invariant-loop-i : goal.invariant-loop-i
-invariant-loop-i l = (l.i ≤ l.n) × EachBelow (λ j. fits (get_or (values_from l.w l.at sizes.writes) j fresh)) l.i
-
-abbrev pub decreases-loop-i : goal.decreases-loop-i
-decreases-loop-i l = l.n - l.i
+invariant-loop-i l = EachBelow (λ j. fits (get_or (values_from l.w l.at sizes.writes) j fresh)) l.i

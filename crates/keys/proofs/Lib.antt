@@ -1,0 +1,2 @@
+-- What a search of a list of keys answers.
+pub mod Places
