@@ -150,7 +150,7 @@ fn start_at(
     let b = place * LISTS;
     let x = place * LIVE_WORDS;
     let y = place * HISTORY_WORDS;
-    let o = store::start_site(
+    store::start_site(
         n,
         front(&firsts, n as usize),
         place as u64 + 1,
@@ -158,9 +158,8 @@ fn start_at(
         &mut history[y..y + HISTORY_WORDS],
         &mut base[a..a + BASE],
         &mut lists[b..b + LISTS],
-    );
-    let p = o.core;
-    p
+    )
+    .core
 }
 
 // Every site of a house. A place that the house lacks holds what a refused start hands back; no line goes there.
@@ -176,11 +175,8 @@ pub fn start_sites(
 {
     let first = start_at(house, 0, live, history, base, lists);
     let mut sites = [first; SITES];
-    let mut i: usize = 1;
-    while i < SITES {
-        let p = start_at(house, i, live, history, base, lists);
-        sites[i] = p;
-        i += 1;
+    for i in 1..SITES {
+        sites[i] = start_at(house, i, live, history, base, lists);
     }
     sites
 }

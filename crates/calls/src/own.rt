@@ -1,8 +1,7 @@
 // A line as the call of its site, which is lent its own words.
 ghost use Rattle.calls.specs.Calls.{OwnLeaves};
 
-use kinds::reason::MALFORMED;
-use kinds::{Core, Reply, Value};
+use kinds::{Core, Refusal, Reply, Value};
 use lines::Command;
 
 #[tactic(auto, unfolding(crate::specs::Calls::effect_of, crate::specs::Calls::base_left, crate::specs::Calls::lists_left))]
@@ -31,6 +30,6 @@ pub fn own_call(
         Command::Abandon(tx) => store::abandon(p, live, history, tx, out),
         Command::Install(_) => store::install(p, live, history, base, out),
         Command::Report(_) => store::report(p, live, history, out),
-        _ => shell::refused(p, MALFORMED),
+        _ => shell::refused(p, Refusal::Malformed),
     }
 }

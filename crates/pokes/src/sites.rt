@@ -3,9 +3,8 @@ ghost use Rattle.std.specs.Prelude.{◌+◌, ◌≤◌, ◌<◌};
 ghost use Rattle.kinds.specs.Sizes as sizes;
 
 use crate::houses::poke_house;
-use kinds::reason::{MALFORMED, UNKNOWN};
 use kinds::sizes::{GATHERED, HISTORY, KEYSET, LIVE, PLACE, SITES, SLOT, VALUE, WRITES};
-use kinds::{Answer, Channels, Core, Counters, Reply, Seat, word};
+use kinds::{Answer, Channels, Core, Counters, Refusal, Reply, Seat, word};
 use pieces::put;
 use verbs::{Line, verb};
 
@@ -183,9 +182,9 @@ fn done(p: Core) -> Reply {
     }
 }
 
-fn refused(p: Core, code: u64) -> Reply {
+fn refused(p: Core, cause: Refusal) -> Reply {
     Reply {
-        answer: Answer::Refused(code),
+        answer: Answer::Refused(cause.into()),
         words: 0,
         core: p,
     }
@@ -205,62 +204,47 @@ fn poke_counts(p: Core, field: u64, v: u64) -> Reply {
 // A word of the part at a place, if the field is one.
 fn put_part(live: &mut [u64], place: usize, field: u64, v: u64) {
     let i = place_word(field);
-    if LIVE <= place {
-        return;
+    if place < LIVE && i < PLACE {
+        put(live, PLACE * place + i, v);
     }
-    if PLACE <= i {
-        return;
-    }
-    put(live, PLACE * place + i, v);
 }
 
 // The seat or a word of the part of `tx`.
 fn poke_live(p: Core, live: &mut [u64], tx: u64, field: u64, v: u64) -> Reply {
-    let seats = p.seats;
-    let place = live::place_of(seats, tx);
-    if LIVE <= place {
-        return refused(p, UNKNOWN);
-    }
+    let Some(place) = live::place_of(p.seats, tx) else {
+        return refused(p, Refusal::Unknown);
+    };
     put_part(live, place, field, v);
-    let a = seats[place];
-    let b = seat(a, field, v);
     let mut q = p;
-    q.seats[place] = b;
+    q.seats[place] = seat(p.seats[place], field, v);
     done(q)
 }
 
 // A word of install n, or of where it would stand.
 fn poke_past(p: Core, history: &mut [u64], n: u64, field: u64, v: u64) -> Reply {
     if n == 0 {
-        return refused(p, MALFORMED);
+        return refused(p, Refusal::Malformed);
     }
     let slot = ((n - 1) % HISTORY as u64) as usize;
     let i = slot_word(field);
-    if SLOT <= i {
-        return done(p);
+    if i < SLOT {
+        put(history, SLOT * slot + i, v);
     }
-    put(history, SLOT * slot + i, v);
     done(p)
 }
 
 // A word of the gathered list of a place.
 fn put_listed(lists: &mut [u64], place: usize, i: u64, v: u64) {
-    if LIVE <= place {
-        return;
+    if place < LIVE && i < GATHERED as u64 {
+        put(lists, place * GATHERED + i as usize, v);
     }
-    if GATHERED as u64 <= i {
-        return;
-    }
-    put(lists, place * GATHERED + i as usize, v);
 }
 
 // A word of the gathered list of the part of `tx`.
 fn poke_list(p: Core, lists: &mut [u64], tx: u64, i: u64, v: u64) -> Reply {
-    let seats = p.seats;
-    let place = live::place_of(seats, tx);
-    if LIVE <= place {
-        return refused(p, UNKNOWN);
-    }
+    let Some(place) = live::place_of(p.seats, tx) else {
+        return refused(p, Refusal::Unknown);
+    };
     put_listed(lists, place, i, v);
     done(p)
 }
@@ -278,6 +262,6 @@ pub fn poke_site(
         verb::LIVE => poke_live(p, live, l.b, l.c, l.d),
         verb::PAST => poke_past(p, history, l.b, l.c, l.d),
         verb::LIST => poke_list(p, lists, l.b, l.c, l.d),
-        _ => refused(p, MALFORMED),
+        _ => refused(p, Refusal::Malformed),
     }
 }

@@ -54,7 +54,14 @@ fn none(v: u64) -> Group {
 fn one(v: u64) -> Group {
     match v {
         verb::HOUSE => Group::House,
-        verb::ROOM | verb::PLACES | verb::SLOTS | verb::BASE | verb::LISTS | verb::QUEUES | verb::COPIES | verb::TABLES => Group::Lent,
+        verb::ROOM
+        | verb::PLACES
+        | verb::SLOTS
+        | verb::BASE
+        | verb::LISTS
+        | verb::QUEUES
+        | verb::COPIES
+        | verb::TABLES => Group::Lent,
         verb::BEGIN | verb::MESSAGE | verb::INSTALL | verb::REPORT => Group::Site,
         verb::OPEN => Group::Merger,
         verb::REPLAY | verb::BLANK => Group::Copy,
