@@ -10,6 +10,7 @@ ghost use Rattle.lent.specs.Lent.{site_of, Replied};
 use kinds::kind::STATE;
 use kinds::{Answer, Core, RecordHead, Refusal, Reply, sizes};
 
+// The first cause against a report.
 fn check_report(p: Core, live: &[u64], history: &[u64], room: usize) -> Result<(), Refusal>
     ensures { refusal_in result ≡ report_code (site_ok (site_of p live.now history.now)) room }
 {

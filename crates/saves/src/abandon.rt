@@ -13,6 +13,7 @@ use kinds::reason::ABANDONED;
 use kinds::stage::DECIDED;
 use kinds::{Core, Refusal, Reply, Turn};
 
+// The first cause against the abandon of a part.
 fn check_abandon(t: Turn) -> Result<(), Refusal>
     ensures { refusal_in result ≡ abandon_code_at t }
 {

@@ -22,6 +22,7 @@ use kinds::{Core, Refusal, Reply, Taken, Turn};
 // The words of a site's own list: all other live and all remembered.
 const LIST: usize = ENTRY * (LIVE + HISTORY);
 
+// The first cause against the commit request of a part.
 fn check_commit(t: Turn) -> Result<(), Refusal>
     requires { (1 ≤ t.counters.own) × (t.counters.own ≤ sizes.sites) }
     ensures { refusal_in result ≡ commit_code_at t }
@@ -139,6 +140,7 @@ fn commit_step(
         ≡ overlay out.old (commit_change (site_of p live.now history.now) place).words }
 {
     let t = shell::turn_at(p, live, place);
+    // Stays: no heap, fixed memory: a part's reason is a word of the lent table, 0 where there is none.
     if t.sub.course.reason != 0 {
         return course::coordinator::abort_step(t, FULL, out);
     }

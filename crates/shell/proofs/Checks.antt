@@ -1,6 +1,5 @@
 -- A check that finds no cause has the code 0.
 use Rattle.std.specs.Prelude.{ℕ, ◌≡◌, refl, Result, Ok, Err}
-use Rattle.std.proofs.Common.{sym, ◌∙◌}
 use Rattle.kinds.specs.Refusal.{refusal_in}
 use Rattle.kinds.specs.declared.refusal.Refusal.{Refusal}
 

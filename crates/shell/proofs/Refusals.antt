@@ -1,5 +1,6 @@
 -- A cause has a number that is not 0: where a check finds one, the rule refuses with its number.
-use Rattle.std.specs.Prelude.{ℕ, ◌≡◌, refl, List, true, false, ltb, eqb, Option, Some, None, Result, Ok, Err, IsErrAnd}
+use Rattle.std.specs.Prelude.{ℕ, ◌≡◌, ◌<◌, refl, List, true, false, ltb, eqb}
+use Rattle.std.specs.Prelude.{Option, Some, None, unwrap_or, IfSome, Result, Ok, Err, IsErrAnd}
 use Rattle.std.proofs.Common.{◌∙◌, arith, ltb-true, ne_eqb, ok_or}
 use Rattle.std.proofs.lemmas.Result.{err_from_is_err_and}
 use Rattle.kinds.specs.Refusal.{number_of, refusal_in}
@@ -55,11 +56,13 @@ pub passed_on : {A : Type 0} (r : Result A Refusal) (cause : Refusal) (code : �
     → refusal_in r ≡ code
 passed_on r cause code g e = let p = err_from_is_err_and r g in rw (p.1, p.2) e
 
--- and what a search found, where `ok_or` answers a cause for none.
-pub found : {X : Type 0} (o : Option X) (cause : Refusal) (x : X) → Ok x ≡ ok_or o cause → o ≡ Some x
-found (Some y) cause x e = cc
-found None cause x e = cc
+-- and the place that a search answers, where `ok_or` answers a cause for none: `end` stands for none in the rule.
+pub placed : (o : Option ℕ) (cause : Refusal) (i end rule : ℕ) → Ok i ≡ ok_or o cause → unwrap_or o end ≡ rule → IfSome o (λ k. k < end)
+    → (i ≡ rule) × (i < end)
+placed (Some k) cause i end rule e at low = let same : i ≡ k = cc in rw same (at, low)
+placed None cause i end rule e at low = absurd (cc)
 
-pub lacked : {X : Type 0} (o : Option X) (cause other : Refusal) → Err other ≡ ok_or o cause → (o ≡ None) × (other ≡ cause)
-lacked (Some y) cause other e = (cc, cc)
-lacked None cause other e = (refl, cc)
+pub unplaced : (o : Option ℕ) (cause other : Refusal) (end rule : ℕ) → Err other ≡ ok_or o cause → unwrap_or o end ≡ rule
+    → (end ≡ rule) × (other ≡ cause)
+unplaced (Some k) cause other end rule e at = absurd (cc)
+unplaced None cause other end rule e at = (at, cc)

@@ -13,7 +13,7 @@ ghost use Rattle.lent.specs.Lent.{site_of, Replied};
 
 use kinds::sizes::{BASE, READS};
 use kinds::stage::ACTIVE;
-use kinds::{Answer, Core, Keys, Refusal, Reply, Snapshot, Taken, Turn, Value};
+use kinds::{Answer, Core, Keys, Refusal, Reply, Snapshot, Sub, Taken, Turn, Value};
 
 // The first cause against the state and the key.
 fn check_key(p: Core, live: &[u64], history: &[u64], room: usize, key: u64) -> Result<(), Refusal>
@@ -76,12 +76,10 @@ fn check_long(value: Value) -> Result<(), Refusal>
 fn with_keys(t: Turn, keys: Keys, answer: Answer) -> Taken
     ensures { result ≡ taken_of (record { answer = answer; words = []; turn = with_sub_of t (with_keys t.sub keys) }) }
 {
-    let mut sub = t.sub;
-    sub.keys = keys;
     Taken {
         answer,
         words: 0,
-        turn: course::turn::with_sub(t, sub),
+        turn: course::turn::with_sub(t, Sub { keys, ..t.sub }),
     }
 }
 

@@ -9,7 +9,7 @@ use Rattle.rules.specs.Install.{install_code}
 use Rattle.rules.specs.InstallLaws.{due_low}
 use Rattle.rules.specs.Queue.{is_installable}
 use Rattle.lent.specs.Laws.{lent_lengths}
-use Rattle.shell.proofs.Refusals.{passed_on, found, lacked}
+use Rattle.shell.proofs.Refusals.{passed_on, placed, unplaced}
 use Rattle.installs.proofs.part.check_install.Goals.{then-given-ne-BASE-via-then-given-ne-BASE as short}
 use Rattle.installs.proofs.part.check_install.Goals.{then-given-ne-BASE-via-else-given-ne-BASE+then-not-site_ok as impossible}
 use Rattle.installs.proofs.part.check_install.Goals as goal
@@ -36,28 +36,24 @@ least_queued-requires c = (lent_lengths c.args.p _ c.args.history.now (sym c.sit
 pub returns-in_err-place-clause-code : goal.returns-in_err-place-clause-code
 unfolding install_code
 returns-in_err-place-clause-code c =
-    let none = lacked _ _ _ c.in_err-place.ensures.value in
-    let at = rw none.0 at c.least_queued.ensures.first in
+    let (at, told) = unplaced _ _ _ _ _ c.in_err-place.ensures.value c.least_queued.ensures.first in
     passed_on _ _ _ c.from_residual.ensures.1
-    (ap number_of none.1 ∙ rw (← at, none_due _) (search (← c.site_ok.ensures, rules, tests)))
+    (ap number_of told ∙ rw (← at, none_due _) (search (← c.site_ok.ensures, rules, tests)))
 
 pub returns-then-not-is_installable-clause-code : goal.returns-then-not-is_installable-clause-code
 unfolding install_code
 returns-then-not-is_installable-clause-code c =
-    let some = found _ _ _ c.in_ok-place.ensures.value in
-    let at = rw some at c.least_queued.ensures.first in
+    let (at, low) = placed _ _ _ _ _ c.in_ok-place.ensures.value c.least_queued.ensures.first c.least_queued.ensures.bound in
     rw (← at) (search (← c.site_ok.ensures, ← c.is_installable.ensures c.args.live.now, rules, tests))
 
 pub returns-then-p-ge-LAST-clause-code : goal.returns-then-p-ge-LAST-clause-code
 unfolding install_code
 returns-then-p-ge-LAST-clause-code c =
-    let some = found _ _ _ c.in_ok-place.ensures.value in
-    let at = rw some at c.least_queued.ensures.first in
+    let (at, low) = placed _ _ _ _ _ c.in_ok-place.ensures.value c.least_queued.ensures.first c.least_queued.ensures.bound in
     rw (← at) (search (← c.site_ok.ensures, ← c.is_installable.ensures c.args.live.now, rules, tests))
 
 pub returns-clause-code : goal.returns-clause-code
 unfolding install_code
 returns-clause-code c =
-    let some = found _ _ _ c.in_ok-place.ensures.value in
-    let at = rw some at c.least_queued.ensures.first in
+    let (at, low) = placed _ _ _ _ _ c.in_ok-place.ensures.value c.least_queued.ensures.first c.least_queued.ensures.bound in
     rw (← at) (search (← c.site_ok.ensures, ← c.is_installable.ensures c.args.live.now, rules, tests))

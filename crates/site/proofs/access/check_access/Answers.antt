@@ -1,8 +1,11 @@
 -- Each return is the first cause, or none: those of the key, and then those of the part.
 use borrow.Author.Tests.{eq-eqb, lt-leb, ne_eqb}
-use Rattle.std.proofs.Common.{ℕ, ◌≡◌, ◌<◌, ◌∙◌, sym, ap, refl, List, get_or}
+use Rattle.std.proofs.Common.{ℕ, ◌≡◌, ◌<◌, ◌∙◌, sym, ap, refl, List, get_or, not, eqb}
 use Rattle.laws.specs.Cause.{code_of, code_append}
+use Rattle.laws.specs.Choice.{pick}
+use Rattle.kinds.specs.Reason as reason
 use Rattle.kinds.specs.Sizes as sizes
+use Rattle.kinds.specs.Stage as stage
 use Rattle.kinds.specs.Refusal.{number_of}
 use Rattle.kinds.specs.declared.refusal.Refusal.{Refusal}
 use Rattle.kinds.specs.declared.Seat.{Seat}
@@ -14,8 +17,9 @@ use Rattle.rules.specs.Valid.{site_ok}
 use Rattle.lent.specs.Laws.{live_at}
 use Rattle.lent.specs.Layout.{live_of, sub_from}
 use Rattle.lent.specs.Lent.{site_of}
-use Rattle.shell.proofs.Refusals.{stopped, passed_on, found, lacked}
+use Rattle.shell.proofs.Refusals.{stopped, passed_on, placed, unplaced}
 use Rattle.site.specs.Accessed.{key_code_at, access_code_at}
+use Rattle.site.proofs.access.check_access.Goals.{In_ok-place}
 use Rattle.site.proofs.access.check_access.Goals as goal
 
 -- a seat has the stage of its part
@@ -50,31 +54,28 @@ pub returns-in_err-place-clause-code : goal.returns-in_err-place-clause-code
 returns-in_err-place-clause-code c =
     let a = c.args in
     let s = site_of a.p a.live.now a.history.now in
-    let none = lacked _ _ _ c.in_err-place.ensures.value in
-    let at = rw none.0 at (c.place_of.ensures.first a.live.now) in
+    let (at, told) = unplaced _ _ _ _ _ c.in_err-place.ensures.value (c.place_of.ensures.first a.live.now) in
     passed_on _ _ _ c.from_residual-in_err-place.ensures.1
-    (ap number_of none.1 ∙ of_part s a.room a.tx a.key c.in_ok-check_key.ensures sizes.live at)
+    (ap number_of told ∙ of_part s a.room a.tx a.key c.in_ok-check_key.ensures sizes.live at)
+
+-- the part that is found is asked for its stage alone
+by_stage : (c : In_ok-place)
+    → pick (not (eqb (get_or c.args.p.seats c.in_ok-place.place past_seat).stage stage.active)) reason.stage 0
+    ≡ access_code_at (site_of c.args.p c.args.live.now c.args.history.now) c.args.room c.args.tx c.args.key
+by_stage c =
+    let a = c.args in
+    let s = site_of a.p a.live.now a.history.now in
+    let i = c.in_ok-place.place in
+    let (at, low) = placed _ _ _ _ _ c.in_ok-place.ensures.value (c.place_of.ensures.first a.live.now) c.place_of.ensures.bound in
+    let first = of_part s a.room a.tx a.key c.in_ok-check_key.ensures i at in
+    rw (lt-leb sizes.live i low, ← seat_stage a.p.seats a.live.now i low) at first
 
 pub returns-then-p-place-ne-ACTIVE-clause-code : goal.returns-then-p-place-ne-ACTIVE-clause-code
 returns-then-p-place-ne-ACTIVE-clause-code c =
-    let a = c.args in
-    let s = site_of a.p a.live.now a.history.now in
-    let i = c.in_ok-place.place in
-    let some = found _ _ _ c.in_ok-place.ensures.value in
-    let at = rw some at (c.place_of.ensures.first a.live.now) in
-    let low = rw some at c.place_of.ensures.bound in
-    let stage = seat_stage a.p.seats a.live.now i low in
-    let first = of_part s a.room a.tx a.key c.in_ok-check_key.ensures i at in
-    rw (lt-leb sizes.live i low, ← stage, ne_eqb _ _ c.if-p-place-ne-ACTIVE.true) at first
+    let first = by_stage (goal.at.returns-then-p-place-ne-ACTIVE-clause-code c).In_ok-place in
+    rw (ne_eqb _ _ c.if-p-place-ne-ACTIVE.true) at first
 
 pub returns-clause-code : goal.returns-clause-code
 returns-clause-code c =
-    let a = c.args in
-    let s = site_of a.p a.live.now a.history.now in
-    let i = c.in_ok-place.place in
-    let some = found _ _ _ c.in_ok-place.ensures.value in
-    let at = rw some at (c.place_of.ensures.first a.live.now) in
-    let low = rw some at c.place_of.ensures.bound in
-    let stage = seat_stage a.p.seats a.live.now i low in
-    let first = of_part s a.room a.tx a.key c.in_ok-check_key.ensures i at in
-    rw (lt-leb sizes.live i low, ← stage, eq-eqb _ _ c.if-p-place-ne-ACTIVE.false) at first
+    let first = by_stage (goal.at.returns-clause-code c).In_ok-place in
+    rw (eq-eqb _ _ c.if-p-place-ne-ACTIVE.false) at first

@@ -4,7 +4,7 @@ use Rattle.std.proofs.Common.{◌∙◌, ap, rules}
 use Rattle.kinds.specs.Sizes as sizes
 use Rattle.kinds.specs.Refusal.{number_of}
 use Rattle.rules.specs.Begin.{begin_code}
-use Rattle.shell.proofs.Refusals.{passed_on, found, lacked}
+use Rattle.shell.proofs.Refusals.{passed_on, placed, unplaced}
 use Rattle.site.proofs.begin.check_begin.Goals.{then-not-site_ok-via-then-not-site_ok as impossible}
 use Rattle.site.proofs.begin.check_begin.Goals.{then-not-site_ok-via-else-not-site_ok+then-not-is_desk as no_desk}
 use Rattle.site.proofs.begin.check_begin.Goals as goal
@@ -20,23 +20,18 @@ returns-then-not-site_ok-clause-code c =
 pub returns-in_err-place-clause-code : goal.returns-in_err-place-clause-code
 unfolding begin_code
 returns-in_err-place-clause-code c =
-    let none = lacked _ _ _ c.in_err-place.ensures.value in
-    let at = rw none.0 at (c.free_place.ensures.first c.args.live.now) in
+    let (at, told) = unplaced _ _ _ _ _ c.in_err-place.ensures.value (c.free_place.ensures.first c.args.live.now) in
     passed_on _ _ _ c.from_residual.ensures.1
-    (ap number_of none.1 ∙ rw (← at) (search (← c.site_ok.ensures, ← c.is_desk.ensures, rules, tests)))
+    (ap number_of told ∙ rw (← at) (search (← c.site_ok.ensures, ← c.is_desk.ensures, rules, tests)))
 
 pub returns-then-p-ge-LAST_SERIAL-clause-code : goal.returns-then-p-ge-LAST_SERIAL-clause-code
 unfolding begin_code
 returns-then-p-ge-LAST_SERIAL-clause-code c =
-    let some = found _ _ _ c.in_ok-place.ensures.value in
-    let at = rw some at (c.free_place.ensures.first c.args.live.now) in
-    let low = rw some at c.free_place.ensures.bound in
+    let (at, low) = placed _ _ _ _ _ c.in_ok-place.ensures.value (c.free_place.ensures.first c.args.live.now) c.free_place.ensures.bound in
     rw (← at, lt-leb sizes.live _ low) (search (← c.site_ok.ensures, ← c.is_desk.ensures, rules, tests))
 
 pub returns-clause-code : goal.returns-clause-code
 unfolding begin_code
 returns-clause-code c =
-    let some = found _ _ _ c.in_ok-place.ensures.value in
-    let at = rw some at (c.free_place.ensures.first c.args.live.now) in
-    let low = rw some at c.free_place.ensures.bound in
+    let (at, low) = placed _ _ _ _ _ c.in_ok-place.ensures.value (c.free_place.ensures.first c.args.live.now) c.free_place.ensures.bound in
     rw (← at, lt-leb sizes.live _ low) (search (← c.site_ok.ensures, ← c.is_desk.ensures, rules, tests))

@@ -4,7 +4,7 @@ use Rattle.std.proofs.Common.{◌∙◌, ap, rules}
 use Rattle.kinds.specs.Sizes as sizes
 use Rattle.kinds.specs.Refusal.{number_of}
 use Rattle.rules.specs.Enlist.{enlist_code}
-use Rattle.shell.proofs.Refusals.{passed_on, found, lacked}
+use Rattle.shell.proofs.Refusals.{passed_on, placed, unplaced}
 use Rattle.site.proofs.enlist.check_enlist.Goals.{then-not-site_ok-via-then-not-site_ok as impossible}
 use Rattle.site.proofs.enlist.check_enlist.Goals.{then-not-site_ok-via-else-not-site_ok+then-not-is_site as no_site}
 use Rattle.site.proofs.enlist.check_enlist.Goals as goal
@@ -24,18 +24,15 @@ returns-then-not-site_ok-clause-code c =
 pub returns-in_err-place-clause-code : goal.returns-in_err-place-clause-code
 unfolding enlist_code
 returns-in_err-place-clause-code c =
-    let none = lacked _ _ _ c.in_err-place.ensures.value in
-    let at = rw none.0 at (c.place_of.ensures.first c.args.live.now) in
+    let (at, told) = unplaced _ _ _ _ _ c.in_err-place.ensures.value (c.place_of.ensures.first c.args.live.now) in
     passed_on _ _ _ c.from_residual.ensures.1
-    (ap number_of none.1
+    (ap number_of told
     ∙ rw (← at) (search (← c.lent_house-house.ensures, ← c.site_ok.ensures, ← c.is_site.ensures, rules, tests)))
 
 pub returns-then-coordinator_of-p-clause-code : goal.returns-then-coordinator_of-p-clause-code
 unfolding enlist_code
 returns-then-coordinator_of-p-clause-code c =
-    let some = found _ _ _ c.in_ok-place.ensures.value in
-    let at = rw some at (c.place_of.ensures.first c.args.live.now) in
-    let low = rw some at c.place_of.ensures.bound in
+    let (at, low) = placed _ _ _ _ _ c.in_ok-place.ensures.value (c.place_of.ensures.first c.args.live.now) c.place_of.ensures.bound in
     let told = c.coordinator_of.ensures in
     rw (← at, lt-leb sizes.live _ low)
     (search (← c.lent_house-house.ensures, ← c.site_ok.ensures, ← c.is_site.ensures, ← told, rules, tests))
@@ -43,9 +40,7 @@ returns-then-coordinator_of-p-clause-code c =
 pub returns-clause-code : goal.returns-clause-code
 unfolding enlist_code
 returns-clause-code c =
-    let some = found _ _ _ c.in_ok-place.ensures.value in
-    let at = rw some at (c.place_of.ensures.first c.args.live.now) in
-    let low = rw some at c.place_of.ensures.bound in
+    let (at, low) = placed _ _ _ _ _ c.in_ok-place.ensures.value (c.place_of.ensures.first c.args.live.now) c.place_of.ensures.bound in
     let told = c.coordinator_of.ensures in
     rw (← at, lt-leb sizes.live _ low)
     (search (← c.lent_house-house.ensures, ← c.site_ok.ensures, ← c.is_site.ensures, ← told, rules, tests))
