@@ -36,11 +36,7 @@ fn opened(
     Ok(Some(open_house(n, given, &keys)))
 }
 
-fn opening(
-    d: &mut Play,
-    script: &mut Script,
-    page: &mut Page,
-) -> Result<Option<House>, Ending> {
+fn opening(d: &mut Play, script: &mut Script, page: &mut Page) -> Result<Option<House>, Ending> {
     shown(script, page)?;
     let mut words = [0u64; WORDS];
     let scan = script.next_scan(&mut words);
@@ -88,7 +84,16 @@ fn turns(
         let ended = if i < SITES {
             // A message apart from the other calls: one function for all is too long to be inlined, and the core would be copied to it.
             let o = if let Command::Take(_, _) = a.command {
-                take_at(sites[i], i, live, history, lists, &item, a.words(), &mut out)
+                take_at(
+                    sites[i],
+                    i,
+                    live,
+                    history,
+                    lists,
+                    &item,
+                    a.words(),
+                    &mut out,
+                )
             } else {
                 at_site(sites[i], a.command, i, live, history, base, lists, &mut out)
             };

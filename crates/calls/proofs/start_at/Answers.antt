@@ -45,7 +45,7 @@ returns c =
       history = cut-length a.history.now (i * sizes.history_words) sizes.history_words _ t.history (omega arith);
     } in
     started a.house.sites _ _ (i + 1) _ _ w h _
-    c.start-o.ensures.started.core
+    c.start.ensures.started.core
     lengths
     (cut-length a.base.now (i * sizes.base) sizes.base _ t.base (omega arith))
     (cut-length a.lists.now (i * sizes.lists) sizes.lists _ t.lists (omega arith))
