@@ -23,6 +23,7 @@ const COPY_BYTES: usize = BYTES * COPY;
 const ANSWER_BYTES: usize = BYTES * ANSWER;
 
 // A copy that has replayed nothing: 0 in every byte.
+// Stays: 0 or the cause's number is what C reads, here and in the two calls below.
 pub fn reader_start(copy: &mut [u8]) -> u64
     ensures value { result ≡ returned_of (said_of (reader_start_of copy.old).answer) }
     ensures copy_after { copy.new ≡ (reader_start_of copy.old).bytes }

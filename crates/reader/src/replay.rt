@@ -16,6 +16,7 @@ use records::{merged_ok, read_record};
 use values::value_at;
 use words::{set_word, word_at};
 
+// Stays: these do in the bytes that C lends, in place, what the crate copy does in words; neither can lend the other its slice.
 // The record's header. Its pair has to be above the copy's last; nothing is written before that is known.
 #[tactic(auto, unfolding(rules::specs::Copy::replay_code))]
 fn check_replay(copy: &[u8], m: &[u64]) -> Result<RecordHead, Refusal>
