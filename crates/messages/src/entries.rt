@@ -9,6 +9,7 @@ use kinds::{House, word};
 use numbers::{is_mask, is_tx};
 
 // The transaction of the entry before, 0 before the first.
+// Stays: 0 is below each transaction, so the one comparison serves the first entry too; an option needs a second.
 #[tactic(auto, unfolding(rules::specs::Message::entry_before))]
 fn entry_before(es: &[u64], i: usize) -> u64
     requires { (i < sizes.cert_entries) × (sizes.entry * i + 2 < length es.now) }

@@ -9,6 +9,7 @@ use kinds::sizes::{ENTRY, MESSAGE_HEADER};
 use kinds::{House, MessageHead, word};
 
 // Where the entries stand: nowhere, if there are none.
+// Stays: 0 for nowhere is the word that a message has (entry_offset in rules), so an option would be turned back at once.
 #[tactic(auto, unfolding(rules::specs::Message::entry_offset))]
 pub fn entry_offset(n: u64) -> u64
     ensures { result ≡ entry_offset n }
@@ -33,6 +34,7 @@ pub fn read_head(m: &[u64]) -> MessageHead
     }
 }
 
+// Stays: records asks the same of its own sizes; one function for both takes five more numbers, two sizes and three positions.
 // Length, count and offset agree. A count above the length is no entry count of it, and three times another does not wrap.
 #[tactic(auto, unfolding(rules::specs::Message::message_shape))]
 fn shape_ok(m: &[u64]) -> bool

@@ -79,6 +79,7 @@ pub fn is_key(key: Key) -> bool
 }
 
 // The site where a key lives (Q3.1): the first one that is the last, or whose next starts above the key.
+// Stays: 9 for a number that is no key is in the public contract (home_of in rules).
 pub fn home_of(h: House, key: Key) -> u64
     ensures { result ≡ home_of h key }
 {

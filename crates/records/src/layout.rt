@@ -10,6 +10,7 @@ use kinds::sizes::{RECORD_HEADER, WRITE};
 use kinds::{House, RecordHead, word};
 
 // Where the writes stand: nowhere, if there are none.
+// Stays: 0 for nowhere is the word that a record has (write_offset in rules), so an option would be turned back at once.
 #[tactic(auto, unfolding(rules::specs::Record::write_offset))]
 pub fn write_offset(n: u64) -> u64
     ensures { result ≡ write_offset n }
@@ -33,6 +34,7 @@ pub fn read_record(m: &[u64]) -> RecordHead
     }
 }
 
+// Stays: messages asks the same of its own sizes; one function for both takes five more numbers, two sizes and three positions.
 // Length, count and offset agree. A count above the length is no write count of it, and twice another does not wrap.
 #[tactic(auto, unfolding(rules::specs::Record::record_shape))]
 fn shape_ok(m: &[u64]) -> bool

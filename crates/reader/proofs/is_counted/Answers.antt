@@ -3,7 +3,7 @@ use borrow.Author.Tests.{eq-eqb, eqb-false, eqb-true, ne_eqb}
 use lib.Dec.{eqb}
 use lib.ListN.{length}
 use mathlib.Core.List.{List, [], ◌∷◌}
-use mathlib.Core.Path.{◌≡◌, refl}
+use mathlib.Core.Path.{◌≡◌, ◌∙◌, refl, sym}
 use native.Mathlib.Omega.{arith}
 use Prim.Native.Nat.{ℕ, ◌*◌, ◌/◌, ◌%◌}
 use Rattle.laws.specs.ByteLaws.{word_at}
@@ -24,23 +24,16 @@ same_count x n h =
     (λ t. let e = eqb-true x (n / 8) t in rw (t, eq-eqb n (8 * x) (omega arith)))
     (λ t. rw (t, ne_eqb n (8 * x) (λ z. eqb-false x (n / 8) t (omega arith))))
 
-pub returns-then-given-eq0 : goal.returns-then-given-eq0
-returns-then-given-eq0 c =
+pub returns-then-is_empty : goal.returns-then-is_empty
+returns-then-is_empty c =
     let m = c.args.m.now in
-    let e = c.if-given-eq0.true in
-    rw (eq-eqb (length m) (8 * word_from m) (omega (arith, none m e)))
+    let bare = eqb-true (length m) 0 (sym c.is_empty.ensures ∙ c.if-is_empty.true) in
+    rw (eq-eqb (length m) (8 * word_from m) (omega (arith, none m bare))) c.if-is_empty.true
 
-pub returns-then-given-ne0 : goal.returns-then-given-ne0
-returns-then-given-ne0 c =
+pub returns-then-m-eq0 : goal.returns-then-m-eq0
+returns-then-m-eq0 c =
     let m = c.args.m.now in
-    let some = c.if-given-eq0.false in
-    let rest = c.if-given-ne0.true in
-    rw (ne_eqb (length m) (8 * word_from m) (λ z. omega (arith, some, rest)))
-
-pub returns : goal.returns
-returns c =
-    let m = c.args.m.now in
-    let some = c.if-given-eq0.false in
-    let rest = c.if-given-ne0.false in
+    let some = eqb-false (length m) 0 (sym c.is_empty.ensures ∙ c.if-is_empty.false) in
+    let rest = c.if-m-eq0.true in
     let w = word_at 0 m (omega (arith, some, rest)) in
     rw (c.word_at.ensures, ← w) (same_count (word_from m) (length m) (omega (arith, rest)))

@@ -20,13 +20,14 @@ zeros b e =
     let n : 8 * length (words_of b) ≡ length b = omega (arith, length_words b) in
     bytes_zero (length (words_of b)) ∙ ap (λ (k : ℕ). replicate k 0) n
 
-pub returns-then-given-ne-COPY_BYTES : goal.returns-then-given-ne-COPY_BYTES
+pub returns-then-copy-ne-COPY_BYTES : goal.returns-then-copy-ne-COPY_BYTES
 unfolding reader_start_of reader_start_code said_of returned_of
-returns-then-given-ne-COPY_BYTES c = rw (ne_eqb _ _ c.if-given-ne-COPY_BYTES.true) (record { value = refl; copy_after = refl })
+returns-then-copy-ne-COPY_BYTES c = rw (ne_eqb _ _ c.if-copy-ne-COPY_BYTES.true) (record { value = c.into.ensures; copy_after = refl })
 
 pub returns : goal.returns
 unfolding reader_start_of reader_start_code copy_start_of said_of returned_of
 returns c =
     let b = c.args.copy.now in
-    let e = c.if-given-ne-COPY_BYTES.false in
-    rw (eq-eqb _ _ e, eq-eqb (length (words_of b)) sizes.copy (words_copy b e), zeros b e) (record { value = refl; copy_after = c.fill.ensures.after (λ y k. k) })
+    let e = c.if-copy-ne-COPY_BYTES.false in
+    rw (eq-eqb _ _ e, eq-eqb (length (words_of b)) sizes.copy (words_copy b e), zeros b e)
+    (record { value = refl; copy_after = c.fill.ensures.after (λ y k. k) })

@@ -1,8 +1,7 @@
 -- The test of every site, as the scan by index.
 use borrow.Author.Tests.{tests}
-use Rattle.std.proofs.Common.{ℕ, ◌≡◌, Bool, true, false, List, get_or, ltb, rules, refl}
-use Rattle.std.proofs.lemmas.Iterator.{cases_from_all, YieldsList-from_range}
-use Rattle.numbers.proofs.Ranges.{all_in_range}
+use Rattle.std.proofs.Common.{ℕ, Bool, true, List, get_or, ltb, rules, refl}
+use Rattle.numbers.proofs.Ranges.{all_over_range}
 use Rattle.laws.specs.Choice.{pick}
 use Rattle.kinds.specs.Sizes as sizes
 use Rattle.rules.specs.Send.{is_recipient, counts_low}
@@ -15,8 +14,6 @@ pub returns : goal.returns
 unfolding counts_low
 returns c =
     let a = c.args in
-    all_in_range (low a.sent a.mask a.sender) sizes.sites _
-    (cases_from_all _ _ _ (λ i. low a.sent a.mask a.sender i ≡ true) (λ i. low a.sent a.mask a.sender i ≡ false) c.all.ensures.ran
-    (YieldsList-from_range 0 sizes.sites sizes.sites refl refl)
+    all_over_range _ _ (low a.sent a.mask a.sender) sizes.sites _ refl c.all.ensures.ran
     (λ x q k. search (rules, tests))
-    (λ x q k. search (rules, tests)))
+    (λ x q k. search (rules, tests))

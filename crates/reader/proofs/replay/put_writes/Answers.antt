@@ -13,27 +13,29 @@ pub loop-i-init : goal.loop-i-init
 unfolding put_writes fold_below
 loop-i-init c =
     let b = c.args.copy.now in
-    (search rules, (refl, hold_bytes sizes.copy b (λ i. omega (arith, c.slice_known-1.given i)) c.requires.copy_len))
+    record { size = refl; held = hold_bytes sizes.copy b (λ i. search rules) c.requires.copy_len }
 
 pub put_write-requires : goal.put_write-requires
 put_write-requires c =
     let pre = c.requires in
-    record { copy_len = omega (arith, pre.copy_len); i_lt_merged_writes = (omega arith, omega (arith, pre.n_le_merged_writes.1)); i_bound = pre.by_index c.loop-i.i c.loop-i-test.true }
+    record {
+      copy_len = omega (arith, pre.copy_len);
+      i_lt_merged_writes = (omega arith, omega (arith, pre.n_le_merged_writes.1));
+      i_bound = pre.by_index c.loop-i.i c.loop-i-test.true;
+    }
 
 pub loop-i-preserved : goal.loop-i-preserved
 loop-i-preserved c =
-    let put-write = c.put_write in
-    let args = c.args in
+    let a = c.args in
     let l = c.loop-i in
-    let held = l.invariant.1.1 in
-    let more = put_more (words_of args.copy.now) args.ws.now l.i in
-    (search rules, (search rules, rw more (rw held.words at put-write.ensures)))
+    let more = put_more (words_of a.copy.now) a.ws.now l.i in
+    record { size = search rules; held = rw more (rw l.invariant.held.words at c.put_write.ensures) }
 
 pub shape_of-copy : goal.shape_of-copy
-shape_of-copy c = c.loop-i.invariant.1.0
+shape_of-copy c = c.loop-i.invariant.size
 
 pub returns : goal.returns
 returns c =
     let l = c.loop-i in
     let e : l.i ≡ c.args.n = omega arith in
-    rw (← e) l.invariant.1.1
+    rw (← e) l.invariant.held

@@ -1,8 +1,7 @@
 -- The test of every write, as the scan by index; a write is asked by the range what the rule asks by the table.
 use borrow.Author.Tests.{tests}
-use Rattle.std.proofs.Common.{ℕ, ◌≡◌, ◌∙◌, zero, suc, List, [], ◌∷◌, Bool, true, false, arith, rules, refl}
-use Rattle.std.proofs.lemmas.Iterator.{cases_from_all, YieldsList-from_range}
-use Rattle.numbers.proofs.Ranges.{all_in_range}
+use Rattle.std.proofs.Common.{ℕ, ◌≡◌, ◌∙◌, zero, suc, List, [], ◌∷◌, Bool, rules, refl}
+use Rattle.numbers.proofs.Ranges.{all_over_range}
 use Rattle.laws.specs.Choice.{every}
 use Rattle.laws.specs.Scan.{all_below}
 use Rattle.kinds.specs.declared.House.{House}
@@ -31,9 +30,7 @@ returns c =
     let first = c.first_key-first in
     let end = c.end_key-end in
     let test = write_in first.result end.result a.ws.now in
-    all_in_range test a.n _
-    (cases_from_all _ _ _ (λ i. test i ≡ true) (λ i. test i ≡ false) c.all.ensures.ran
-    (YieldsList-from_range 0 a.n a.n refl (omega arith))
+    all_over_range _ _ test a.n _ refl c.all.ensures.ran
     (λ x q k. search (rules, tests))
-    (λ x q k. search (rules, tests)))
+    (λ x q k. search (rules, tests))
     ∙ all_same _ _ a.n (λ i. same_write a.o a.site _ _ a.ws.now i first.ensures end.ensures c.requires.valid_house)
