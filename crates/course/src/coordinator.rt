@@ -4,8 +4,7 @@ ghost use Rattle.laws.specs.Overlay.{overlay};
 ghost use Rattle.kinds.specs.Sizes as sizes;
 ghost use Rattle.rules.specs.Effect.{taken_of};
 ghost use Rattle.rules.specs.Course.{enlist_step, abort_step, commit_step, decide_step, cast_step, prepare_step, vote_decides, vote_step};
-ghost use Rattle.rules.specs.Course.{Entries};
-ghost use Rattle.rules.specs.Course.{CanSendTo, CanSendAll};
+ghost use Rattle.rules.specs.Course.{Entries, CanSendTo, CanSendAll};
 
 use crate::send::{send_all, send_to};
 use crate::turn::{
@@ -81,6 +80,7 @@ fn cast_yes(t: Turn, es: &[u64], out: &mut [u64]) -> Taken
 }
 
 // All lists are here: the coordinator's vote on their join.
+// Stays: a vote and a reason are numbers, 0 for yes, as the contracts of `cast_step` and `vote_step` have them.
 pub fn cast_step(t: Turn, vote: u64, es: &[u64], out: &mut [u64]) -> Taken
     requires { CanSendAll t (length out.old) × Entries es.now }
     ensures value { result ≡ taken_of (cast_step t vote es.now) }

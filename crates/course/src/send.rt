@@ -5,6 +5,7 @@ ghost use Rattle.kinds.specs.Sizes as sizes;
 ghost use Rattle.rules.specs.Effect.{taken_of};
 ghost use Rattle.rules.specs.Course.{sent_to as sentToOf, send_to, send_all, Entries, CanSendTo, CanSendAll};
 
+use crate::channels::step_site;
 use kinds::sizes::ENTRY;
 use kinds::{Answer, Channels, MessageHead, Taken, Turn};
 
@@ -13,7 +14,7 @@ fn sent_to(c: Channels, site: u64) -> Channels
     ensures { result ≡ sentToOf c site }
 {
     let mut d = c;
-    d.sent[(site - 1) as usize] += 1;
+    step_site(&mut d.sent, site);
     d
 }
 

@@ -14,6 +14,7 @@ use numbers::{in_mask, precedes};
 use queues::read_head;
 
 // The head of each site's queue, beside the merger, which says which of them there are.
+// Stays: a head of a site without parts is all zeros, as the contract of `read` and the rules' `heads_of` have it.
 #[derive(Clone, Copy)]
 pub struct Heads {
     pub merger: Merger,

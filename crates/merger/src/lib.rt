@@ -61,6 +61,7 @@ fn check_start(sites: u64, firsts: &[u64], given: usize) -> Result<(), Refusal>
 }
 
 // A merger of a house with these first keys (Q3.4), with empty queues.
+// Stays: a refused start leaves a merger of no sites, as the contract of `start` has it.
 pub fn start(sites: u64, firsts: &[u64], queues: &mut [u64]) -> MergerOut
     ensures value { result ≡ merger_out_of (merger_start_of sites firsts.now queues.old) }
     ensures queues_after { queues.new ≡ (merger_start_of sites firsts.now queues.old).queues }
