@@ -43,10 +43,7 @@ fn write_prepared(
     ensures fact { let b = sub_from a live.now (sizes.place * i) in
         Entered out.old (prepared_words place own i b) result out.new }
 {
-    if i == place {
-        return 0;
-    }
-    if !live::is_prepared(a.stage) {
+    if i == place || !live::is_prepared(a.stage) {
         return 0;
     }
     let at = PLACE * i;

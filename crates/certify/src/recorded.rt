@@ -24,6 +24,7 @@ pub fn is_among(txs: &[u64], n: usize, tx: u64) -> bool
 }
 
 // Puts the transaction of a seat behind the first `n`, and returns how many there are then.
+// Stays: the transactions gathered are a slice with their count beside it: no heap, fixed memory.
 fn with_held(txs: &mut [u64], n: usize, a: Seat) -> usize
     requires { n < length txs.old }
     ensures upper_bound { result ≤ n + 1 }

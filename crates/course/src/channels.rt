@@ -8,12 +8,11 @@ use kinds::Channels;
 use kinds::sizes::SITES;
 
 // One more at a site's count.
-fn step_site(counts: &mut [u64; SITES], site: u64)
+pub(crate) fn step_site(counts: &mut [u64; SITES], site: u64)
     requires { (1 ≤ site) × ((site ≤ sizes.sites) × (get_or counts.old (site - 1) 0 < sizes.last)) }
     ensures { counts.new ≡ step_count counts.old (site - 1) }
 {
-    let i = (site - 1) as usize;
-    counts[i] = counts[i] + 1;
+    counts[(site - 1) as usize] += 1;
 }
 
 // One more message taken from a site: the lent counters change in place.

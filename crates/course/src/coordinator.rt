@@ -3,12 +3,13 @@ ghost use Rattle.std.specs.Prelude.{◌≡◌, true, ◌+◌, ◌≤◌, ◌<◌
 ghost use Rattle.laws.specs.Overlay.{overlay};
 ghost use Rattle.kinds.specs.Sizes as sizes;
 ghost use Rattle.rules.specs.Effect.{taken_of};
-ghost use Rattle.rules.specs.Course.{enlist_step, abort_step, commit_step, decide_step, cast_step, prepare_step, vote_decides, vote_step, Entries};
-ghost use Rattle.rules.specs.Course.{CanSendTo, CanSendAll};
+ghost use Rattle.rules.specs.Course.{enlist_step, abort_step, commit_step, decide_step, cast_step, prepare_step, vote_decides, vote_step};
+ghost use Rattle.rules.specs.Course.{Entries, CanSendTo, CanSendAll};
 
 use crate::send::{send_all, send_to};
 use crate::turn::{
     no_sub, quietly, with_course, with_decision, with_heard, with_participant, with_queue_mark,
+    with_sub,
 };
 use kinds::kind::{ABORT, CERT, COMMIT, JOIN, PREPARE};
 use kinds::reason::SPENT;
@@ -21,10 +22,9 @@ pub fn enlist_step(t: Turn, site: u64, out: &mut [u64]) -> Taken
     ensures value { result ≡ taken_of (enlist_step t site) }
     ensures out_after { out.new ≡ overlay out.old (enlist_step t site).words }
 {
-    let desk = t.sub.desk;
     let c = with_participant(t.sub.course, site);
     let u = with_course(t, c);
-    send_to(u, JOIN, site, 0, desk, &[], out)
+    send_to(u, JOIN, site, 0, t.sub.desk, &[], out)
 }
 
 // ABORT to the others; the part is gone.
@@ -34,14 +34,9 @@ pub fn abort_step(t: Turn, reason: u64, out: &mut [u64]) -> Taken
     ensures out_after { out.new ≡ overlay out.old (abort_step t reason).words }
 {
     let a = send_all(t, Answer::Aborted { reason }, ABORT, 0, 0, &[], out);
-    let free = no_sub();
-    let answer = a.answer;
-    let mut u = a.turn;
-    u.sub = free;
     Taken {
-        answer,
-        words: a.words,
-        turn: u,
+        turn: with_sub(a.turn, no_sub()),
+        ..a
     }
 }
 
@@ -53,9 +48,7 @@ fn commit_step(t: Turn, number: u64, out: &mut [u64]) -> Taken
 {
     let c = with_decision(t.sub.course, number);
     let mut u = with_course(t, c);
-    let mut counters = u.counters;
-    counters.clock = number;
-    u.counters = counters;
+    u.counters.clock = number;
     send_all(u, Answer::Committed { number }, COMMIT, number, 0, &[], out)
 }
 
@@ -78,18 +71,16 @@ fn cast_yes(t: Turn, es: &[u64], out: &mut [u64]) -> Taken
     ensures value { result ≡ taken_of (cast_step t 0 es.now) }
     ensures out_after { out.new ≡ overlay out.old (cast_step t 0 es.now).words }
 {
-    let mask = t.sub.course.mask;
-    let own = t.counters.own;
-    let clock = t.counters.clock;
-    let c = with_queue_mark(t.sub.course, clock);
+    let c = with_queue_mark(t.sub.course, t.counters.clock);
     let u = with_course(t, c);
-    if live::all_heard(own, 0, mask) {
+    if live::all_heard(t.counters.own, 0, t.sub.course.mask) {
         return decide_step(u, out);
     }
     send_all(u, Answer::Done, CERT, 0, 0, es, out)
 }
 
 // All lists are here: the coordinator's vote on their join.
+// Stays: a vote and a reason are numbers, 0 for yes, as the contracts of `cast_step` and `vote_step` have them.
 pub fn cast_step(t: Turn, vote: u64, es: &[u64], out: &mut [u64]) -> Taken
     requires { CanSendAll t (length out.old) × Entries es.now }
     ensures value { result ≡ taken_of (cast_step t vote es.now) }
@@ -122,12 +113,9 @@ pub fn vote_step(t: Turn, site: u64, vote: u64, out: &mut [u64]) -> Taken
     if vote != 0 {
         return abort_step(t, vote, out);
     }
-    let own = t.counters.own;
     let c = with_heard(t.sub.course, site, 0);
-    let heard = c.heard;
-    let mask = c.mask;
     let u = with_course(t, c);
-    if live::all_heard(own, heard, mask) {
+    if live::all_heard(t.counters.own, c.heard, c.mask) {
         return decide_step(u, out);
     }
     quietly(u)

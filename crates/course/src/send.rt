@@ -3,44 +3,18 @@ ghost use Rattle.std.specs.Prelude.{◌≡◌, ◌+◌, ◌-◌, ◌≤◌, ◌<
 ghost use Rattle.laws.specs.Overlay.{overlay};
 ghost use Rattle.kinds.specs.Sizes as sizes;
 ghost use Rattle.rules.specs.Effect.{taken_of};
-ghost use Rattle.rules.specs.Course.{head_of, sent_to as sentToOf, send_to, send_all, Entries, CanSendTo, CanSendAll};
+ghost use Rattle.rules.specs.Course.{sent_to as sentToOf, send_to, send_all, Entries, CanSendTo, CanSendAll};
 
+use crate::channels::step_site;
 use kinds::sizes::ENTRY;
 use kinds::{Answer, Channels, MessageHead, Taken, Turn};
-
-fn head_of(
-    kind: u64,
-    from: u64,
-    to: u64,
-    channel: u64,
-    tx: u64,
-    clock: u64,
-    argument: u64,
-    count: u64,
-) -> MessageHead
-    ensures { result ≡ head_of kind from to channel tx clock argument count }
-{
-    MessageHead {
-        kind,
-        from,
-        to,
-        channel,
-        tx,
-        clock,
-        argument,
-        count,
-    }
-}
 
 fn sent_to(c: Channels, site: u64) -> Channels
     requires { (1 ≤ site) × ((site ≤ sizes.sites) × (get_or c.sent (site - 1) 0 < sizes.last)) }
     ensures { result ≡ sentToOf c site }
 {
-    let i = (site - 1) as usize;
-    let mut sent = c.sent;
-    sent[i] = sent[i] + 1;
     let mut d = c;
-    d.sent = sent;
+    step_site(&mut d.sent, site);
     d
 }
 
@@ -58,21 +32,22 @@ pub fn send_to(
     ensures value { result ≡ taken_of (send_to t kind to clock argument es.now) }
     ensures out_after { out.new ≡ overlay out.old (send_to t kind to clock argument es.now).words }
 {
-    let i = (to - 1) as usize;
-    let channels = t.channels;
-    let sent = channels.sent;
-    let own = t.counters.own;
-    let tx = t.sub.tx;
-    let count = (es.len() / ENTRY) as u64;
-    let h = head_of(kind, own, to, sent[i] + 1, tx, clock, argument, count);
+    let h = MessageHead {
+        kind,
+        from: t.counters.own,
+        to,
+        channel: t.channels.sent[(to - 1) as usize] + 1,
+        tx: t.sub.tx,
+        clock,
+        argument,
+        count: (es.len() / ENTRY) as u64,
+    };
     let words = messages::write_message(out, h, es);
-    let stepped = sent_to(channels, to);
-    let mut u = t;
-    u.channels = stepped;
+    let channels = sent_to(t.channels, to);
     Taken {
         answer: Answer::Done,
         words,
-        turn: u,
+        turn: Turn { channels, ..t },
     }
 }
 
@@ -90,21 +65,28 @@ pub fn send_all(
     ensures value { result ≡ taken_of (send_all t answer kind clock argument es.now) }
     ensures out_after { out.new ≡ overlay out.old (send_all t answer kind clock argument es.now).words }
 {
-    let mut channels = t.channels;
-    let sent = channels.sent;
+    let sent = t.channels.sent;
     let own = t.counters.own;
-    let tx = t.sub.tx;
     let mask = t.sub.course.mask;
-    let count = (es.len() / ENTRY) as u64;
-    let h = head_of(kind, own, 0, 0, tx, clock, argument, count);
+    let h = MessageHead {
+        kind,
+        from: own,
+        to: 0,
+        channel: 0,
+        tx: t.sub.tx,
+        clock,
+        argument,
+        count: (es.len() / ENTRY) as u64,
+    };
     let words = messages::broadcast(out, h, sent, mask, es);
     let stepped = messages::step_recipients(sent, mask, own);
-    channels.sent = stepped;
-    let mut u = t;
-    u.channels = channels;
+    let channels = Channels {
+        sent: stepped,
+        ..t.channels
+    };
     Taken {
         answer,
         words,
-        turn: u,
+        turn: Turn { channels, ..t },
     }
 }

@@ -1,16 +1,18 @@
 // A turn with one of its parts changed.
-ghost use Rattle.std.specs.Prelude.{◌≡◌, ◌+◌, ◌-◌, ◌≤◌, ◌<◌, max, get_or};
+ghost use Rattle.std.specs.Prelude.{◌≡◌, ◌+◌, ◌-◌, ◌≤◌, ◌<◌, get_or};
 ghost use Rattle.kinds.specs.Sizes as sizes;
 ghost use Rattle.kinds.specs.State.{no_keys, no_sub};
 ghost use Rattle.rules.specs.Effect.{taken_of};
-ghost use Rattle.rules.specs.Course.{new_sub, raise as raiseOf, taken_from, channel_spent, is_outstanding, quietly as quietlyOf, with_sub_of};
-ghost use Rattle.rules.specs.Course.{with_course_of, with_participant, with_reply, with_decision, with_queue_mark, with_request, with_stage};
+ghost use Rattle.rules.specs.Course.{new_sub, raise as raiseOf, taken_from, channel_spent, is_outstanding, quietly as quietlyOf};
+ghost use Rattle.rules.specs.Course.{with_sub_of};
+ghost use Rattle.rules.specs.Course.{with_course_of, with_participant, with_reply, with_decision, with_queue_mark, with_request};
+ghost use Rattle.rules.specs.Course.{with_stage};
 
 use crate::channels::step_taken;
 use kinds::desk::HOUSE;
 use kinds::sizes::{LAST, READS, WRITES};
-use kinds::stage::{ACTIVE, DECIDED, PREPARED, QUEUED};
-use kinds::{Answer, Channels, Course, FRESH, Keys, Snapshot, Sub, Taken, Turn};
+use kinds::stage::{ACTIVE, DECIDED, FREE, PREPARED, QUEUED};
+use kinds::{Answer, Channels, Counters, Course, FRESH, Keys, Snapshot, Sub, Taken, Turn};
 
 pub fn no_keys() -> Keys
     ensures { result ≡ no_keys }
@@ -28,20 +30,19 @@ pub fn no_keys() -> Keys
 pub fn no_sub() -> Sub
     ensures { result ≡ no_sub }
 {
-    let keys = no_keys();
     Sub {
         tx: 0,
         desk: HOUSE,
         snapshot: Snapshot { installs: 0 },
         course: Course {
-            stage: 0,
+            stage: FREE,
             mask: 0,
             number: 0,
             heard: 0,
             reason: 0,
             listed: 0,
         },
-        keys,
+        keys: no_keys(),
     }
 }
 
@@ -49,7 +50,7 @@ pub fn no_sub() -> Sub
 pub fn new_sub(tx: u64, desk: u64, mask: u64, installs: u64) -> Sub
     ensures { result ≡ new_sub tx desk mask installs }
 {
-    let keys = no_keys();
+    let free = no_sub();
     Sub {
         tx,
         desk,
@@ -57,49 +58,33 @@ pub fn new_sub(tx: u64, desk: u64, mask: u64, installs: u64) -> Sub
         course: Course {
             stage: ACTIVE,
             mask,
-            number: 0,
-            heard: 0,
-            reason: 0,
-            listed: 0,
+            ..free.course
         },
-        keys,
+        ..free
     }
-}
-
-fn larger(a: u64, b: u64) -> u64
-    ensures { result ≡ max a b }
-{
-    if a < b { b } else { a }
 }
 
 // The clock raised to the larger.
 pub fn raise(t: Turn, n: u64) -> Turn
     ensures { result ≡ raiseOf t n }
 {
-    let mut c = t.counters;
-    let clock = larger(c.clock, n);
-    c.clock = clock;
-    let mut u = t;
-    u.counters = c;
-    u
+    let counters = Counters {
+        clock: t.counters.clock.max(n),
+        ..t.counters
+    };
+    Turn { counters, ..t }
 }
 
 pub fn with_sub(t: Turn, b: Sub) -> Turn
     ensures { result ≡ with_sub_of t b }
 {
-    let mut u = t;
-    u.sub = b;
-    u
+    Turn { sub: b, ..t }
 }
 
 pub fn with_course(t: Turn, c: Course) -> Turn
     ensures { result ≡ with_course_of t c }
 {
-    let mut b = t.sub;
-    b.course = c;
-    let mut u = t;
-    u.sub = b;
-    u
+    with_sub(t, Sub { course: c, ..t.sub })
 }
 
 // Nothing to send.
@@ -127,9 +112,7 @@ pub fn channel_spent(c: Channels, site: u64) -> bool
     requires { (1 ≤ site) × (site ≤ sizes.sites) }
     ensures { result ≡ channel_spent c site }
 {
-    let i = (site - 1) as usize;
-    let sent = c.sent;
-    LAST <= sent[i]
+    LAST <= c.sent[(site - 1) as usize]
 }
 
 // A reply of this round is still to come from that site.
@@ -137,22 +120,17 @@ pub fn is_outstanding(c: Course, site: u64) -> bool
     requires { (1 ≤ site) × (site ≤ sizes.sites) }
     ensures { result ≡ is_outstanding c site }
 {
-    let wanted = numbers::in_mask(c.mask, site);
-    let heard = numbers::in_mask(c.heard, site);
-    if !wanted {
-        return false;
-    }
-    !heard
+    numbers::in_mask(c.mask, site) && !numbers::in_mask(c.heard, site)
 }
 
 pub fn with_participant(c: Course, site: u64) -> Course
     requires { (1 ≤ site) × (site ≤ sizes.sites) }
     ensures { result ≡ with_participant c site }
 {
-    let bit = numbers::mask_of(site);
-    let mut d = c;
-    d.mask = c.mask | bit;
-    d
+    Course {
+        mask: c.mask | numbers::mask_of(site),
+        ..c
+    }
 }
 
 // A reply that brings no entries.
@@ -160,59 +138,58 @@ pub fn with_heard(c: Course, site: u64, reason: u64) -> Course
     requires { (1 ≤ site) × (site ≤ sizes.sites) }
     ensures { result ≡ with_reply c site reason 0 }
 {
-    let bit = numbers::mask_of(site);
-    let worse = larger(c.reason, reason);
-    let mut d = c;
-    d.heard = c.heard | bit;
-    d.reason = worse;
-    d
+    Course {
+        heard: c.heard | numbers::mask_of(site),
+        reason: c.reason.max(reason),
+        ..c
+    }
 }
 
 pub fn with_reply(c: Course, site: u64, entries: usize) -> Course
     requires { (1 ≤ site) × ((site ≤ sizes.sites) × (c.listed + entries ≤ sizes.last)) }
     ensures { result ≡ with_reply c site 0 entries }
 {
-    let h = with_heard(c, site, 0);
-    let mut d = h;
-    d.listed = c.listed + entries;
-    d
+    Course {
+        listed: c.listed + entries,
+        ..with_heard(c, site, 0)
+    }
 }
 
 pub fn with_decision(c: Course, number: u64) -> Course
     ensures { result ≡ with_decision c number }
 {
-    let mut d = c;
-    d.stage = DECIDED;
-    d.number = number;
-    d
+    Course {
+        stage: DECIDED,
+        number,
+        ..c
+    }
 }
 
 pub fn with_queue_mark(c: Course, clock: u64) -> Course
     ensures { result ≡ with_queue_mark c clock }
 {
-    let mut d = c;
-    d.stage = QUEUED;
-    d.number = clock;
-    d.heard = 0;
-    d.listed = 0;
-    d
+    Course {
+        stage: QUEUED,
+        number: clock,
+        heard: 0,
+        listed: 0,
+        ..c
+    }
 }
 
 pub fn with_request(c: Course, entries: usize) -> Course
     ensures { result ≡ with_request c entries }
 {
-    let mut d = c;
-    d.stage = PREPARED;
-    d.heard = 0;
-    d.listed = entries;
-    d
+    Course {
+        stage: PREPARED,
+        heard: 0,
+        listed: entries,
+        ..c
+    }
 }
 
 pub fn with_stage(c: Course, mask: u64, stage: u64) -> Course
     ensures { result ≡ with_stage c mask stage }
 {
-    let mut d = c;
-    d.stage = stage;
-    d.mask = mask;
-    d
+    Course { stage, mask, ..c }
 }

@@ -1,11 +1,8 @@
 -- F7 and F8: the head order goes in and comes back as one value. What its methods hand back, by the rules' definitions.
-use Rattle.std.specs.Prelude.{ℕ, ◌+◌, ◌≡◌, refl, List, eqb}
-use Rattle.std.proofs.Common.{ap, sym, ◌∙◌, eqb-true}
-use Rattle.std.proofs.lemmas.Bool.{eqb-false}
-use Rattle.laws.specs.Choice.{pick, by_test}
+use Rattle.std.specs.Prelude.{ℕ, ◌+◌, ◌≡◌, refl, List}
 use Rattle.laws.specs.Scan.{fold_below}
 use Rattle.kinds.specs.declared.Merger.{Merger}
-use Rattle.rules.specs.Merger.{heads_of, head_in, no_head, least_head, due_code, pop_merger_at, pop_merger}
+use Rattle.rules.specs.Merger.{heads_of, head_in, least_head, due_code, pop_merger_at, pop_merger}
 use Rattle.rules.specs.MergerLaws.{pop_more}
 use Rattle.merger.specs.declared.heads.Heads.{Heads}
 use Rattle.merger.specs.declared.heads.Due.{Due}
@@ -41,38 +38,7 @@ pub without_more : (mask : ℕ) (h : Heads) (i : ℕ) → without_to mask h (i +
 unfolding without_to without_at
 without_more mask h i = rw pop_more
 
--- the due head, and the order without its parts; or the refusal
-unfoldable pub due_of : Heads → Due
-due_of h =
-    let r = head_in h.heads (least_in h) in
-    pick (eqb (code_in h) 0)
-    (record { code = 0; head = r; heads = without h r.mask })
-    (record { code = code_in h; head = no_head; heads = h })
-
--- What a taken order says, refused or not.
-pub record RefusedDue (h : Heads) (d : Due) : Type 0 where
-  pub code : d.code ≡ due_code h.merger h.heads (least_in h)
-  pub same : d.heads ≡ h
-
-pub refused_due : (h : Heads) (d : Due) → d ≡ due_of h → (d.code ≡ 0 → ⊥) → RefusedDue h d
-unfolding due_of code_in
-refused_due h d e n =
-    by_test (eqb (due_code h.merger h.heads (least_in h)) 0)
-    (λ t. absurd (n (ap (λ (x : Due). x.code) (rw t at e))))
-    (λ t. record { code = ap (λ (x : Due). x.code) (rw t at e); same = ap (λ (x : Due). x.heads) (rw t at e) })
-
+-- the due head of an order, and the order without its parts
 pub record TakenDue (h : Heads) (d : Due) : Type 0 where
-  pub code : due_code h.merger h.heads (least_in h) ≡ 0
   pub head : d.head ≡ head_in h.heads (least_in h)
-  pub merger : d.heads.merger ≡ pop_merger h.merger (head_in h.heads (least_in h)).mask (sites_in h)
-
-pub taken_due : (h : Heads) (d : Due) → d ≡ due_of h → d.code ≡ 0 → TakenDue h d
-unfolding due_of code_in without without_to
-taken_due h d e n =
-    by_test (eqb (due_code h.merger h.heads (least_in h)) 0)
-    (λ t. record {
-      code = eqb-true _ _ t;
-      head = ap (λ (x : Due). x.head) (rw t at e);
-      merger = ap (λ (x : Due). x.heads.merger) (rw t at e);
-    })
-    (λ t. absurd (eqb-false _ _ t (sym (ap (λ (x : Due). x.code) (rw t at e)) ∙ n)))
+  pub heads : d.heads ≡ without h d.head.mask

@@ -1,30 +1,29 @@
 // The order of the heads, by (number, coordinator): one value, read from the queues at each call and handed through its methods.
-ghost use Rattle.std.specs.Prelude.{◌≡◌, true, ◌+◌, ◌≤◌, ◌<◌, length};
+ghost use Rattle.std.specs.Prelude.{◌≡◌, true, ◌+◌, ◌≤◌, ◌<◌, length, unwrap_or, IfSome, IfOk};
 ghost use Rattle.laws.specs.Scan.{all_below};
 ghost use Rattle.kinds.specs.Sizes as sizes;
 ghost use Rattle.rules.specs.House.{in_mask};
-ghost use Rattle.rules.specs.Merger.{no_head, has_head, better_head, is_due_at, is_due, due_code, has_part, is_whole_at, is_whole, source_at};
+ghost use Rattle.rules.specs.Merger.{no_head, has_head, better_head, is_due_at, has_part, is_whole_at, is_whole, head_in, source_at};
 ghost use Rattle.rules.specs.MergerLaws.{Queued};
-ghost use Rattle.merger.specs.Order.{sites_in, order_of, least_in, without_at, without, due_of};
+ghost use Rattle.kinds.specs.Refusal.{refusal_in};
+ghost use Rattle.merger.specs.Order.{sites_in, order_of, least_in, code_in, without_at, without, TakenDue};
 
-use kinds::reason::{NOT_WHOLE, NOTHING};
 use kinds::sizes::SITES;
-use kinds::{Merger, RecordHead};
+use kinds::{Merger, RecordHead, Refusal};
 use numbers::{in_mask, precedes};
 use queues::read_head;
 
 // The head of each site's queue, beside the merger, which says which of them there are.
+// Stays: a head of a site without parts is all zeros, as the contract of `read` and the rules' `heads_of` have it.
 #[derive(Clone, Copy)]
 pub struct Heads {
     pub merger: Merger,
     pub heads: [RecordHead; SITES],
 }
 
-// The due head, with the order after it: at each site of its mask one part fewer is queued. Or the refusal's code, with the order as it
-// was.
+// The due head, with the order after it: at each site of its mask one part fewer is queued.
 #[derive(Clone, Copy)]
 pub struct Due {
-    pub code: u64,
     pub head: RecordHead,
     pub heads: Heads,
 }
@@ -49,65 +48,58 @@ impl Heads {
         requires queues_len { length queues.now ≡ sizes.queues }
         ensures { result ≡ order_of g queues.now }
     {
-        let n = g.house.sites as usize;
         let mut heads = [no_head(); SITES];
-        let mut i: usize = 0;
-        while i < n {
+        for i in 0..g.house.sites as usize {
             heads[i] = read_head(queues, i);
-            i += 1;
         }
-        Heads {
-            merger: g,
-            heads: heads,
-        }
+        Heads { merger: g, heads }
     }
 
     pub fn sites(self) -> usize
         ensures { result ≡ sites_in self }
     {
-        let g = self.merger;
-        g.house.sites as usize
+        self.merger.house.sites as usize
     }
 
     fn has_head(self, i: usize) -> bool
         requires { i < sizes.sites }
         ensures { result ≡ has_head self.merger i }
     {
-        let g = self.merger;
-        let c = g.sources[i];
-        0 < c.queued
+        0 < self.merger.sources[i].queued
     }
 
-    // The better of the best site so far and site i + 1; none is SITES.
-    fn better(self, i: usize, best: usize) -> usize
-        requires { i < sizes.sites }
-        ensures { result ≡ better_head self.merger self.heads i best }
+    // The better of the best site so far and site i + 1.
+    fn better(self, i: usize, best: Option<usize>) -> Option<usize>
+        requires i_lt_sites { i < sizes.sites }
+        requires best_lt_sites { IfSome best (λ k. k < sizes.sites) }
+        ensures better { unwrap_or result sizes.sites
+            ≡ better_head self.merger self.heads i (unwrap_or best sizes.sites) }
+        ensures bound { IfSome result (λ k. k < sizes.sites) }
     {
         if !self.has_head(i) {
             return best;
         }
-        if SITES <= best {
-            return i;
-        }
+        let Some(k) = best else {
+            return Some(i);
+        };
         let a = self.heads[i];
-        let b = self.heads[best];
+        let b = self.heads[k];
         if precedes(a.number, a.coordinator, b.number, b.coordinator) {
-            return i;
+            Some(i)
+        } else {
+            best
         }
-        best
     }
 
     // The site of the least head, less 1.
-    fn least(self) -> usize
+    fn least(self) -> Option<usize>
         requires { sites_in self ≤ sizes.sites }
-        ensures { result ≡ least_in self }
+        ensures least { unwrap_or result sizes.sites ≡ least_in self }
+        ensures bound { IfSome result (λ k. k < sizes.sites) }
     {
-        let n = self.sites();
-        let mut best: usize = SITES;
-        let mut i: usize = 0;
-        while i < n {
+        let mut best = None;
+        for i in 0..self.sites() {
             best = self.better(i, best);
-            i += 1;
         }
         best
     }
@@ -117,38 +109,19 @@ impl Heads {
         requires { i < sizes.sites }
         ensures { result ≡ is_due_at self.merger number i }
     {
-        if self.has_head(i) {
-            return true;
-        }
-        let g = self.merger;
-        let c = g.sources[i];
-        number <= c.state
+        self.has_head(i) || number <= self.merger.sources[i].state
     }
 
     fn all_due(self, number: u64) -> bool
         requires { sites_in self ≤ sizes.sites }
         ensures { result ≡ all_below (is_due_at self.merger number) (sites_in self) }
     {
-        let n = self.sites();
-        let mut i: usize = 0;
-        while i < n {
+        for i in 0..self.sites() {
             if !self.is_due_at(number, i) {
                 return false;
             }
-            i += 1;
         }
         true
-    }
-
-    fn is_due(self, least: usize) -> bool
-        requires { sites_in self ≤ sizes.sites }
-        ensures { result ≡ is_due self.merger self.heads least }
-    {
-        if SITES <= least {
-            return false;
-        }
-        let r = self.heads[least];
-        self.all_due(r.number)
     }
 
     // Site i + 1 has a part of r's pair at its head.
@@ -189,30 +162,31 @@ impl Heads {
         requires { sites_in self ≤ sizes.sites }
         ensures { result ≡ is_whole self.merger self.heads r }
     {
-        let n = self.sites();
-        let mut i: usize = 0;
-        while i < n {
+        for i in 0..self.sites() {
             if !self.is_whole_at(r, i) {
                 return false;
             }
-            i += 1;
         }
         true
     }
 
-    // The refusal, or 0 where the least head is due and whole.
-    fn due_code(self, least: usize) -> u64
+    // The least head, where it is due and whole.
+    fn check_due(self) -> Result<RecordHead, Refusal>
         requires { sites_in self ≤ sizes.sites }
-        ensures { result ≡ due_code self.merger self.heads least }
+        ensures code { refusal_in result ≡ code_in self }
+        ensures head { IfOk result (λ r. r ≡ head_in self.heads (least_in self)) }
     {
-        if !self.is_due(least) {
-            return NOTHING;
+        let Some(least) = self.least() else {
+            return Err(Refusal::Nothing);
+        };
+        let head = self.heads[least];
+        if !self.all_due(head.number) {
+            return Err(Refusal::Nothing);
         }
-        let r = self.heads[least];
-        if !self.is_whole(r) {
-            return NOT_WHOLE;
+        if !self.is_whole(head) {
+            return Err(Refusal::NotWhole);
         }
-        0
+        Ok(head)
     }
 
     fn without_at(self, mask: u64, i: usize) -> Heads
@@ -223,15 +197,9 @@ impl Heads {
         if !in_mask(mask, i as u64 + 1) {
             return self;
         }
-        let mut g = self.merger;
-        let mut c = g.sources[i];
-        c.queued -= 1;
-        g.sources[i] = c;
-        let heads = self.heads;
-        Heads {
-            merger: g,
-            heads: heads,
-        }
+        let mut h = self;
+        h.merger.sources[i].queued -= 1;
+        h
     }
 
     // The order without the heads of the sites of the mask.
@@ -240,36 +208,21 @@ impl Heads {
         requires queued { Queued self.merger mask }
         ensures { result ≡ without self mask }
     {
-        let n = self.sites();
         let mut h = self;
-        let mut i: usize = 0;
-        while i < n {
+        for i in 0..self.sites() {
             h = h.without_at(mask, i);
-            i += 1;
         }
         h
     }
 
     // Takes the due pair from the order, and hands both back.
-    pub fn take_due(self) -> Due
+    pub fn take_due(self) -> Result<Due, Refusal>
         requires { sites_in self ≤ sizes.sites }
-        ensures { result ≡ due_of self }
+        ensures code { refusal_in result ≡ code_in self }
+        ensures taken { IfOk result (TakenDue self) }
     {
-        let least = self.least();
-        let code = self.due_code(least);
-        if code != 0 {
-            return Due {
-                code: code,
-                head: no_head(),
-                heads: self,
-            };
-        }
-        let head = self.heads[least];
-        let left = self.without(head.mask);
-        Due {
-            code: 0,
-            head: head,
-            heads: left,
-        }
+        let head = self.check_due()?;
+        let heads = self.without(head.mask);
+        Ok(Due { head, heads })
     }
 }

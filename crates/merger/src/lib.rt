@@ -7,26 +7,27 @@ mod heads;
 ghost use Rattle.std.specs.Prelude.{◌≡◌, [], ◌≤◌, ◌<◌, length};
 ghost use Rattle.laws.specs.Overlay.{overlay};
 ghost use Rattle.kinds.specs.Sizes as sizes;
-ghost use Rattle.rules.specs.Merger.{merger_out_of, done_merger, refused_merger, with_source, fresh_merger, merger_start_code, merger_start_of};
+ghost use Rattle.rules.specs.Merger.{merger_out_of, done_merger, refused_merger, with_source, fresh_merger, merger_start_code};
+ghost use Rattle.rules.specs.Merger.{merger_start_of};
 ghost use Rattle.rules.specs.Merger.{merge_code, merge_part_code, merge_part, merge_state, merge_of, emit_code, emit_due, emit_of};
 ghost use Rattle.rules.specs.MergerClear.{MergerClear, PartReady, StateReady};
+ghost use Rattle.kinds.specs.Refusal.{number_of, refusal_in};
 ghost use Rattle.merger.specs.Order.{least_in};
 
 use heads::Heads;
 use kinds::kind::PART;
-use kinds::reason::{BAD_TABLE, BEHIND, MALFORMED, QUEUE_FULL, SHORT};
 use kinds::sizes::{MERGED, QUEUE, QUEUES, SITES};
-use kinds::{Answer, House, Merger, MergerOut, RecordHead, Source};
+use kinds::{Answer, House, Merger, MergerOut, RecordHead, Refusal, Source};
 use numbers::{count_ok, house_of, precedes, table_ok};
 use queues::{merger_ok, place_at, pop_queues, write_merged};
 use records::{part_ok, read_record, state_ok};
 use slices::{copy_words, fill_words};
 
-fn refused(g: Merger, code: u64) -> MergerOut
-    ensures { result ≡ merger_out_of (refused_merger code g []) }
+fn refused(g: Merger, cause: Refusal) -> MergerOut
+    ensures { result ≡ merger_out_of (refused_merger (number_of cause) g []) }
 {
     MergerOut {
-        answer: Answer::Refused(code),
+        answer: Answer::Refused(cause.into()),
         words: 0,
         merger: g,
     }
@@ -47,36 +48,30 @@ fn fresh(house: House) -> Merger
     }
 }
 
-fn start_code(sites: u64, firsts: &[u64], given: usize) -> u64
-    ensures { result ≡ merger_start_code sites firsts.now given }
+fn check_start(sites: u64, firsts: &[u64], given: usize) -> Result<(), Refusal>
+    ensures { refusal_in result ≡ merger_start_code sites firsts.now given }
 {
-    if !count_ok(sites) {
-        return MALFORMED;
-    }
-    if firsts.len() as u64 != sites {
-        return MALFORMED;
-    }
-    if given != QUEUES {
-        return MALFORMED;
+    if !count_ok(sites) || firsts.len() as u64 != sites || given != QUEUES {
+        return Err(Refusal::Malformed);
     }
     if !table_ok(sites, firsts) {
-        return BAD_TABLE;
+        return Err(Refusal::BadTable);
     }
-    0
+    Ok(())
 }
 
 // A merger of a house with these first keys (Q3.4), with empty queues.
+// Stays: a refused start leaves a merger of no sites, as the contract of `start` has it.
 pub fn start(sites: u64, firsts: &[u64], queues: &mut [u64]) -> MergerOut
     ensures value { result ≡ merger_out_of (merger_start_of sites firsts.now queues.old) }
     ensures queues_after { queues.new ≡ (merger_start_of sites firsts.now queues.old).queues }
 {
-    let code = start_code(sites, firsts, queues.len());
-    if code != 0 {
+    if let Err(cause) = check_start(sites, firsts, queues.len()) {
         let none = House {
             sites: 0,
             firsts: [0; SITES],
         };
-        return refused(fresh(none), code);
+        return refused(fresh(none), cause);
     }
     fill_words(queues);
     MergerOut {
@@ -86,39 +81,27 @@ pub fn start(sites: u64, firsts: &[u64], queues: &mut [u64]) -> MergerOut
     }
 }
 
-fn merge_code(g: Merger, queues: &[u64], m: &[u64]) -> u64
-    ensures { result ≡ merge_code g queues.now m.now }
+fn check_merge(g: Merger, queues: &[u64], m: &[u64]) -> Result<(), Refusal>
+    ensures { refusal_in result ≡ merge_code g queues.now m.now }
 {
     let o = g.house;
-    if !merger_ok(g, queues) {
-        return MALFORMED;
+    if merger_ok(g, queues) && (part_ok(o, m) || state_ok(o, m)) {
+        return Ok(());
     }
-    if part_ok(o, m) {
-        return 0;
-    }
-    if state_ok(o, m) {
-        return 0;
-    }
-    MALFORMED
+    Err(Refusal::Malformed)
 }
 
 // A part is above its site's last part, and its number above the site's last state.
-fn merge_part_code(c: Source, r: RecordHead) -> u64
-    ensures { result ≡ merge_part_code c r }
+fn check_part(c: Source, r: RecordHead) -> Result<(), Refusal>
+    ensures { refusal_in result ≡ merge_part_code c r }
 {
-    let number = r.number;
-    let state = c.state;
-    let queued = c.queued;
-    if !precedes(c.number, c.coordinator, number, r.coordinator) {
-        return BEHIND;
+    if !precedes(c.number, c.coordinator, r.number, r.coordinator) || r.number <= c.state {
+        return Err(Refusal::Behind);
     }
-    if number <= state {
-        return BEHIND;
+    if QUEUE <= c.queued {
+        return Err(Refusal::QueueFull);
     }
-    if QUEUE <= queued {
-        return QUEUE_FULL;
-    }
-    0
+    Ok(())
 }
 
 // Sets what is kept of site i + 1.
@@ -143,9 +126,8 @@ fn merge_part(g: Merger, queues: &mut [u64], m: &[u64]) -> MergerOut
     let r = read_record(m);
     let i = (r.site - 1) as usize;
     let mut c = g.sources[i];
-    let code = merge_part_code(c, r);
-    if code != 0 {
-        return refused(g, code);
+    if let Err(cause) = check_part(c, r) {
+        return refused(g, cause);
     }
     let at = place_at(i, c.queued);
     copy_words(&mut queues[at..], m);
@@ -163,7 +145,7 @@ fn merge_state(g: Merger, m: &[u64]) -> MergerOut
     let i = (r.site - 1) as usize;
     let mut c = g.sources[i];
     if r.number < c.state {
-        return refused(g, BEHIND);
+        return refused(g, Refusal::Behind);
     }
     c.state = r.number;
     with_source(g, i, c)
@@ -174,9 +156,8 @@ pub fn merge(g: Merger, queues: &mut [u64], m: &[u64]) -> MergerOut
     ensures value { result ≡ merger_out_of (merge_of g queues.old m.now) }
     ensures queues_after { queues.new ≡ (merge_of g queues.old m.now).queues }
 {
-    let code = merge_code(g, queues, m);
-    if code != 0 {
-        return refused(g, code);
+    if let Err(cause) = check_merge(g, queues, m) {
+        return refused(g, cause);
     }
     let r = read_record(m);
     if r.kind == PART {
@@ -185,16 +166,16 @@ pub fn merge(g: Merger, queues: &mut [u64], m: &[u64]) -> MergerOut
     merge_state(g, m)
 }
 
-fn emit_code(g: Merger, queues: &[u64], room: usize) -> u64
-    ensures { result ≡ emit_code g queues.now room }
+fn check_emit(g: Merger, queues: &[u64], room: usize) -> Result<(), Refusal>
+    ensures { refusal_in result ≡ emit_code g queues.now room }
 {
     if room < MERGED {
-        return SHORT;
+        return Err(Refusal::Short);
     }
     if !merger_ok(g, queues) {
-        return MALFORMED;
+        return Err(Refusal::Malformed);
     }
-    0
+    Ok(())
 }
 
 // Joins the parts of the order's due pair, and takes them from the queues.
@@ -206,13 +187,11 @@ fn emit_due(h: Heads, queues: &mut [u64], out: &mut [u64]) -> MergerOut
         ≡ overlay out.old (emit_due h.merger queues.old h.heads (least_in h)).words }
 {
     let n = h.sites();
-    let due = h.take_due();
-    let left = due.heads;
-    let after = left.merger;
+    let due = match h.take_due() {
+        Ok(due) => due,
+        Err(cause) => return refused(h.merger, cause),
+    };
     let head = due.head;
-    if due.code != 0 {
-        return refused(after, due.code);
-    }
     let words = write_merged(out, queues, n, head);
     pop_queues(queues, head.mask, n);
     MergerOut {
@@ -221,8 +200,8 @@ fn emit_due(h: Heads, queues: &mut [u64], out: &mut [u64]) -> MergerOut
             coordinator: head.coordinator,
             tx: head.tx,
         },
-        words: words,
-        merger: after,
+        words,
+        merger: due.heads.merger,
     }
 }
 
@@ -232,10 +211,8 @@ pub fn emit(g: Merger, queues: &mut [u64], out: &mut [u64]) -> MergerOut
     ensures queues_after { queues.new ≡ (emit_of g (length out.old) queues.old).queues }
     ensures out_after { out.new ≡ overlay out.old (emit_of g (length out.old) queues.old).words }
 {
-    let room = out.len();
-    let code = emit_code(g, queues, room);
-    if code != 0 {
-        return refused(g, code);
+    if let Err(cause) = check_emit(g, queues, out.len()) {
+        return refused(g, cause);
     }
     emit_due(Heads::read(g, queues), queues, out)
 }

@@ -35,6 +35,7 @@ fn sixteen(w: &[u64], at: usize) -> [u64; READS]
 }
 
 // The values of the keys written.
+// Stays: beside `sixteen` it is no twin: words are copied as they lie, a value is put together from two of them.
 fn sixteen_values(w: &[u64], at: usize) -> [Value; WRITES]
     requires { at + sizes.value * sizes.writes ≤ length w.now }
     ensures { result ≡ values_from w.now at sizes.writes }
@@ -170,6 +171,7 @@ pub fn seat_of(b: Sub) -> Seat
 }
 
 // A house that no call accepts.
+// Stays: the contracts of `lent_house` and of the calls that stand on it name the rules' house of no sites.
 pub fn no_house() -> House
     ensures { result ≡ no_house }
 {

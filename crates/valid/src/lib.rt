@@ -14,7 +14,7 @@ ghost use Rattle.rules.specs.Valid.{course_ok, desk_ok, sub_ok, slot_ok, counter
 ghost use Rattle.rules.specs.ValidLaws.{ValidHouse};
 ghost use Rattle.lent.specs.Layout.{keys_from, sub_from, entry_from, live_of, history_of};
 ghost use Rattle.lent.specs.Lent.{site_of};
-ghost use Rattle.keys.specs.Range.{RangeOf};
+ghost use Rattle.valid.specs.Homes.{Homed};
 ghost use Rattle.valid.specs.Lists.{Gathered};
 
 use history::remembered;
@@ -28,6 +28,15 @@ use numbers::{
     write_limit,
 };
 use tables::lent_house;
+
+// A site of a house: its number, and the range of its keys, `count` keys from `first` on (Q3.1).
+#[derive(Clone, Copy)]
+struct Home {
+    house: House,
+    own: u64,
+    first: Key,
+    count: u64,
+}
 
 // Replies come from other sites, and each list gathered has at most `CONC_ENTRIES` entries, the own one included. Most places have no
 // list, and then no replies are counted.
@@ -67,37 +76,36 @@ fn desk_ok(w: &[u64], at: usize) -> bool
     is_desk(desk) && wrote <= write_limit(desk)
 }
 
-// The part of a seat, with its other words from word `at` on: a held one goes out in messages. The site's keys are `count`
-// keys from `first` on (Q3.1).
-fn part_ok(o: House, own: u64, first: Key, count: u64, seat: Seat, w: &[u64], at: usize) -> bool
-    requires { ValidHouse o own × RangeOf o own first count × (at + sizes.place ≤ length w.now) }
-    ensures { result ≡ sub_ok o own (sub_from seat w.now at) }
+// The part of a seat, with its other words from word `at` on: a held one goes out in messages.
+fn part_ok(s: Home, seat: Seat, w: &[u64], at: usize) -> bool
+    requires { Homed s × (at + sizes.place ≤ length w.now) }
+    ensures { result ≡ sub_ok s.house s.own (sub_from seat w.now at) }
 {
-    if !course_ok(o, own, seat, w, at) {
+    if !course_ok(s.house, s.own, seat, w, at) {
         return false;
     }
-    if !keys_ok_in(first, count, w, at + word::PLACE_KEYS) {
+    if !keys_ok_in(s.first, s.count, w, at + word::PLACE_KEYS) {
         return false;
     }
     if !desk_ok(w, at) {
         return false;
     }
-    seat.stage == FREE || is_tx(o, seat.tx)
+    seat.stage == FREE || is_tx(s.house, seat.tx)
 }
 
 // An install in a slot of the history, from word `at` on: one that is remembered goes out in messages too.
-fn slot_ok(o: House, own: u64, first: Key, count: u64, used: bool, h: &[u64], at: usize) -> bool
-    requires { ValidHouse o own × RangeOf o own first count × (at + sizes.slot ≤ length h.now) }
-    ensures { result ≡ slot_ok o own used (entry_from h.now at) }
+fn slot_ok(s: Home, used: bool, h: &[u64], at: usize) -> bool
+    requires { Homed s × (at + sizes.slot ≤ length h.now) }
+    ensures { result ≡ slot_ok s.house s.own used (entry_from h.now at) }
 {
     let mask = h[at + word::SLOT_MASK];
-    if !is_mask(o, mask) {
+    if !is_mask(s.house, mask) {
         return false;
     }
-    if !keys_ok_in(first, count, h, at + word::SLOT_KEYS) {
+    if !keys_ok_in(s.first, s.count, h, at + word::SLOT_KEYS) {
         return false;
     }
-    !used || is_tx(o, h[at + word::SLOT_TX])
+    !used || is_tx(s.house, h[at + word::SLOT_TX])
 }
 
 fn counters_ok(o: House, c: Counters) -> bool
@@ -106,25 +114,25 @@ fn counters_ok(o: House, c: Counters) -> bool
     is_site(o, c.own) && c.serial <= LAST_SERIAL
 }
 
-fn live_ok(o: House, own: u64, first: Key, count: u64, seats: [Seat; LIVE], w: &[u64]) -> bool
-    requires { ValidHouse o own × RangeOf o own first count × (length w.now ≡ sizes.live_words) }
-    ensures { result ≡ live_ok o own (live_of seats w.now) }
+fn live_ok(s: Home, seats: [Seat; LIVE], w: &[u64]) -> bool
+    requires { Homed s × (length w.now ≡ sizes.live_words) }
+    ensures { result ≡ live_ok s.house s.own (live_of seats w.now) }
 {
     for i in 0..LIVE {
-        if !part_ok(o, own, first, count, seats[i], w, PLACE * i) {
+        if !part_ok(s, seats[i], w, PLACE * i) {
             return false;
         }
     }
     true
 }
 
-fn history_ok(o: House, own: u64, first: Key, count: u64, installs: u64, h: &[u64]) -> bool
-    requires { ValidHouse o own × RangeOf o own first count × (length h.now ≡ sizes.history_words) }
-    ensures { result ≡ history_ok o own installs (history_of h.now) }
+fn history_ok(s: Home, installs: u64, h: &[u64]) -> bool
+    requires { Homed s × (length h.now ≡ sizes.history_words) }
+    ensures { result ≡ history_ok s.house s.own installs (history_of h.now) }
 {
     let n = remembered(installs);
     for i in 0..HISTORY {
-        if !slot_ok(o, own, first, count, i < n, h, SLOT * i) {
+        if !slot_ok(s, i < n, h, SLOT * i) {
             return false;
         }
     }
@@ -144,10 +152,16 @@ pub fn site_ok(p: Core, live: &[u64], history: &[u64]) -> bool
     let own = p.counters.own;
     let first = first_key(house, own);
     let count = end_key(house, own) - first;
-    if !live_ok(house, own, first, count, p.seats, live) {
+    let s = Home {
+        house,
+        own,
+        first,
+        count,
+    };
+    if !live_ok(s, p.seats, live) {
         return false;
     }
-    history_ok(house, own, first, count, p.counters.installs, history)
+    history_ok(s, p.counters.installs, history)
 }
 
 // The gathered entries of a part at this stage, at the front of `es`.

@@ -9,7 +9,7 @@ pub loop-i-init : goal.loop-i-init
 loop-i-init c = each_none _
 
 pub slot_ok-requires : goal.slot_ok-requires
-slot_ok-requires c = (c.requires.0, c.requires.1, omega (arith, c.loop-i-test.true, c.requires.2))
+slot_ok-requires c = (c.requires.0, omega (arith, c.loop-i-test.true, c.requires.1))
 
 pub returns-then-not-slot_ok : goal.returns-then-not-slot_ok
 unfolding history_ok

@@ -10,4 +10,4 @@ use Rattle.valid.proofs.history_ok.Given as goal
 
 abbrev pub invariant-loop-i : goal.invariant-loop-i
 invariant-loop-i l =
-    EachBelow (λ j. slot_ok l.o l.own (ltb j (remembered l.installs)) (get_or (history_of l.h) j past_entry)) l.i
+    EachBelow (λ j. slot_ok l.s.house l.s.own (ltb j (remembered l.installs)) (get_or (history_of l.h) j past_entry)) l.i

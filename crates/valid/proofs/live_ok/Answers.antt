@@ -9,7 +9,7 @@ pub loop-i-init : goal.loop-i-init
 loop-i-init c = each_none _
 
 pub part_ok-requires : goal.part_ok-requires
-part_ok-requires c = (c.requires.0, c.requires.1, omega (arith, c.loop-i-test.true, c.requires.2))
+part_ok-requires c = (c.requires.0, omega (arith, c.loop-i-test.true, c.requires.1))
 
 pub returns-then-not-part_ok : goal.returns-then-not-part_ok
 unfolding live_ok

@@ -6,4 +6,4 @@ use Rattle.lent.specs.Layout.{live_of}
 use Rattle.valid.proofs.live_ok.Given as goal
 
 abbrev pub invariant-loop-i : goal.invariant-loop-i
-invariant-loop-i l = EachBelow (λ j. sub_ok l.o l.own (part_at (live_of l.seats l.w) j)) l.i
+invariant-loop-i l = EachBelow (λ j. sub_ok l.s.house l.s.own (part_at (live_of l.seats l.w) j)) l.i

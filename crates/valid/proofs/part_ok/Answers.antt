@@ -15,7 +15,7 @@ unfolding sub_ok sub_from
 returns-then-not-keys_ok_in c =
     simp (
       sym c.course_ok.ensures ∙ c.if-not-course_ok.false,
-      sym (c.keys_ok_in.ensures _ _ c.requires.1) ∙ c.if-not-keys_ok_in.true,
+      sym (c.keys_ok_in.ensures _ _ c.requires.0.range) ∙ c.if-not-keys_ok_in.true,
     )
 
 pub returns-then-not-desk_ok : goal.returns-then-not-desk_ok
@@ -23,7 +23,7 @@ unfolding sub_ok sub_from
 returns-then-not-desk_ok c =
     simp (
       sym c.course_ok.ensures ∙ c.if-not-course_ok.false,
-      sym (c.keys_ok_in.ensures _ _ c.requires.1) ∙ c.if-not-keys_ok_in.false,
+      sym (c.keys_ok_in.ensures _ _ c.requires.0.range) ∙ c.if-not-keys_ok_in.false,
       sym c.desk_ok.ensures ∙ c.if-not-desk_ok.true,
     )
 
@@ -32,7 +32,7 @@ unfolding sub_ok sub_from
 returns-then-seat-eq-FREE c =
     simp (
       sym c.course_ok.ensures ∙ c.if-not-course_ok.false,
-      sym (c.keys_ok_in.ensures _ _ c.requires.1) ∙ c.if-not-keys_ok_in.false,
+      sym (c.keys_ok_in.ensures _ _ c.requires.0.range) ∙ c.if-not-keys_ok_in.false,
       sym c.desk_ok.ensures ∙ c.if-not-desk_ok.false,
       eq-eqb c.args.seat.stage 0 c.if-seat-eq-FREE.true,
     )
@@ -42,7 +42,7 @@ unfolding sub_ok held_ok sub_from
 returns-else-seat-eq-FREE c =
     simp (
       sym c.course_ok.ensures ∙ c.if-not-course_ok.false,
-      sym (c.keys_ok_in.ensures _ _ c.requires.1) ∙ c.if-not-keys_ok_in.false,
+      sym (c.keys_ok_in.ensures _ _ c.requires.0.range) ∙ c.if-not-keys_ok_in.false,
       sym c.desk_ok.ensures ∙ c.if-not-desk_ok.false,
       ne_eqb _ _ c.if-seat-eq-FREE.false,
       ← c.is_tx.ensures,

@@ -61,7 +61,7 @@ live_ok-requires c =
     let v = passed _ _ _ _ c.house_ok.ensures c.if-not-house_ok.false c.counters_ok.ensures c.if-not-counters_ok.false in
     let good = ap house_ok (sym c.lent_house-house.ensures) ∙ sym c.house_ok.ensures ∙ c.if-not-house_ok.false in
     let range = ranged _ _ _ _ _ v c.house_ok.ensures c.if-not-house_ok.false c.first_key-first.ensures c.end_key.ensures in
-    (v, range.1, (house_lengths _ _ _ good).live)
+    (record { valid = v; range = range.1 }, (house_lengths _ _ _ good).live)
 
 pub returns-then-not-live_ok : goal.returns-then-not-live_ok
 unfolding site_ok
@@ -78,7 +78,7 @@ history_ok-requires c =
     let v = passed _ _ _ _ c.house_ok.ensures c.if-not-house_ok.false c.counters_ok.ensures c.if-not-counters_ok.false in
     let good = ap house_ok (sym c.lent_house-house.ensures) ∙ sym c.house_ok.ensures ∙ c.if-not-house_ok.false in
     let range = ranged _ _ _ _ _ v c.house_ok.ensures c.if-not-house_ok.false c.first_key-first.ensures c.end_key.ensures in
-    (v, range.1, (house_lengths _ _ _ good).history)
+    (record { valid = v; range = range.1 }, (house_lengths _ _ _ good).history)
 
 pub returns : goal.returns
 unfolding site_ok

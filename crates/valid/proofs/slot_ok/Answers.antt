@@ -14,7 +14,7 @@ unfolding slot_ok entry_from
 returns-then-not-keys_ok_in c =
     simp (
       sym c.is_mask.ensures ∙ c.if-not-is_mask.false,
-      sym (c.keys_ok_in.ensures _ _ c.requires.1) ∙ c.if-not-keys_ok_in.true,
+      sym (c.keys_ok_in.ensures _ _ c.requires.0.range) ∙ c.if-not-keys_ok_in.true,
     )
 
 pub returns-then-not-used : goal.returns-then-not-used
@@ -22,7 +22,7 @@ unfolding slot_ok entry_from
 returns-then-not-used c =
     simp (
       sym c.is_mask.ensures ∙ c.if-not-is_mask.false,
-      sym (c.keys_ok_in.ensures _ _ c.requires.1) ∙ c.if-not-keys_ok_in.false,
+      sym (c.keys_ok_in.ensures _ _ c.requires.0.range) ∙ c.if-not-keys_ok_in.false,
       c.if-not-used.true,
     )
 
@@ -31,7 +31,7 @@ unfolding slot_ok entry_from
 returns-else-not-used c =
     simp (
       sym c.is_mask.ensures ∙ c.if-not-is_mask.false,
-      sym (c.keys_ok_in.ensures _ _ c.requires.1) ∙ c.if-not-keys_ok_in.false,
+      sym (c.keys_ok_in.ensures _ _ c.requires.0.range) ∙ c.if-not-keys_ok_in.false,
       c.if-not-used.false,
       ← c.is_tx.ensures,
     )

@@ -9,4 +9,8 @@ send_all-a-requires c = (c.requires, no_entries)
 
 pub returns : goal.returns
 unfolding abort_step taken_of
-returns c = record { value = rw (c.no_sub-free.ensures, c.send_all-a.ensures.value); out_after = c.send_all-a.ensures.out_after }
+returns c =
+    record {
+      value = rw (c.with_sub.ensures, c.no_sub.ensures, c.send_all-a.ensures.value);
+      out_after = c.send_all-a.ensures.out_after;
+    }

@@ -15,7 +15,10 @@ pub returns-then-all_heard : goal.returns-then-all_heard
 unfolding cast_step
 returns-then-all_heard c =
     let e = sym c.all_heard.ensures ∙ c.if-all_heard.true in
-    record { value = rw (e, c.decide_step.ensures.value, c.with_course-u.ensures, c.with_queue_mark-c.ensures); out_after = rw (e, c.decide_step.ensures.out_after, c.with_course-u.ensures, c.with_queue_mark-c.ensures) }
+    record {
+      value = rw (e, c.decide_step.ensures.value, c.with_course-u.ensures, c.with_queue_mark-c.ensures);
+      out_after = rw (e, c.decide_step.ensures.out_after, c.with_course-u.ensures, c.with_queue_mark-c.ensures);
+    }
 
 pub send_all-requires : goal.send_all-requires
 unfolding with_queue_mark
@@ -27,4 +30,7 @@ pub returns : goal.returns
 unfolding cast_step
 returns c =
     let e = sym c.all_heard.ensures ∙ c.if-all_heard.false in
-    record { value = rw (e, c.send_all.ensures.value, c.with_course-u.ensures, c.with_queue_mark-c.ensures); out_after = rw (e, c.send_all.ensures.out_after, c.with_course-u.ensures, c.with_queue_mark-c.ensures) }
+    record {
+      value = rw (e, c.send_all.ensures.value, c.with_course-u.ensures, c.with_queue_mark-c.ensures);
+      out_after = rw (e, c.send_all.ensures.out_after, c.with_course-u.ensures, c.with_queue_mark-c.ensures);
+    }

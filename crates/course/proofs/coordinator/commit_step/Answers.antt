@@ -14,4 +14,8 @@ send_all-requires c =
 
 pub returns : goal.returns
 unfolding commit_step
-returns c = record { value = rw (c.send_all.ensures.value, c.with_course-u.ensures, c.with_decision-c.ensures); out_after = rw (c.send_all.ensures.out_after, c.with_course-u.ensures, c.with_decision-c.ensures) }
+returns c =
+    record {
+      value = rw (c.send_all.ensures.value, c.with_course-u.ensures, c.with_decision-c.ensures);
+      out_after = rw (c.send_all.ensures.out_after, c.with_course-u.ensures, c.with_decision-c.ensures);
+    }

@@ -32,7 +32,10 @@ returns-then-all_heard c =
     let v = c.if-vote-ne0.false in
     let e = sym c.all_heard.ensures ∙ c.if-all_heard.true in
     let f = rw c.with_heard-c.ensures at e in
-    record { value = rw (v, f, c.decide_step.ensures.value, c.with_course-u.ensures, c.with_heard-c.ensures); out_after = rw (v, f, c.decide_step.ensures.out_after, c.with_course-u.ensures, c.with_heard-c.ensures) }
+    record {
+      value = rw (v, f, c.decide_step.ensures.value, c.with_course-u.ensures, c.with_heard-c.ensures);
+      out_after = rw (v, f, c.decide_step.ensures.out_after, c.with_course-u.ensures, c.with_heard-c.ensures);
+    }
 
 pub returns : goal.returns
 unfolding vote_step quietly
@@ -40,4 +43,7 @@ returns c =
     let v = c.if-vote-ne0.false in
     let e = sym c.all_heard.ensures ∙ c.if-all_heard.false in
     let f = rw c.with_heard-c.ensures at e in
-    record { value = rw (v, f, c.quietly.ensures, c.with_course-u.ensures, c.with_heard-c.ensures); out_after = rw (v, f) (overlay_none c.args.out.now) }
+    record {
+      value = rw (v, f, c.quietly.ensures, c.with_course-u.ensures, c.with_heard-c.ensures);
+      out_after = rw (v, f) (overlay_none c.args.out.now);
+    }

@@ -1,5 +1,5 @@
 -- The test of the count.
-use mathlib.Core.Path.{refl}
+use Rattle.std.proofs.Common.{refl}
 use Rattle.rules.specs.Course.{channel_spent}
 use Rattle.course.proofs.turn.channel_spent.Goals as goal
 

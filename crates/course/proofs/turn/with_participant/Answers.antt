@@ -4,4 +4,4 @@ use Rattle.course.proofs.turn.with_participant.Goals as goal
 
 pub returns : goal.returns
 unfolding with_participant
-returns c = rw c.mask_of-bit.ensures
+returns c = rw c.mask_of.ensures

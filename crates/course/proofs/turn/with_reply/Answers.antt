@@ -4,4 +4,4 @@ use Rattle.course.proofs.turn.with_reply.Goals as goal
 
 pub returns : goal.returns
 unfolding with_reply
-returns c = rw c.with_heard-h.ensures
+returns c = rw c.with_heard.ensures

@@ -1,5 +1,5 @@
 -- The fields that change, and those that stay.
-use mathlib.Core.Path.{refl}
+use Rattle.std.proofs.Common.{refl}
 use Rattle.rules.specs.Course.{with_stage}
 use Rattle.course.proofs.turn.with_stage.Goals as goal
 

@@ -1,33 +1,27 @@
 -- Each return is a case of the definition.
-use borrow.Author.Tests.{le-ltb, lt-ltb}
+use Rattle.std.proofs.Common.{◌<◌, sym, ◌∙◌, lt-ltb}
+use Rattle.kinds.specs.Sizes as sizes
 use Rattle.rules.specs.Merger.{better_head}
 use Rattle.merger.proofs.heads.Heads.better.Goals as goal
 
-pub returns-then-not-has_head : goal.returns-then-not-has_head
+pub returns-then-not-has_head-clause-better : goal.returns-then-not-has_head-clause-better
 unfolding better_head
-returns-then-not-has_head c = simp (← c.has_head.ensures, c.if-not-has_head.true)
+returns-then-not-has_head-clause-better c = simp (sym c.has_head.ensures ∙ c.if-not-has_head.true)
 
-pub returns-then-best-ge-SITES : goal.returns-then-best-ge-SITES
+pub returns-in_default-clause-better : goal.returns-in_default-clause-better
 unfolding better_head
-returns-then-best-ge-SITES c =
-    let if1 = c.if-not-has_head in
-    let has-head = c.has_head in
-    simp (← has-head.ensures, if1.false, le-ltb _ _ c.if-best-ge-SITES.true)
+returns-in_default-clause-better c = rw c.in_default.is (simp (sym c.has_head.ensures ∙ c.if-not-has_head.false))
 
-pub returns-then-precedes : goal.returns-then-precedes
+pub returns-then-precedes-clause-better : goal.returns-then-precedes-clause-better
 unfolding better_head
-returns-then-precedes c =
-    let precedes = c.precedes in
-    let if2 = c.if-best-ge-SITES in
-    let if1 = c.if-not-has_head in
-    let has-head = c.has_head in
-    simp (← has-head.ensures, if1.false, lt-ltb _ _ if2.false, ← precedes.ensures, c.if-precedes.true)
+returns-then-precedes-clause-better c =
+    let low : c.in-Some.k < sizes.sites = rw c.in-Some.is at c.requires.best_lt_sites in
+    rw c.in-Some.is
+    (simp (sym c.has_head.ensures ∙ c.if-not-has_head.false, lt-ltb _ _ low, sym c.precedes.ensures ∙ c.if-precedes.true))
 
-pub returns : goal.returns
+pub returns-else-precedes-clause-better : goal.returns-else-precedes-clause-better
 unfolding better_head
-returns c =
-    let precedes = c.precedes in
-    let if2 = c.if-best-ge-SITES in
-    let if1 = c.if-not-has_head in
-    let has-head = c.has_head in
-    simp (← has-head.ensures, if1.false, lt-ltb _ _ if2.false, ← precedes.ensures, c.if-precedes.false)
+returns-else-precedes-clause-better c =
+    let low : c.in-Some.k < sizes.sites = rw c.in-Some.is at c.requires.best_lt_sites in
+    rw c.in-Some.is
+    (simp (sym c.has_head.ensures ∙ c.if-not-has_head.false, lt-ltb _ _ low, sym c.precedes.ensures ∙ c.if-precedes.false))

@@ -1,6 +1,5 @@
-use borrow.Author.Rules.{rules}
-use mathlib.Core.Path.{◌≡◌, refl, sym}
-use native.Mathlib.Omega.{arith}
+-- Each head is one more of the table.
+use Rattle.std.proofs.Common.{◌≡◌, refl, sym, arith}
 use Rattle.laws.specs.Scan.{fold_below}
 use Rattle.merger.specs.Order.{order_of}
 use Rattle.rules.specs.Merger.{heads_of}
@@ -9,18 +8,13 @@ use Rattle.merger.proofs.heads.Heads.read.Goals as goal
 
 pub loop-i-init : goal.loop-i-init
 unfolding heads_of fold_below
-loop-i-init c = (search rules, rw c.no_head-heads.ensures refl)
+loop-i-init c = rw c.no_head-heads.ensures refl
 
 pub loop-i-preserved : goal.loop-i-preserved
-loop-i-preserved c =
-    let loop = c.loop-i in
-    let args = c.args in
-    (search rules, rw (loop.invariant.1, c.read_head.ensures) (sym (heads_more args.queues.now loop.i)))
+loop-i-preserved c = rw (c.loop-i.invariant, c.read_head.ensures) (sym (heads_more c.args.queues.now c.loop-i.i))
 
 pub returns : goal.returns
 unfolding order_of
 returns c =
-    let loop = c.loop-i in
-    let args = c.args in
-    let e : loop.i ≡ args.g.house.sites = omega arith in
-    rw (← e, loop.invariant.1) refl
+    let e : c.loop-i.i ≡ c.args.g.house.sites = omega arith in
+    rw (← e, c.loop-i.invariant) refl

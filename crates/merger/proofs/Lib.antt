@@ -1,0 +1,2 @@
+-- What a refusal says of its code.
+pub mod Causes
