@@ -85,11 +85,7 @@ fn to_copy(w: Work, hand: &[u64], copies: &mut [u64], page: &mut Page) -> Result
 
 // A run is lent as many words as its line says, of those that the outgoing buffer has.
 fn to_bookmarks(w: Work, hand: &[u64], out: &mut [u64], page: &mut Page) -> Result<(), Ending> {
-    let d = at_bookmarks(
-        w.line,
-        front(hand, w.held),
-        front_mut(out, room_of(w.line)),
-    );
+    let d = at_bookmarks(w.line, front(hand, w.held), front_mut(out, room_of(w.line)));
     told_of(w, page, d)
 }
 

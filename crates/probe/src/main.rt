@@ -41,7 +41,12 @@ fn main(rt: HostRuntime) {
     let mut page = Page::new(rt.stdout());
     let count = arg_count(&rt);
     if count < 2 {
-        let _ = play_all(to, Source::Standard(rt.stdin()), &mut page, b"standard input");
+        let _ = play_all(
+            to,
+            Source::Standard(rt.stdin()),
+            &mut page,
+            b"standard input",
+        );
         return;
     }
     play_files(&rt, to, count, &mut page);
