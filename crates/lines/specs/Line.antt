@@ -1,25 +1,23 @@
 -- A line of a script (H1 to H20 and Q12.8): a verb and up to nine decimal numbers below 2^64, with one space between; anything else is
 -- Bad. A write has five numbers. Only `sites` takes four or more than five: up to eight first keys stand behind its number of sites.
-use Rattle.std.specs.Prelude.{ℕ, suc, ◌+◌, ◌-◌, ◌*◌, ◌≤◌, ◌<◌, ◌≡◌, List, [], ◌∷◌, length, get_or, set, ltb, leb, eqb}
+use Rattle.std.specs.Prelude.{ℕ, suc, ◌+◌, ◌-◌, ◌*◌, ◌≤◌, ◌<◌, ◌≡◌, List, [], ◌∷◌, length, get_or, set, ltb, leb, eqb, Option, None, Some}
 use Rattle.std.proofs.Common.{⊎_elim, eq-or-lt_of_le, arith}
 use Rattle.laws.specs.Choice.{pick}
 use Rattle.laws.specs.Scan.{fold_below}
 use Rattle.lines.specs.declared.Command.{Command}
 use Rattle.lines.specs.declared.Command.TheVariants as command
-use Rattle.lines.specs.declared.Grown.{Grown}
-use Rattle.lines.specs.declared.Grown.TheVariants as grew
 use Rattle.lines.specs.declared.Place.{Place}
 
 -- a letter more of a verb of at most seven
-unfoldable pub letter : ℕ → ℕ → Grown
-letter v x = pick (ltb x 97) grew.Spoilt (pick (ltb 122 x) grew.Spoilt (pick (leb 281474976710656 v) grew.Spoilt (grew.To (v * 256 + x))))
+unfoldable pub letter : ℕ → ℕ → Option ℕ
+letter v x = pick (ltb x 97) None (pick (ltb 122 x) None (pick (leb 281474976710656 v) None (Some (v * 256 + x))))
 
 -- a digit more of a number below 2^64
-unfoldable pub digit : ℕ → ℕ → Grown
-digit v x = pick (ltb x 48) grew.Spoilt
-    (pick (ltb 57 x) grew.Spoilt (pick (leb 18446744073709551616 (v * 10 + (x - 48))) grew.Spoilt (grew.To (v * 10 + (x - 48)))))
+unfoldable pub digit : ℕ → ℕ → Option ℕ
+digit v x = pick (ltb x 48) None
+    (pick (ltb 57 x) None (pick (leb 18446744073709551616 (v * 10 + (x - 48))) None (Some (v * 10 + (x - 48)))))
 
-unfoldable pub grown : ℕ → ℕ → ℕ → Grown
+unfoldable pub grown : ℕ → ℕ → ℕ → Option ℕ
 grown ended v x = pick (eqb ended 0) (letter v x) (digit v x)
 
 -- What has been read of a line: how many words ended, whether the present one has begun, the present one, and the ended ones.
@@ -39,9 +37,9 @@ scan_of p ws = record { ended = p.ended; begun = p.begun; word = p.word; words =
 unfoldable pub place_of : Scan → Place
 place_of s = record { ended = s.ended; begun = s.begun; word = s.word }
 
-unfoldable pub took : Place → Grown → Place
-took p (grew.To v) = record { ended = p.ended; begun = 1; word = v }
-took p grew.Spoilt = record { ended = 10; begun = p.begun; word = p.word }
+unfoldable pub took : Place → Option ℕ → Place
+took p (Some v) = record { ended = p.ended; begun = 1; word = v }
+took p None = record { ended = 10; begun = p.begun; word = p.word }
 
 abbrev pub spoilt : Scan → Scan
 spoilt s = record { ended = 10; begun = s.begun; word = s.word; words = s.words }

@@ -57,13 +57,6 @@ pub struct Place {
     pub word: u64,
 }
 
-// A word with one byte more, if it has such a byte.
-#[derive(Clone, Copy)]
-pub enum Grown {
-    To(u64),
-    Spoilt,
-}
-
 #[tactic(auto, unfolding(crate::specs::Line::start, crate::specs::Line::place_of))]
 pub fn start() -> Place
     ensures { result ≡ place_of start_of }
@@ -75,47 +68,49 @@ pub fn start() -> Place
     }
 }
 
+// A verb with one letter more, if the byte is one.
 #[tactic(auto, unfolding(crate::specs::Line::letter))]
-fn letter(word: u64, b: u8) -> Grown
+fn letter(word: u64, b: u8) -> Option<u64>
     ensures { result ≡ letterOf word b }
 {
     let x = b as u64;
     if x < 97 {
-        return Grown::Spoilt;
+        return None;
     }
     if 122 < x {
-        return Grown::Spoilt;
+        return None;
     }
     if LONGEST <= word {
-        return Grown::Spoilt;
+        return None;
     }
-    Grown::To(word * 256 + x)
+    Some(word * 256 + x)
 }
 
+// A number with one digit more, if the byte is one.
 #[tactic(auto, unfolding(crate::specs::Line::digit))]
-fn digit(word: u64, b: u8) -> Grown
+fn digit(word: u64, b: u8) -> Option<u64>
     ensures { result ≡ digitOf word b }
 {
     let x = b as u64;
     if x < 48 {
-        return Grown::Spoilt;
+        return None;
     }
     if 57 < x {
-        return Grown::Spoilt;
+        return None;
     }
     if TENTH < word {
-        return Grown::Spoilt;
+        return None;
     }
     let d = x - 48;
     let tens = word * 10;
     if LAST - d < tens {
-        return Grown::Spoilt;
+        return None;
     }
-    Grown::To(tens + d)
+    Some(tens + d)
 }
 
 #[tactic(auto, unfolding(crate::specs::Line::grown))]
-fn grow(ended: u64, word: u64, b: u8) -> Grown
+fn grow(ended: u64, word: u64, b: u8) -> Option<u64>
     ensures { result ≡ grown ended word b }
 {
     if ended == 0 {
@@ -144,21 +139,15 @@ pub fn step(p: Place, words: &mut [u64; WORDS], b: u8) -> Place
 fn end_word(p: Place, words: &mut [u64; WORDS]) -> Place
     ensures { scan_of result words.new ≡ spaced (scan_of p words.old) }
 {
-    let ended = p.ended;
-    let mut q = p;
     if p.begun == 0 {
-        q.ended = BAD;
-        return q;
+        return Place { ended: BAD, ..p };
     }
-    if FULL <= ended {
-        q.ended = BAD;
-        return q;
+    if FULL <= p.ended {
+        return Place { ended: BAD, ..p };
     }
-    let i = ended as usize;
-    words[i] = p.word;
-    let next = ended + 1;
+    words[p.ended as usize] = p.word;
     Place {
-        ended: next,
+        ended: p.ended + 1,
         begun: 0,
         word: 0,
     }
@@ -169,19 +158,13 @@ fn end_word(p: Place, words: &mut [u64; WORDS]) -> Place
 fn grow_word(p: Place, b: u8) -> Place
     ensures { result ≡ took p (grown p.ended p.word b) }
 {
-    let ended = p.ended;
-    let mut q = p;
-    let g = grow(ended, p.word, b);
-    match g {
-        Grown::To(word) => {
-            q.begun = 1;
-            q.word = word;
-            q
-        }
-        Grown::Spoilt => {
-            q.ended = BAD;
-            q
-        }
+    match grow(p.ended, p.word, b) {
+        Some(word) => Place {
+            begun: 1,
+            word,
+            ..p
+        },
+        None => Place { ended: BAD, ..p },
     }
 }
 
@@ -240,15 +223,16 @@ fn word_at(s: Place, words: &[u64; WORDS], at: u64) -> u64
 pub fn table(s: Place, words: &[u64; WORDS]) -> [u64; 8]
     ensures { result ≡ table_of (scan_of s words.now) }
 {
-    let key1 = word_at(s, words, 2);
-    let key2 = word_at(s, words, 3);
-    let key3 = word_at(s, words, 4);
-    let key4 = word_at(s, words, 5);
-    let key5 = word_at(s, words, 6);
-    let key6 = word_at(s, words, 7);
-    let key7 = word_at(s, words, 8);
-    let key8 = word_at(s, words, 9);
-    [key1, key2, key3, key4, key5, key6, key7, key8]
+    [
+        word_at(s, words, 2),
+        word_at(s, words, 3),
+        word_at(s, words, 4),
+        word_at(s, words, 5),
+        word_at(s, words, 6),
+        word_at(s, words, 7),
+        word_at(s, words, 8),
+        word_at(s, words, 9),
+    ]
 }
 
 // How far a scan went: to a newline, or to the end of what there is.
@@ -267,14 +251,12 @@ pub fn read(s: Place, words: &mut [u64; WORDS], text: &[u8], from: usize, to: us
     ensures ends { Ends text.now from to result.at }
 {
     let mut p = s;
-    let mut i = from;
-    while i < to {
+    for i in from..to {
         let b = text[i];
         if b == NEWLINE {
-            break;
+            return Reached { at: i, place: p };
         }
         p = step(p, words, b);
-        i += 1;
     }
-    Reached { at: i, place: p }
+    Reached { at: to, place: p }
 }
