@@ -30,6 +30,6 @@ pub fn own_call(
         Command::Abandon(tx) => store::abandon(p, live, history, tx, out),
         Command::Install(_) => store::install(p, live, history, base, out),
         Command::Report(_) => store::report(p, live, history, out),
-        _ => shell::refused(p, Refusal::Malformed),
+        _ => shell::refused_by(p, Refusal::Malformed),
     }
 }

@@ -44,6 +44,6 @@ pub fn take_kind(
         Ok(MessageKind::Vote) => on_vote(p, live, history, h, place, out),
         Ok(MessageKind::Commit) => on_commit(p, live, history, h, place),
         Ok(MessageKind::Abort) => on_abort(p, live, history, h, place),
-        Err(_) => shell::refused(p, Refusal::Malformed),
+        Err(_) => shell::refused_by(p, Refusal::Malformed),
     }
 }

@@ -42,12 +42,12 @@ pub fn message(
     let house = tables::lent_house(p.house, live.len(), history.len());
     let fine = formed(ok, house, m);
     if let Err(cause) = check_arrival(ok, out.len(), fine) {
-        return shell::refused(p, cause);
+        return shell::refused_by(p, cause);
     }
     let h = messages::read_head(m);
     let from = h.from as usize - 1;
     if let Err(cause) = check_next(h.to, p.counters.own, h.channel, p.channels.taken[from]) {
-        return shell::refused(p, cause);
+        return shell::refused_by(p, cause);
     }
     let place = live::place_of(p.seats, h.tx);
     take_kind(p, live, history, h, &m[MESSAGE_HEADER..], place, lists, out)

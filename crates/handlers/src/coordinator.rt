@@ -36,7 +36,7 @@ pub fn take_joined(
     let c = t.sub.course;
     let turn = joined_in_turn(c, h.from);
     if let Err(cause) = check_reply(turn, false) {
-        return shell::refused(p, cause);
+        return shell::refused_by(p, cause);
     }
     let d = course::turn::with_heard(c, h.from, h.argument);
     let u = course::turn::with_course(t, d);
@@ -95,7 +95,7 @@ pub fn take_vote(
     let due = vote_decides(own, c, h.from, h.argument);
     let spent = all_spent(due, p.channels.sent, c.mask, own);
     if let Err(cause) = check_reply(turn, spent) {
-        return shell::refused(p, cause);
+        return shell::refused_by(p, cause);
     }
     let a = course::coordinator::vote_step(t, h.from, h.argument, out);
     shell::settled(p, live, place, a)

@@ -101,7 +101,7 @@ pub fn take_conc(
     let due = live::all_heard(own, next.heard, b.mask);
     let spent = all_spent(due, p.channels.sent, b.mask, own);
     if let Err(cause) = check_reply(turn, spent) {
-        return shell::refused(p, cause);
+        return shell::refused_by(p, cause);
     }
     let at = GATHERED * place + ENTRY * b.listed;
     slices::copy_words(&mut lists[at..], es);

@@ -39,7 +39,7 @@ pub fn take_join(
 {
     let spent = course::turn::channel_spent(p.channels, h.from);
     if let Err(cause) = check_reply(LIVE <= place.unwrap_or(LIVE), spent) {
-        return shell::refused(p, cause);
+        return shell::refused_by(p, cause);
     }
     let t = shell::join_turn(p, h, h.argument);
     match live::free_place(p.seats) {
@@ -99,7 +99,7 @@ pub fn take_prepare(
     let t = course::turn::raise(first, h.clock);
     let spent = course::turn::channel_spent(p.channels, h.from);
     if let Err(cause) = check_reply(t.sub.course.stage == ACTIVE, spent) {
-        return shell::refused(p, cause);
+        return shell::refused_by(p, cause);
     }
     let a = prepare_taken(p, live, history, h, place, t, out);
     shell::settled(p, live, place, a)
@@ -121,7 +121,7 @@ pub fn pass_prepare(
 {
     let spent = course::turn::channel_spent(p.channels, h.from);
     if let Err(cause) = check_reply(true, spent) {
-        return shell::refused(p, cause);
+        return shell::refused_by(p, cause);
     }
     let first = shell::join_turn(p, h, HOUSE);
     let t = course::turn::raise(first, h.clock);
@@ -149,7 +149,7 @@ pub fn take_cert(
     let t = shell::arrived(p, live, place, h.from);
     let spent = course::turn::channel_spent(p.channels, h.from);
     if let Err(cause) = check_reply(t.sub.course.stage == PREPARED, spent) {
-        return shell::refused(p, cause);
+        return shell::refused_by(p, cause);
     }
     let n = h.count as usize;
     let v = certify::vote_of(p, live, history, place, es, n);
@@ -172,7 +172,7 @@ pub fn take_commit(
     let t = course::turn::raise(first, h.clock);
     let c = t.sub.course;
     if let Err(cause) = check_reply(c.stage == QUEUED, false) {
-        return shell::refused(p, cause);
+        return shell::refused_by(p, cause);
     }
     let d = course::turn::with_decision(c, h.clock);
     let u = course::turn::with_course(t, d);
@@ -187,7 +187,7 @@ pub fn take_abort(p: Core, live: &mut [u64], history: &[u64], h: MessageHead, pl
 {
     let t = shell::arrived(p, live, place, h.from);
     if let Err(cause) = check_reply(t.sub.course.stage != DECIDED, false) {
-        return shell::refused(p, cause);
+        return shell::refused_by(p, cause);
     }
     let free = course::turn::no_sub();
     let u = course::turn::with_sub(t, free);

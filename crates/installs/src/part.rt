@@ -173,6 +173,6 @@ pub fn install(
 {
     match check_install(p, live, history, out.len(), base.len()) {
         Ok(place) => install_at(p, live, history, base, out, place),
-        Err(cause) => shell::refused(p, cause),
+        Err(cause) => shell::refused_by(p, cause),
     }
 }

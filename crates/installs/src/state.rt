@@ -48,7 +48,7 @@ pub fn report(p: Core, live: &[u64], history: &[u64], out: &mut [u64]) -> Reply
         (report_of (site_of p live.now history.now) (length out.old)).words }
 {
     if let Err(cause) = check_report(p, live, history, out.len()) {
-        return shell::refused(p, cause);
+        return shell::refused_by(p, cause);
     }
     let state = queue::state_number(p.seats, live, p.counters.clock);
     let words = write_state(out, p.counters.own, state);

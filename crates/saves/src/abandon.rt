@@ -37,7 +37,7 @@ fn abandon_at(p: Core, live: &mut [u64], history: &[u64], place: usize, out: &mu
 {
     let t = shell::turn_at(p, live, place);
     if let Err(cause) = check_abandon(t) {
-        return shell::refused(p, cause);
+        return shell::refused_by(p, cause);
     }
     let a = course::coordinator::abort_step(t, ABANDONED, out);
     shell::settled(p, live, place, a)
@@ -53,6 +53,6 @@ pub fn abandon(p: Core, live: &mut [u64], history: &[u64], tx: u64, out: &mut [u
     let ok = valid::site_ok(p, live, history);
     match check_request(p, ok, out.len(), tx) {
         Ok(place) => abandon_at(p, live, history, place, out),
-        Err(cause) => shell::refused(p, cause),
+        Err(cause) => shell::refused_by(p, cause),
     }
 }

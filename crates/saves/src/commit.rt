@@ -169,7 +169,7 @@ fn commit_at(
 {
     let t = shell::turn_at(p, live, place);
     if let Err(cause) = check_commit(t) {
-        return shell::refused(p, cause);
+        return shell::refused_by(p, cause);
     }
     let a = commit_step(p, live, history, place, lists, out);
     shell::settled(p, live, place, a)
@@ -194,6 +194,6 @@ pub fn commit(
     let ok = valid::handed_ok(p, live, history, lists);
     match check_request(p, ok, out.len(), tx) {
         Ok(place) => commit_at(p, live, history, place, lists, out),
-        Err(cause) => shell::refused(p, cause),
+        Err(cause) => shell::refused_by(p, cause),
     }
 }

@@ -24,8 +24,8 @@ pub fn unaltered(p: Core, answer: Answer, words: usize) -> Reply
     }
 }
 
-// A refusal, with its cause's number.
-pub fn refused(p: Core, cause: Refusal) -> Reply
+// A refusal by a cause, with its number.
+pub fn refused_by(p: Core, cause: Refusal) -> Reply
     ensures { (w h lent : List ℕ) → Replied p w h result w h (refusedOf (number_of cause) (site_of p w h) lent) }
 {
     unaltered(p, Answer::Refused(cause.into()), 0)

@@ -108,7 +108,7 @@ fn read_at(
     let lost = history::is_forgotten(installs, snapshot);
     let has = keys::read_key(keys, key);
     if let Err(cause) = check_read(lost, has, keys.read) {
-        return shell::refused(p, cause);
+        return shell::refused_by(p, cause);
     }
     let value = history::search(history, installs, base, snapshot, key).value;
     let more = keys::with_read(keys, key);
@@ -122,7 +122,7 @@ pub fn read(p: Core, live: &mut [u64], history: &[u64], base: &[u64], tx: u64, k
 {
     match check_access(p, live, history, base.len(), tx, key) {
         Ok(place) => read_at(p, live, history, base, place, key),
-        Err(cause) => shell::refused(p, cause),
+        Err(cause) => shell::refused_by(p, cause),
     }
 }
 
@@ -226,7 +226,7 @@ fn write_at(
     let t = shell::turn_at(p, live, place);
     match check_late(p, live, history, place, t, key, value) {
         Ok(()) => written(p, live, place, t, key, value),
-        Err(cause) => shell::refused(p, cause),
+        Err(cause) => shell::refused_by(p, cause),
     }
 }
 
@@ -237,6 +237,6 @@ pub fn write(p: Core, live: &mut [u64], history: &[u64], tx: u64, key: u64, valu
 {
     match check_access(p, live, history, BASE, tx, key) {
         Ok(place) => write_at(p, live, history, place, key, value),
-        Err(cause) => shell::refused(p, cause),
+        Err(cause) => shell::refused_by(p, cause),
     }
 }

@@ -60,6 +60,6 @@ pub fn begin(p: Core, live: &mut [u64], history: &[u64], desk: u64) -> Reply
 {
     match check_begin(p, live, history, desk) {
         Ok(place) => shell::settled(p, live, place, begun(p, desk)),
-        Err(cause) => shell::refused(p, cause),
+        Err(cause) => shell::refused_by(p, cause),
     }
 }

@@ -71,7 +71,7 @@ fn enlist_at(
 {
     let t = shell::turn_at(p, live, place);
     if let Err(cause) = check_joiner(t, site) {
-        return shell::refused(p, cause);
+        return shell::refused_by(p, cause);
     }
     shell::settled(
         p,
@@ -97,6 +97,6 @@ pub fn enlist(
 {
     match check_enlist(p, live, history, out.len(), tx, site) {
         Ok(place) => enlist_at(p, live, history, place, site, out),
-        Err(cause) => shell::refused(p, cause),
+        Err(cause) => shell::refused_by(p, cause),
     }
 }

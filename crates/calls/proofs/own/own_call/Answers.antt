@@ -76,4 +76,4 @@ returns-in_default c =
       install = d.not-Install;
       report = d.not-Report;
     } in
-    other a.p a.c _ _ _ _ _ _ k (c.refused.ensures _ _ [])
+    other a.p a.c _ _ _ _ _ _ k (c.refused_by.ensures _ _ [])

@@ -84,7 +84,7 @@ returns-in-Err c =
     c.handed_ok-ok.ensures c.lent_house-house.ensures c.formed-fine.ensures c.in-Err.ensures in
     let n = stopped c.in-Err.cause _ refl in
     record {
-      replied = rw (← told, n) (c.refused.ensures _ _ a.lists.now);
+      replied = rw (← told, n) (c.refused_by.ensures _ _ a.lists.now);
       lists_after = rw (← told, n) refl;
       out_after = rw (← told, n) (overlay_none a.out.now);
     }
@@ -119,7 +119,7 @@ returns-in-Err-check_next c =
     let cause = c.in-Err-check_next.cause in
     rw (message_refused passed (λ z. caused cause (told ∙ z)), ← told)
     (record {
-      replied = c.refused-in-Err-check_next.ensures _ _ a.lists.now;
+      replied = c.refused_by-in-Err-check_next.ensures _ _ a.lists.now;
       lists_after = refl;
       out_after = overlay_none a.out.now;
     })

@@ -37,7 +37,7 @@ returns-in-Err c =
     let part : Turn = let a = c.args in arrived (site_of a.p a.live.now a.history.now) a.place a.h.from in
     let first : refusal_in c.check_reply.result ≡ reply_code (joined_in_turn part.sub.course c.args.h.from) false = rw (← c.arrived-t.ensures c.args.history.now, ← c.joined_in_turn-turn.ensures) c.check_reply.ensures in
     let told = rw c.in-Err.is at first in
-    rw (← told, stopped c.in-Err.cause _ refl) (c.refused.ensures _ _ [])
+    rw (← told, stopped c.in-Err.cause _ refl) (c.refused_by.ensures _ _ [])
 
 pub with_heard-d-requires : goal.with_heard-d-requires
 with_heard-d-requires c =

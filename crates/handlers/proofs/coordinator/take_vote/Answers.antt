@@ -97,7 +97,7 @@ returns-in-Err c =
     let first = first (goal.at.returns-in-Err c).After-check_reply in
     let told = rw c.in-Err.is at first in
     let n = stopped c.in-Err.cause _ refl in
-    record { replied = rw (← told, n) (c.refused.ensures _ _ []); out_after = rw (← told, n) (overlay_none c.args.out.now) }
+    record { replied = rw (← told, n) (c.refused_by.ensures _ _ []); out_after = rw (← told, n) (overlay_none c.args.out.now) }
 
 pub vote_step-a-requires : goal.vote_step-a-requires
 vote_step-a-requires c =

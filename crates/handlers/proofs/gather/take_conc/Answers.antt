@@ -137,7 +137,7 @@ returns-in-Err c =
     c.conc_in_turn-turn.ensures c.with_heard-next.ensures c.all_heard-due.ensures c.all_spent-spent.ensures in
     let n = stopped c.in-Err.cause _ refl in
     record {
-      replied = rw (← told, n) (c.refused.ensures _ _ a.lists.now);
+      replied = rw (← told, n) (c.refused_by.ensures _ _ a.lists.now);
       lists_after = rw (← told, n) refl;
       out_after = rw (← told, n) (overlay_none a.out.now);
     }

@@ -40,7 +40,7 @@ returns-in-Err c =
     let first : let a = c.args in refusal_in c.check_reply.result ≡ reply_code true (channel_spent a.p.channels a.h.from) = rw (← c.channel_spent-spent.ensures) c.check_reply.ensures in
     let told = rw c.in-Err.is at first in
     let n = stopped c.in-Err.cause _ refl in
-    record { replied = rw (← told, n) (c.refused.ensures _ _ []); out_after = rw (← told, n) (overlay_none c.args.out.now) }
+    record { replied = rw (← told, n) (c.refused_by.ensures _ _ []); out_after = rw (← told, n) (overlay_none c.args.out.now) }
 
 pub join_turn-first-requires : goal.join_turn-first-requires
 join_turn-first-requires c =

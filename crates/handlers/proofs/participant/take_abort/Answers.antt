@@ -35,7 +35,7 @@ returns-in-Err c =
     let part : Turn = arrived handed c.args.place c.args.h.from in
     let first : refusal_in c.check_reply.result ≡ reply_code (not (eqb part.sub.course.stage stage.decided)) false = rw (← c.arrived-t.ensures c.args.history.now) c.check_reply.ensures in
     let told = rw c.in-Err.is at first in
-    rw (← told, stopped c.in-Err.cause _ refl) (c.refused.ensures _ _ [])
+    rw (← told, stopped c.in-Err.cause _ refl) (c.refused_by.ensures _ _ [])
 
 pub settled-requires : goal.settled-requires
 settled-requires c = settles c.requires

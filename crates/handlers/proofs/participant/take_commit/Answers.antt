@@ -35,7 +35,7 @@ returns-in-Err c =
     let turned : c.raise-t.result ≡ part = let s = c.args in c.raise-t.ensures ∙ ap (λ (x : Turn). raise x s.h.clock) (c.arrived-first.ensures s.history.now) in
     let first : refusal_in c.check_reply.result ≡ reply_code (eqb part.sub.course.stage stage.queued) false = rw (← turned) c.check_reply.ensures in
     let told = rw c.in-Err.is at first in
-    rw (← told, stopped c.in-Err.cause _ refl) (c.refused.ensures _ _ [])
+    rw (← told, stopped c.in-Err.cause _ refl) (c.refused_by.ensures _ _ [])
 
 pub settled-requires : goal.settled-requires
 settled-requires c = settles c.requires

@@ -70,7 +70,7 @@ returns-in-Err c =
     let s = site_of a.p a.live.now a.history.now in
     let told = told s a.h a.place _ _ _ c.unwrap_or.ensures c.channel_spent-spent.ensures c.in-Err.ensures in
     let n = stopped c.in-Err.cause _ refl in
-    record { replied = rw (← told, n) (c.refused.ensures _ _ []); out_after = rw (← told, n) (overlay_none c.args.out.now) }
+    record { replied = rw (← told, n) (c.refused_by.ensures _ _ []); out_after = rw (← told, n) (overlay_none c.args.out.now) }
 
 pub join_turn-t-requires : goal.join_turn-t-requires
 join_turn-t-requires c =

@@ -55,7 +55,7 @@ returns-in-Err c =
     let first = first (goal.at.returns-in-Err c).After-check_reply in
     let told = rw c.in-Err.is at first in
     let n = stopped c.in-Err.cause _ refl in
-    record { replied = rw (← told, n) (c.refused.ensures _ _ []); out_after = rw (← told, n) (overlay_none c.args.out.now) }
+    record { replied = rw (← told, n) (c.refused_by.ensures _ _ []); out_after = rw (← told, n) (overlay_none c.args.out.now) }
 
 pub prepare_taken-a-requires : goal.prepare_taken-a-requires
 unfolding raise arrived

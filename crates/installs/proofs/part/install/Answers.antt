@@ -12,7 +12,7 @@ unfolding install_of
 returns-in-Err c =
     let base = c.args.base.now in
     rw (refuses _ _ _ base _ c.in-Err.ensures.code)
-    (record { replied = c.refused.ensures _ _ base; base_after = refl; out_after = overlay_none c.args.out.now })
+    (record { replied = c.refused_by.ensures _ _ base; base_after = refl; out_after = overlay_none c.args.out.now })
 
 pub install_at-requires : goal.install_at-requires
 install_at-requires c =

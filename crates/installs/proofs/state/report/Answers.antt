@@ -11,7 +11,7 @@ pub returns-in-Err : goal.returns-in-Err
 unfolding report_of
 returns-in-Err c =
     rw (refuses _ _ _ [] _ c.in-Err.ensures)
-    (record { replied = c.refused.ensures _ _ []; out_after = overlay_none c.args.out.now })
+    (record { replied = c.refused_by.ensures _ _ []; out_after = overlay_none c.args.out.now })
 
 pub state_number-state-requires : goal.state_number-state-requires
 state_number-state-requires c =

@@ -12,7 +12,7 @@ returns-in-Err c =
     let a = c.args in
     let first = rw c.site_ok-ok.ensures at (c.in-Err.ensures.code a.live.now a.history.now) in
     rw (stopped c.in-Err.cause _ first, ← first)
-    (record { replied = c.refused.ensures _ _ []; out_after = overlay_none a.out.now })
+    (record { replied = c.refused_by.ensures _ _ []; out_after = overlay_none a.out.now })
 
 pub abandon_at-requires : goal.abandon_at-requires
 abandon_at-requires c =

@@ -14,7 +14,7 @@ returns-in-Err c =
     let a = c.args in
     let first = rw c.handed_ok-ok.ensures at (c.in-Err.ensures.code a.live.now a.history.now) in
     rw (stopped c.in-Err.cause _ first, ← first)
-    (record { replied = c.refused.ensures _ _ a.lists.now; lists_after = refl; out_after = overlay_none a.out.now })
+    (record { replied = c.refused_by.ensures _ _ a.lists.now; lists_after = refl; out_after = overlay_none a.out.now })
 
 pub commit_at-requires : goal.commit_at-requires
 commit_at-requires c =

@@ -49,7 +49,7 @@ returns-in-Err c =
     let a = c.args in
     let s = site_of a.p a.live.now a.history.now in
     rw (by_turn s a.lists.now a.place _ (c.turn_at-t.ensures a.history.now), refuses _ _ s a.lists.now _ c.in-Err.ensures)
-    (record { replied = c.refused.ensures _ _ a.lists.now; lists_after = refl; out_after = overlay_none a.out.now })
+    (record { replied = c.refused_by.ensures _ _ a.lists.now; lists_after = refl; out_after = overlay_none a.out.now })
 
 pub commit_step-a-requires : goal.commit_step-a-requires
 commit_step-a-requires c =

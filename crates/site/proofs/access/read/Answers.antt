@@ -10,7 +10,7 @@ use Rattle.site.proofs.access.read.Goals as goal
 
 pub returns-in-Err : goal.returns-in-Err
 unfolding read_of
-returns-in-Err c = rw (refuses _ _ _ [] _ c.in-Err.ensures.code) (c.refused.ensures _ _ [])
+returns-in-Err c = rw (refuses _ _ _ [] _ c.in-Err.ensures.code) (c.refused_by.ensures _ _ [])
 
 pub read_at-requires : goal.read_at-requires
 read_at-requires c =

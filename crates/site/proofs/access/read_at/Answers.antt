@@ -91,7 +91,7 @@ returns-in-Err c =
     let turned = c.turn_at-t.ensures a.history.now in
     let lacked = sym c.wrote_key.ensures ∙ c.if-wrote_key.false in
     let first = rw (c.is_forgotten-lost.ensures, c.read_key-has.ensures) at c.in-Err.ensures in
-    rw (reads s a.base.now a.place a.key _ _ _ turned lacked refl refl, refuses _ _ s [] _ first) (c.refused.ensures _ _ [])
+    rw (reads s a.base.now a.place a.key _ _ _ turned lacked refl refl, refuses _ _ s [] _ first) (c.refused_by.ensures _ _ [])
 
 pub search-requires : goal.search-requires
 search-requires c =

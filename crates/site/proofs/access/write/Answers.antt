@@ -7,7 +7,7 @@ use Rattle.site.proofs.access.write.Goals as goal
 
 pub returns-in-Err : goal.returns-in-Err
 unfolding write_of
-returns-in-Err c = rw (refuses _ _ _ [] _ c.in-Err.ensures.code) (c.refused.ensures _ _ [])
+returns-in-Err c = rw (refuses _ _ _ [] _ c.in-Err.ensures.code) (c.refused_by.ensures _ _ [])
 
 pub write_at-requires : goal.write_at-requires
 write_at-requires c =

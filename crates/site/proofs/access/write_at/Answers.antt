@@ -38,7 +38,7 @@ check_late-requires c = (c.requires, c.turn_at-t.ensures c.args.history.now)
 
 pub returns-in-Err : goal.returns-in-Err
 unfolding write_at
-returns-in-Err c = rw (refuses _ _ _ [] _ c.in-Err.ensures) (c.refused.ensures _ _ [])
+returns-in-Err c = rw (refuses _ _ _ [] _ c.in-Err.ensures) (c.refused_by.ensures _ _ [])
 
 pub written-requires : goal.written-requires
 written-requires c =

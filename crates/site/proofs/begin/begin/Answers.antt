@@ -9,7 +9,7 @@ use Rattle.site.proofs.begin.begin.Goals as goal
 
 pub returns-in-Err : goal.returns-in-Err
 unfolding begin_of
-returns-in-Err c = rw (refuses _ _ _ [] _ c.in-Err.ensures.code) (c.refused.ensures _ _ [])
+returns-in-Err c = rw (refuses _ _ _ [] _ c.in-Err.ensures.code) (c.refused_by.ensures _ _ [])
 
 pub begun-requires : goal.begun-requires
 begun-requires c =

@@ -13,7 +13,7 @@ pub returns-in-Err : goal.returns-in-Err
 unfolding enlist_of
 returns-in-Err c =
     rw (refuses _ _ _ [] _ c.in-Err.ensures.code)
-    (record { replied = c.refused.ensures _ _ []; out_after = overlay_none c.args.out.now })
+    (record { replied = c.refused_by.ensures _ _ []; out_after = overlay_none c.args.out.now })
 
 pub enlist_at-requires : goal.enlist_at-requires
 enlist_at-requires c =

@@ -37,7 +37,7 @@ returns-in-Err c =
     let a = c.args in
     let s = site_of a.p a.live.now a.history.now in
     rw (by_turn s a.place a.site _ (c.turn_at-t.ensures a.history.now), refuses _ _ s [] _ c.in-Err.ensures)
-    (record { replied = c.refused.ensures _ _ []; out_after = overlay_none a.out.now })
+    (record { replied = c.refused_by.ensures _ _ []; out_after = overlay_none a.out.now })
 
 pub enlist_step-requires : goal.enlist_step-requires
 enlist_step-requires c =
