@@ -45,7 +45,7 @@ fn to_bytes(m: &[u64], out: &mut [u8]) -> Done {
     Done {
         answer,
         words: written(answer, out.len()),
-        buffer: sums::of_bytes(0, out),
+        buffer: sums::of_words(0, out),
         same: before == sums::of_words(0, m),
         state: 0,
     }
