@@ -36,18 +36,16 @@ fn start_at(
     base: &mut [u64],
     lists: &mut [u64],
 ) -> Core {
-    let firsts = EVEN;
-    let o = store::start_site(
+    store::start_site(
         PAIR as u64,
-        &firsts,
+        &EVEN,
         own,
         half(live, i),
         half(history, i),
         half(base, i),
         half(lists, i),
-    );
-    let p = o.core;
-    p
+    )
+    .core
 }
 
 fn start(
@@ -60,9 +58,7 @@ fn start(
 ) -> Store {
     let one = start_at(0, 1, live, history, base, lists);
     let two = start_at(1, 2, live, history, base, lists);
-    let firsts = EVEN;
-    let o = store::start_merger(PAIR as u64, &firsts, queues);
-    let merger = o.merger;
+    let merger = store::start_merger(PAIR as u64, &EVEN, queues).merger;
     store::start_copy(copy);
     Store {
         one,
@@ -73,61 +69,46 @@ fn start(
     }
 }
 
-// Copies the first n words.
-fn keep_front(held: &mut [u64; OUTGOING], out: &[u64; OUTGOING], n: usize) {
-    let mut i: usize = 0;
-    while i < n {
-        if OUTGOING <= i {
-            return;
-        }
-        held[i] = out[i];
-        i += 1;
-    }
-}
-
 // Keeps what a call wrote, if it wrote anything, and answers how many words are kept now.
 fn kept(held: &mut [u64; OUTGOING], out: &[u64; OUTGOING], n: usize, before: usize) -> usize {
     if n == 0 {
         return before;
     }
-    keep_front(held, out, n);
+    let m = n.min(OUTGOING);
+    held[..m].copy_from_slice(&out[..m]);
     n
 }
 
 // The save's transaction, which its begin gives.
-fn tx_after(a: Answer, tx: u64) -> u64 {
-    if let Answer::Begun { tx: fresh } = a {
-        return fresh;
+fn tx_after(a: Answer, before: u64) -> u64 {
+    match a {
+        Answer::Begun { tx } => tx,
+        _ => before,
     }
-    tx
 }
 
 // The core of a site by its number less 1.
 pub fn core_in(st: Store, i: usize) -> Core {
     if i == 0 {
-        let p = st.one;
-        return p;
+        return st.one;
     }
-    let p = st.two;
-    p
+    st.two
 }
 
 // The store after a call of a save, which site i was handed to, with so many words kept.
 fn settled(st: Store, i: usize, v: Save, d: Made, words: usize) -> Store {
-    let core = d.core;
-    let merger = d.merger;
-    let answer = d.answer;
-    let tx = tx_after(answer, v.tx);
     let mut t = st;
-    t.merger = merger;
-    t.save.tx = tx;
-    t.save.before = v.before;
+    t.merger = d.merger;
+    t.save = Save {
+        tx: tx_after(d.answer, v.tx),
+        before: v.before,
+    };
     t.words = words;
     if i == 0 {
-        t.one = core;
-        return t;
+        t.one = d.core;
+    } else {
+        t.two = d.core;
     }
-    t.two = core;
     t
 }
 
@@ -178,29 +159,26 @@ fn play_step(
 ) -> Store {
     let step = n % LAST_STEP + 1;
     let i = site_of(step);
-    let p = core_in(st, i);
-    let g = st.merger;
     let v = Save {
         tx: st.save.tx,
         before: n / LAST_STEP,
     };
-    let before = st.words;
     let d = make_at(
         i,
         step,
         v,
-        p,
-        g,
+        core_in(st, i),
+        st.merger,
         live,
         history,
         base,
         lists,
         queues,
         copy,
-        front(held, before),
+        front(held, st.words),
         out,
     );
-    let words = kept(held, out, d.words, before);
+    let words = kept(held, out, d.words, st.words);
     settled(st, i, v, d, words)
 }
 
@@ -218,13 +196,8 @@ fn play(
     out: &mut [u64; OUTGOING],
 ) -> Store {
     let mut t = st;
-    let mut i: u64 = 0;
-    while i < n {
-        let before = i;
-        i += 1;
-        t = play_step(
-            t, before, live, history, base, lists, queues, copy, held, out,
-        );
+    for i in 0..n {
+        t = play_step(t, i, live, history, base, lists, queues, copy, held, out);
     }
     t
 }
