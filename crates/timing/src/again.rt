@@ -6,7 +6,6 @@ use pieces::{front, piece, piece_mut};
 use rounds::play::{BASES, GATHERINGS, HISTORIES, LIVES, Store, core_in, make_at};
 use rounds::step::{Save, WORST, site_of};
 use slices::copy_words;
-use std::num::wrapping_add_u64;
 
 // What calls did: how many were refused, and how many words they wrote in all.
 #[derive(Clone, Copy)]
@@ -19,23 +18,15 @@ pub struct Tally {
 pub const AHEAD: usize = PART + PART + COPY_HEADER;
 
 pub fn keep_ahead(ahead: &mut [u64; AHEAD], queues: &[u64; QUEUES], copy: &[u64; COPY]) {
-    let mut i: usize = 0;
-    while i < PART {
-        ahead[i] = queues[i];
-        ahead[PART + i] = queues[SITE_QUEUE + i];
-        i += 1;
-    }
+    ahead[..PART].copy_from_slice(&queues[..PART]);
+    ahead[PART..PART + PART].copy_from_slice(&queues[SITE_QUEUE..SITE_QUEUE + PART]);
     ahead[PART + PART] = copy[LAST_NUMBER];
     ahead[PART + PART + 1] = copy[LAST_COORDINATOR];
 }
 
 fn put_back(ahead: &[u64; AHEAD], queues: &mut [u64; QUEUES], copy: &mut [u64; COPY]) {
-    let mut i: usize = 0;
-    while i < PART {
-        queues[i] = ahead[i];
-        queues[SITE_QUEUE + i] = ahead[PART + i];
-        i += 1;
-    }
+    queues[..PART].copy_from_slice(&ahead[..PART]);
+    queues[SITE_QUEUE..SITE_QUEUE + PART].copy_from_slice(&ahead[PART..PART + PART]);
     copy[LAST_NUMBER] = ahead[PART + PART];
     copy[LAST_COORDINATOR] = ahead[PART + PART + 1];
 }
@@ -67,16 +58,12 @@ fn put_place(kept: &[u64; PLACE], live: &mut [u64], step: u64) {
 
 // The sum with one call more.
 fn tallied(sum: Tally, a: Answer, words: usize) -> Tally {
-    if let Answer::Refused(_) = a {
-        return Tally {
-            refused: wrapping_add_u64(sum.refused, 1),
-            words: sum.words,
-        };
+    let mut t = sum;
+    match a {
+        Answer::Refused(_) => t.refused = t.refused.wrapping_add(1),
+        _ => t.words = t.words.wrapping_add(words as u64),
     }
-    Tally {
-        refused: sum.refused,
-        words: wrapping_add_u64(sum.words, words as u64),
-    }
+    t
 }
 
 // Adds one call to the sum, and drops the state after it.
@@ -99,8 +86,7 @@ fn once(
     let d = make_at(
         site, step, v, p, g, live, history, base, lists, queues, copy, m, out,
     );
-    let a = d.answer;
-    tallied(sum, a, d.words)
+    tallied(sum, d.answer, d.words)
 }
 
 // The timed loop. Every turn of every step puts back what an emit, a replay and a call of the site change, so that it cancels out
@@ -129,9 +115,7 @@ fn again(
         refused: 0,
         words: 0,
     };
-    let mut i: u64 = 0;
-    while i < count {
-        i += 1;
+    for _ in 0..count {
         put_back(&ahead, queues, copy);
         put_place(&kept, live, step);
         sum = once(
@@ -156,24 +140,20 @@ pub fn time_step(
     out: &mut [u64; OUTGOING],
 ) -> Tally {
     let site = site_of(step);
-    let p = core_in(st, site);
-    let g = st.merger;
-    let v = st.save;
-    let words = st.words;
     again(
         count,
         site,
         step,
-        v,
-        p,
-        g,
+        st.save,
+        core_in(st, site),
+        st.merger,
         live,
         history,
         base,
         lists,
         queues,
         copy,
-        front(held, words),
+        front(held, st.words),
         out,
     )
 }

@@ -25,12 +25,8 @@ const MOST_SAVES: u64 = 1000000;
 // Bytes of the longest argument.
 const NAME: usize = 4096;
 
-// An argument as a number; whether it is one.
-#[derive(Clone, Copy)]
-struct Number {
-    ok: bool,
-    value: u64,
-}
+// What the first argument has to be.
+const STEP_ASKED: &str = "the first argument has to be the number of a step, 0 to 31";
 
 // A scan whose first word, which would be a verb, has ended: the next is a number.
 fn behind_verb() -> Place {
@@ -41,24 +37,22 @@ fn behind_verb() -> Place {
     }
 }
 
-fn number_in(text: &[u8]) -> Number {
+fn number_in(text: &[u8]) -> Option<u64> {
     let mut words = [0u64; WORDS];
     let r = lines::read(behind_verb(), &mut words, text, 0, text.len());
     let s = r.place;
-    Number {
-        ok: s.ended == 1 && s.begun == 1 && r.at == text.len(),
-        value: s.word,
+    if s.ended == 1 && s.begun == 1 && r.at == text.len() {
+        return Some(s.word);
     }
+    None
 }
 
-fn argument(rt: &impl Env, i: usize) -> Number {
+// An argument as a number, if it is one.
+fn argument(rt: &impl Env, i: usize) -> Option<u64> {
     let mut text = [0u8; NAME];
     match rt.arg(i, &mut text) {
         Ok(n) => number_in(&text[..n]),
-        Err(_) => Number {
-            ok: false,
-            value: 0,
-        },
+        Err(_) => None,
     }
 }
 
@@ -69,10 +63,7 @@ fn before(step: u64) -> u64
     if LAST_STEP < step {
         return COMMIT - 1;
     }
-    if step == 0 {
-        return 0;
-    }
-    step - 1
+    step.saturating_sub(1)
 }
 
 // The store that a step's call is made on: the one that saves left, or the one that asks the most work.
@@ -138,23 +129,17 @@ fn complain(rt: &impl Eprint, what: &str) {
 }
 
 // How many saves come first: the third argument, if there is one.
-fn saves_asked(rt: &impl Env) -> Number {
+fn saves_asked(rt: &impl Env) -> Option<u64> {
     let mut none = [0u8; 0];
     if let Err(FillError::NotPresent) = rt.arg(3, &mut none) {
-        return Number {
-            ok: true,
-            value: SAVES,
-        };
+        return Some(SAVES);
     }
     argument(rt, 3)
 }
 
 fn run<R: Print + Eprint>(rt: &R, step: u64, count: u64, saves: u64) {
     if LAST_TIMED < step {
-        complain(
-            rt,
-            "the first argument has to be the number of a step, 0 to 31",
-        );
+        complain(rt, STEP_ASKED);
         return;
     }
     if MOST_SAVES < saves {
@@ -166,29 +151,23 @@ fn run<R: Print + Eprint>(rt: &R, step: u64, count: u64, saves: u64) {
 }
 
 fn main(rt: HostRuntime) {
-    let step = argument(&rt, 1);
-    let count = argument(&rt, 2);
-    let saves = saves_asked(&rt);
-    if !step.ok {
-        complain(
-            &rt,
-            "the first argument has to be the number of a step, 0 to 31",
-        );
+    let Some(step) = argument(&rt, 1) else {
+        complain(&rt, STEP_ASKED);
         return;
-    }
-    if !count.ok {
+    };
+    let Some(count) = argument(&rt, 2) else {
         complain(
             &rt,
             "the second argument has to be how often to make the call",
         );
         return;
-    }
-    if !saves.ok {
+    };
+    let Some(saves) = saves_asked(&rt) else {
         complain(
             &rt,
             "the third argument has to be how many saves come before, or is left out",
         );
         return;
-    }
-    run(&rt, step.value, count.value, saves.value);
+    };
+    run(&rt, step, count, saves);
 }
