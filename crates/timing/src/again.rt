@@ -1,9 +1,9 @@
 // One call again and again, each time on the same state.
-use kinds::sizes::{COPY, COPY_HEADER, LIVE_WORDS, OUTGOING, PART, PLACE, QUEUES, SITE_QUEUE};
+use kinds::sizes::{COPY, COPY_HEADER, LIVE_WORDS, PART, PLACE, QUEUES, SITE_QUEUE};
 use kinds::word::{LAST_COORDINATOR, LAST_NUMBER};
 use kinds::{Answer, Core, Merger};
-use pieces::{front, piece, piece_mut};
-use rounds::play::{BASES, GATHERINGS, HISTORIES, LIVES, Store, core_in, make_at};
+use pieces::{piece, piece_mut};
+use rounds::play::{LIVES, Store, Words, core_in, make_at};
 use rounds::step::{Save, WORST, site_of};
 use slices::copy_words;
 
@@ -74,18 +74,10 @@ fn once(
     v: Save,
     p: Core,
     g: Merger,
-    live: &mut [u64; LIVES],
-    history: &mut [u64; HISTORIES],
-    base: &mut [u64; BASES],
-    lists: &mut [u64; GATHERINGS],
-    queues: &mut [u64; QUEUES],
-    copy: &mut [u64; COPY],
-    m: &[u64],
-    out: &mut [u64; OUTGOING],
+    w: &mut Words,
+    n: usize,
 ) -> Tally {
-    let d = make_at(
-        site, step, v, p, g, live, history, base, lists, queues, copy, m, out,
-    );
+    let d = make_at(site, step, v, p, g, w, n);
     tallied(sum, d.answer, d.words)
 }
 
@@ -98,62 +90,28 @@ fn again(
     v: Save,
     p: Core,
     g: Merger,
-    live: &mut [u64; LIVES],
-    history: &mut [u64; HISTORIES],
-    base: &mut [u64; BASES],
-    lists: &mut [u64; GATHERINGS],
-    queues: &mut [u64; QUEUES],
-    copy: &mut [u64; COPY],
-    m: &[u64],
-    out: &mut [u64; OUTGOING],
+    w: &mut Words,
+    n: usize,
 ) -> Tally {
     let mut ahead = [0u64; AHEAD];
     let mut kept = [0u64; PLACE];
-    keep_ahead(&mut ahead, queues, copy);
-    keep_place(&mut kept, live, step);
+    keep_ahead(&mut ahead, &w.queues, &w.copy);
+    keep_place(&mut kept, &w.live, step);
     let mut sum = Tally {
         refused: 0,
         words: 0,
     };
     for _ in 0..count {
-        put_back(&ahead, queues, copy);
-        put_place(&kept, live, step);
-        sum = once(
-            sum, site, step, v, p, g, live, history, base, lists, queues, copy, m, out,
-        );
+        put_back(&ahead, &mut w.queues, &mut w.copy);
+        put_place(&kept, &mut w.live, step);
+        sum = once(sum, site, step, v, p, g, w, n);
     }
     sum
 }
 
 // Makes a step's call count times.
-pub fn time_step(
-    st: Store,
-    count: u64,
-    step: u64,
-    live: &mut [u64; LIVES],
-    history: &mut [u64; HISTORIES],
-    base: &mut [u64; BASES],
-    lists: &mut [u64; GATHERINGS],
-    queues: &mut [u64; QUEUES],
-    copy: &mut [u64; COPY],
-    held: &[u64; OUTGOING],
-    out: &mut [u64; OUTGOING],
-) -> Tally {
+pub fn time_step(st: Store, count: u64, step: u64, w: &mut Words) -> Tally {
     let site = site_of(step);
-    again(
-        count,
-        site,
-        step,
-        st.save,
-        core_in(st, site),
-        st.merger,
-        live,
-        history,
-        base,
-        lists,
-        queues,
-        copy,
-        front(held, st.words),
-        out,
-    )
+    let p = core_in(st, site);
+    again(count, site, step, st.save, p, st.merger, w, st.words)
 }

@@ -11,7 +11,7 @@ ghost use Rattle.std.specs.Prelude.{◌≤◌};
 use again::{Tally, time_step};
 use kinds::sizes::{COPY, OUTGOING, QUEUES};
 use lines::{Place, WORDS};
-use rounds::play::{BASES, GATHERINGS, HISTORIES, LIVES, Store, played};
+use rounds::play::{BASES, GATHERINGS, HISTORIES, LIVES, Store, Words, played};
 use rounds::step::{COMMIT, LAST_STEP, LAST_TIMED, WORST};
 use std::env::FillError;
 use std::rt::Env;
@@ -67,55 +67,28 @@ fn before(step: u64) -> u64
 }
 
 // The store that a step's call is made on: the one that saves left, or the one that asks the most work.
-fn readied(
-    st: Store,
-    step: u64,
-    live: &mut [u64; LIVES],
-    history: &mut [u64; HISTORIES],
-    lists: &mut [u64; GATHERINGS],
-    held: &mut [u64; OUTGOING],
-) -> Store {
+fn readied(st: Store, step: u64, w: &mut Words) -> Store {
     if step == WORST {
-        return with_worst(st, live, history, lists, held);
+        return with_worst(st, w);
     }
     st
 }
 
 // Makes a step's call count times, after so many steps of saves.
 fn time(step: u64, count: u64, steps: u64) -> Tally {
-    let mut live = [0u64; LIVES];
-    let mut history = [0u64; HISTORIES];
-    let mut base = [0u64; BASES];
-    let mut lists = [0u64; GATHERINGS];
-    let mut queues = [0u64; QUEUES];
-    let mut copy = [0u64; COPY];
-    let mut held = [0u64; OUTGOING];
-    let mut out = [0u64; OUTGOING];
-    let saved = played(
-        steps,
-        &mut live,
-        &mut history,
-        &mut base,
-        &mut lists,
-        &mut queues,
-        &mut copy,
-        &mut held,
-        &mut out,
-    );
-    let st = readied(saved, step, &mut live, &mut history, &mut lists, &mut held);
-    time_step(
-        st,
-        count,
-        step,
-        &mut live,
-        &mut history,
-        &mut base,
-        &mut lists,
-        &mut queues,
-        &mut copy,
-        &held,
-        &mut out,
-    )
+    let mut w = Words {
+        live: [0; LIVES],
+        history: [0; HISTORIES],
+        base: [0; BASES],
+        lists: [0; GATHERINGS],
+        queues: [0; QUEUES],
+        copy: [0; COPY],
+        held: [0; OUTGOING],
+        out: [0; OUTGOING],
+    };
+    let saved = played(steps, &mut w);
+    let st = readied(saved, step, &mut w);
+    time_step(st, count, step, &mut w)
 }
 
 fn say(rt: &impl Print, t: Tally) {

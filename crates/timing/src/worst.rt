@@ -10,13 +10,13 @@ ghost use Rattle.std.specs.Prelude.{◌≤◌};
 
 use kinds::kind::CERT;
 use kinds::sizes::{
-    CERT_ENTRIES, ENTRY, GATHERED, HISTORY, KEYSET, LIVE, MESSAGE_HEADER, OUTGOING, PLACE, READS,
-    SERIALS, SITE_KEYS, SITES, SLOT, VALUE, WRITES,
+    CERT_ENTRIES, ENTRY, GATHERED, HISTORY, KEYSET, LIVE, MESSAGE_HEADER, PLACE, READS, SERIALS,
+    SITE_KEYS, SITES, SLOT, VALUE, WRITES,
 };
 use kinds::stage::PREPARED;
 use kinds::{Channels, Core, Counters, House, Key, Seat, word};
 use pieces::{piece_mut, put};
-use rounds::play::{GATHERINGS, HISTORIES, LIVES, Store};
+use rounds::play::{Store, Words};
 use rounds::step::half;
 use slices::copy_words;
 
@@ -183,21 +183,15 @@ fn put_cert(m: &mut [u64]) {
     put_entries(piece_mut(m, MESSAGE_HEADER, GATHERED));
 }
 
-fn put_tables(live: &mut [u64], history: &mut [u64], lists: &mut [u64]) {
-    put_live(half(live, 1), half(lists, 1));
-    put_history(half(history, 1));
+fn put_tables(w: &mut Words) {
+    put_live(half(&mut w.live, 1), half(&mut w.lists, 1));
+    put_history(half(&mut w.history, 1));
 }
 
 // The store with that site in the place of site 2, and the CERT as the message to take.
-pub fn with_worst(
-    st: Store,
-    live: &mut [u64; LIVES],
-    history: &mut [u64; HISTORIES],
-    lists: &mut [u64; GATHERINGS],
-    held: &mut [u64; OUTGOING],
-) -> Store {
-    put_tables(live, history, lists);
-    put_cert(held);
+pub fn with_worst(st: Store, w: &mut Words) -> Store {
+    put_tables(w);
+    put_cert(&mut w.held);
     let mut t = st;
     t.two = core();
     t.words = CERT_WORDS;
