@@ -1,27 +1,22 @@
 // The lines that convert bookmarks: for no site, merger or copy.
-use crate::{Done, buffer_of, pattern};
+use crate::{Done, buffer_of, pattern, written};
 use kinds::Answer;
-use pages::is_refused;
 use verbs::{Line, verb};
 
 fn converted(l: Line, offsets: &[u64], out: &mut [u64]) -> Answer {
-    let v = l.verb;
-    match v {
+    match l.verb {
         verb::PAGE => store::page(l.a, l.b),
         verb::OFFSET => store::offset(l.a, l.b, l.c),
         _ => store::pages(l.a, offsets, out),
     }
 }
 
-// How many words of the buffer a call wrote: all of it, or none.
-fn written(v: u64, a: Answer, room: usize) -> usize {
-    if v != verb::RUN {
-        return 0;
+// A run alone writes to the buffer.
+fn words_of(v: u64, a: Answer, room: usize) -> usize {
+    if v == verb::RUN {
+        return written(a, room);
     }
-    if is_refused(a) {
-        return 0;
-    }
-    room
+    0
 }
 
 // Converts, and compares the offsets before and after. There is no state.
@@ -31,7 +26,7 @@ pub fn at_bookmarks(l: Line, offsets: &[u64], out: &mut [u64]) -> Done {
     let answer = converted(l, offsets, out);
     Done {
         answer,
-        words: written(l.verb, answer, out.len()),
+        words: words_of(l.verb, answer, out.len()),
         buffer: buffer_of(l.verb, out),
         same: before == sums::of_words(0, offsets),
         state: 0,

@@ -8,10 +8,9 @@ mod streams;
 
 pub use bytes::at_bytes;
 pub use conversions::at_bookmarks;
-use kinds::reason::MALFORMED;
 use kinds::sizes::SITES;
-use kinds::{Answer, Key};
-use pieces::put;
+use kinds::{Answer, Key, Refusal};
+use pages::is_refused;
 pub use sites::{SiteDone, at_site, start_by};
 pub use streams::{COPIES, COPY_PLACE, MergerDone, at_copy, at_merger};
 use verbs::verb;
@@ -19,11 +18,9 @@ use verbs::verb;
 // Words of the table of first keys: one more than a house has, so that too many can be lent.
 pub const TABLE: usize = SITES + 1;
 
-// The length of a table that is as long as the number of sites at its start says.
-pub const AS_SITES: usize = TABLE + 1;
-
 // Lengths lent: the outgoing buffer, the live parts, the history, the base values, the gathered lists, the merger's queues, a copy,
-// the table of first keys. The table itself stands behind them; only starts are lent it.
+// the table of first keys, which has as many as the start says where no length is set. The table itself stands behind them; only starts
+// are lent it.
 #[derive(Clone, Copy)]
 pub struct Lent {
     pub room: usize,
@@ -33,20 +30,13 @@ pub struct Lent {
     pub lists: usize,
     pub queues: usize,
     pub copy: usize,
-    pub table: usize,
+    pub table: Option<usize>,
     pub firsts: [Key; TABLE],
 }
 
 // How many first keys a start with so many sites is lent.
 pub fn first_keys(lent: Lent, sites: u64) -> usize {
-    let n = lent.table;
-    if n <= TABLE {
-        return n;
-    }
-    if sites < TABLE as u64 {
-        return sites as usize;
-    }
-    TABLE
+    lent.table.unwrap_or(sites.min(TABLE as u64) as usize)
 }
 
 // What a call answered and wrote: whether the state and the lent tables are the same, the checksums of the outgoing buffer and
@@ -63,7 +53,7 @@ pub struct Done {
 // A site, or a copy, that is not there.
 pub fn absent() -> Done {
     Done {
-        answer: Answer::Refused(MALFORMED),
+        answer: Answer::Refused(Refusal::Malformed.into()),
         words: 0,
         buffer: 0,
         same: true,
@@ -73,24 +63,24 @@ pub fn absent() -> Done {
 
 // Whether what a call wrote is a record.
 pub fn is_logged(v: u64) -> bool {
-    match v {
-        verb::INSTALL => true,
-        verb::REPORT => true,
-        verb::EMIT => true,
-        _ => false,
-    }
+    matches!(v, verb::INSTALL | verb::REPORT | verb::EMIT)
 }
 
 // Whether a call is lent an outgoing buffer.
 fn may_write(v: u64) -> bool {
-    match v {
-        verb::ENLIST => true,
-        verb::COMMIT => true,
-        verb::ABANDON => true,
-        verb::MESSAGE => true,
-        verb::RUN => true,
-        _ => is_logged(v),
+    is_logged(v)
+        || matches!(
+            v,
+            verb::ENLIST | verb::COMMIT | verb::ABANDON | verb::MESSAGE | verb::RUN
+        )
+}
+
+// How much of what it is lent a call wrote that writes all of it, or none.
+fn written(a: Answer, room: usize) -> usize {
+    if is_refused(a) {
+        return 0;
     }
+    room
 }
 
 // The checksum of an outgoing buffer; 0 where none is lent.
@@ -111,9 +101,7 @@ fn filler(i: usize) -> u64 {
 
 // Fills words, so that a changed one shows.
 fn pattern(ws: &mut [u64]) {
-    let mut i: usize = 0;
-    while i < ws.len() {
-        put(ws, i, filler(i));
-        i += 1;
+    for (i, w) in ws.iter_mut().enumerate() {
+        *w = filler(i);
     }
 }

@@ -37,13 +37,11 @@ fn start(
     base: &mut [u64],
     lists: &mut [u64],
 ) -> Reply {
-    let firsts = lent.firsts;
     let n = first_keys(lent, l.b);
-    let o = start_by(l.b, firsts, n, l.c, live, history, base, lists);
-    let answer = o.answer;
-    if is_refused(answer) {
+    let o = start_by(l.b, lent.firsts, n, l.c, live, history, base, lists);
+    if is_refused(o.answer) {
         return Reply {
-            answer,
+            answer: o.answer,
             words: 0,
             core: p,
         };
@@ -81,8 +79,7 @@ fn call(
     lists: &mut [u64],
     out: &mut [u64],
 ) -> Reply {
-    let v = l.verb;
-    match v {
+    match l.verb {
         verb::BEGIN => store::begin(p, live, history, l.b),
         verb::ENLIST => store::enlist(p, live, history, l.b, l.c, out),
         verb::READ => store::read(p, live, history, base, l.b, l.c),
@@ -98,13 +95,7 @@ fn call(
 }
 
 fn is_poke(v: u64) -> bool {
-    match v {
-        verb::SITE => true,
-        verb::LIVE => true,
-        verb::PAST => true,
-        verb::LIST => true,
-        _ => false,
-    }
+    matches!(v, verb::SITE | verb::LIVE | verb::PAST | verb::LIST)
 }
 
 // A call is lent as much of the tables as is asked for; a poke is lent the whole of them.
@@ -169,17 +160,15 @@ pub fn at_site(
     let before = whole(p, live, history, base, lists);
     pattern(out);
     let o = obeyed(p, l, lent, m, live, history, base, lists, out);
-    let q = o.core;
-    let answer = o.answer;
-    let after = whole(q, live, history, base, lists);
+    let after = whole(o.core, live, history, base, lists);
     SiteDone {
         done: Done {
-            answer,
+            answer: o.answer,
             words: o.words,
             buffer: buffer_of(l.verb, out),
             same: before == after,
-            state: state_of(answer, q, live, history, base),
+            state: state_of(o.answer, o.core, live, history, base),
         },
-        core: q,
+        core: o.core,
     }
 }

@@ -19,13 +19,11 @@ pub struct MergerDone {
 }
 
 fn start(g: Merger, sites: u64, lent: Lent, queues: &mut [u64]) -> MergerOut {
-    let firsts = lent.firsts;
-    let table = front(&firsts, first_keys(lent, sites));
+    let table = front(&lent.firsts, first_keys(lent, sites));
     let o = store::start_merger(sites, table, queues);
-    let answer = o.answer;
-    if is_refused(answer) {
+    if is_refused(o.answer) {
         return MergerOut {
-            answer,
+            answer: o.answer,
             words: 0,
             merger: g,
         };
@@ -41,8 +39,7 @@ fn merger_call(
     queues: &mut [u64],
     out: &mut [u64],
 ) -> MergerOut {
-    let v = l.verb;
-    match v {
+    match l.verb {
         verb::MERGE => store::merge(g, queues, m),
         verb::EMIT => store::emit(g, queues, out),
         verb::OPEN => start(g, l.a, lent, queues),
@@ -73,24 +70,21 @@ pub fn at_merger(
     let before = whole(g, queues);
     pattern(out);
     let o = merger_call(g, l, lent, m, front_mut(queues, lent.queues), out);
-    let h = o.merger;
-    let answer = o.answer;
-    let after = whole(h, queues);
+    let after = whole(o.merger, queues);
     MergerDone {
         done: Done {
-            answer,
+            answer: o.answer,
             words: o.words,
             buffer: buffer_of(l.verb, out),
             same: before == after,
-            state: state_of(answer, after),
+            state: state_of(o.answer, after),
         },
-        merger: h,
+        merger: o.merger,
     }
 }
 
 fn copy_call(l: Line, m: &[u64], copy: &mut [u64]) -> Answer {
-    let v = l.verb;
-    match v {
+    match l.verb {
         verb::REPLAY => store::replay(copy, m),
         verb::VALUE => store::value(copy, l.b),
         verb::BLANK => store::start_copy(copy),
@@ -113,13 +107,9 @@ fn copy_done(l: Line, n: usize, m: &[u64], copy: &mut [u64]) -> Done {
 
 // Calls a copy, and compares it before and after.
 pub fn at_copy(l: Line, lent: Lent, m: &[u64], copies: &mut [u64]) -> Done {
-    let c = l.a;
-    if c < 1 {
+    if l.a < 1 || l.a > COPIES as u64 {
         return absent();
     }
-    if c > COPIES as u64 {
-        return absent();
-    }
-    let at = (c - 1) as usize * COPY_PLACE;
+    let at = (l.a - 1) as usize * COPY_PLACE;
     copy_done(l, lent.copy, m, piece_mut(copies, at, COPY_PLACE))
 }

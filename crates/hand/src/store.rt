@@ -3,7 +3,7 @@ ghost use Rattle.std.specs.Prelude.{◌+◌, ◌<◌, ◌≤◌, length};
 ghost use Rattle.hand.specs.Sizes as sizes;
 
 use kinds::word::{CHANNEL, FROM, SITE, TO};
-use pieces::{piece, put, word};
+use pieces::{put, word};
 use slices::copy_words;
 
 // Words of the store.
@@ -31,14 +31,8 @@ fn label(place: &mut [u64], kind: u64, item: &[u64])
 
 // Keeps an item, if there is room, and answers how much is used.
 fn keep(store: &mut [u64], used: usize, kind: u64, item: &[u64]) -> usize {
-    if store.len() < used {
-        return used;
-    }
-    let left = store.len() - used;
-    if left < LABEL {
-        return used;
-    }
-    if left - LABEL < item.len() {
+    let left = store.len().saturating_sub(used);
+    if left < LABEL || left - LABEL < item.len() {
         return used;
     }
     label(&mut store[used..], kind, item);
@@ -46,7 +40,7 @@ fn keep(store: &mut [u64], used: usize, kind: u64, item: &[u64]) -> usize {
 }
 
 pub fn keep_record(store: &mut [u64], used: usize, item: &[u64]) -> usize {
-    if item.len() == 0 {
+    if item.is_empty() {
         return used;
     }
     keep(store, used, RECORD, item)
@@ -56,36 +50,22 @@ pub fn keep_record(store: &mut [u64], used: usize, item: &[u64]) -> usize {
 fn first_length(ws: &[u64]) -> usize
     ensures { result ≤ length ws.now }
 {
-    let n = word(ws, 0);
-    if n < ws.len() as u64 {
-        return n as usize;
-    }
-    ws.len()
+    word(ws, 0).min(ws.len() as u64) as usize
 }
 
 // Keeps each of the messages that stand directly behind one another.
 pub fn keep_letters(store: &mut [u64], used: usize, ws: &[u64]) -> usize {
     let mut last = used;
-    let mut at: usize = 0;
-    while at < ws.len() {
-        let n = first_length(&ws[at..]);
+    let mut rest = ws;
+    while !rest.is_empty() {
+        let n = first_length(rest);
         if n == 0 {
             break;
         }
-        last = keep(store, last, LETTER, piece(ws, at, n));
-        at += n;
+        last = keep(store, last, LETTER, &rest[..n]);
+        rest = &rest[n..];
     }
     last
-}
-
-fn item_word(store: &[u64; STORE], at: usize, i: usize) -> u64
-    requires { (at < sizes.store) × (i < 16) }
-{
-    let j = at + i;
-    if j < STORE {
-        return store[j];
-    }
-    0
 }
 
 // Where the item behind this one begins.
@@ -93,7 +73,7 @@ fn behind(store: &[u64; STORE], at: usize) -> usize
     requires { at < sizes.store }
     ensures { at < result }
 {
-    let n = item_word(store, at, 1);
+    let n = word(store, at + 1);
     if n < LONGEST {
         return at + LABEL + n as usize;
     }
@@ -103,28 +83,25 @@ fn behind(store: &[u64; STORE], at: usize) -> usize
 fn is_letter(store: &[u64; STORE], at: usize, from: u64, to: u64, number: u64) -> bool
     requires { at < sizes.store }
 {
-    if item_word(store, at, 0) != LETTER {
-        return false;
-    }
-    if item_word(store, at, LABEL + FROM) != from {
-        return false;
-    }
-    if item_word(store, at, LABEL + TO) != to {
-        return false;
-    }
-    item_word(store, at, LABEL + CHANNEL) == number
+    word(store, at) == LETTER
+        && word(store, at + LABEL + FROM) == from
+        && word(store, at + LABEL + TO) == to
+        && word(store, at + LABEL + CHANNEL) == number
 }
 
-// The last message from one site to another with that number, or STORE.
-pub fn find_letter(store: &[u64; STORE], used: usize, from: u64, to: u64, number: u64) -> usize {
-    let mut found = STORE;
+// The last message from one site to another with that number.
+pub fn find_letter(
+    store: &[u64; STORE],
+    used: usize,
+    from: u64,
+    to: u64,
+    number: u64,
+) -> Option<usize> {
+    let mut found = None;
     let mut at: usize = 0;
-    while at < STORE {
-        if used <= at {
-            break;
-        }
+    while at < used.min(STORE) {
         if is_letter(store, at, from, to, number) {
-            found = at;
+            found = Some(at);
         }
         at = behind(store, at);
     }
@@ -134,27 +111,21 @@ pub fn find_letter(store: &[u64; STORE], used: usize, from: u64, to: u64, number
 fn is_record(store: &[u64; STORE], at: usize, site: u64) -> bool
     requires { at < sizes.store }
 {
-    if item_word(store, at, 0) != RECORD {
-        return false;
-    }
-    item_word(store, at, LABEL + SITE) == site
+    word(store, at) == RECORD && word(store, at + LABEL + SITE) == site
 }
 
-// The n-th record of a site, or of the merger for 0; STORE where there is none.
-pub fn find_record(store: &[u64; STORE], used: usize, site: u64, n: u64) -> usize {
+// The n-th record of a site, or of the merger for 0.
+pub fn find_record(store: &[u64; STORE], used: usize, site: u64, n: u64) -> Option<usize> {
     let mut left = n;
     let mut at: usize = 0;
-    while at < STORE {
-        if used <= at {
-            break;
-        }
+    while at < used.min(STORE) {
         if is_record(store, at, site) {
             if left <= 1 {
-                return at;
+                return Some(at);
             }
             left -= 1;
         }
         at = behind(store, at);
     }
-    STORE
+    None
 }

@@ -12,7 +12,7 @@ pub fn front(ws: &[u64], n: usize) -> &[u64]
     ws
 }
 
-pub fn front_mut(ws: &mut [u64], n: usize) -> &mut [u64] {
+pub fn front_mut<T>(ws: &mut [T], n: usize) -> &mut [T] {
     if n < ws.len() {
         return &mut ws[0..n];
     }

@@ -18,6 +18,20 @@ pub const BASES: usize = PAIR * BASE;
 
 pub const GATHERINGS: usize = PAIR * LISTS;
 
+// The words that calls are lent: those of both sites, the merger's queues and a copy; what is kept of the calls that wrote, for the next
+// one to take, and what a call writes.
+#[derive(Drop)]
+pub struct Words {
+    pub live: [u64; LIVES],
+    pub history: [u64; HISTORIES],
+    pub base: [u64; BASES],
+    pub lists: [u64; GATHERINGS],
+    pub queues: [u64; QUEUES],
+    pub copy: [u64; COPY],
+    pub held: [u64; OUTGOING],
+    pub out: [u64; OUTGOING],
+}
+
 // Both sites, the merger, the save that is played, and how many words the last writing call wrote.
 #[derive(Clone, Copy)]
 pub struct Store {
@@ -28,42 +42,24 @@ pub struct Store {
     pub words: usize,
 }
 
-fn start_at(
-    i: usize,
-    own: u64,
-    live: &mut [u64],
-    history: &mut [u64],
-    base: &mut [u64],
-    lists: &mut [u64],
-) -> Core {
-    let firsts = EVEN;
-    let o = store::start_site(
+fn start_at(i: usize, own: u64, w: &mut Words) -> Core {
+    store::start_site(
         PAIR as u64,
-        &firsts,
+        &EVEN,
         own,
-        half(live, i),
-        half(history, i),
-        half(base, i),
-        half(lists, i),
-    );
-    let p = o.core;
-    p
+        half(&mut w.live, i),
+        half(&mut w.history, i),
+        half(&mut w.base, i),
+        half(&mut w.lists, i),
+    )
+    .core
 }
 
-fn start(
-    live: &mut [u64; LIVES],
-    history: &mut [u64; HISTORIES],
-    base: &mut [u64; BASES],
-    lists: &mut [u64; GATHERINGS],
-    queues: &mut [u64; QUEUES],
-    copy: &mut [u64; COPY],
-) -> Store {
-    let one = start_at(0, 1, live, history, base, lists);
-    let two = start_at(1, 2, live, history, base, lists);
-    let firsts = EVEN;
-    let o = store::start_merger(PAIR as u64, &firsts, queues);
-    let merger = o.merger;
-    store::start_copy(copy);
+fn start(w: &mut Words) -> Store {
+    let one = start_at(0, 1, w);
+    let two = start_at(1, 2, w);
+    let merger = store::start_merger(PAIR as u64, &EVEN, &mut w.queues).merger;
+    store::start_copy(&mut w.copy);
     Store {
         one,
         two,
@@ -73,176 +69,85 @@ fn start(
     }
 }
 
-// Copies the first n words.
-fn keep_front(held: &mut [u64; OUTGOING], out: &[u64; OUTGOING], n: usize) {
-    let mut i: usize = 0;
-    while i < n {
-        if OUTGOING <= i {
-            return;
-        }
-        held[i] = out[i];
-        i += 1;
-    }
-}
-
 // Keeps what a call wrote, if it wrote anything, and answers how many words are kept now.
 fn kept(held: &mut [u64; OUTGOING], out: &[u64; OUTGOING], n: usize, before: usize) -> usize {
     if n == 0 {
         return before;
     }
-    keep_front(held, out, n);
+    let m = n.min(OUTGOING);
+    held[..m].copy_from_slice(&out[..m]);
     n
 }
 
 // The save's transaction, which its begin gives.
-fn tx_after(a: Answer, tx: u64) -> u64 {
-    if let Answer::Begun { tx: fresh } = a {
-        return fresh;
+fn tx_after(a: Answer, before: u64) -> u64 {
+    match a {
+        Answer::Begun { tx } => tx,
+        _ => before,
     }
-    tx
 }
 
 // The core of a site by its number less 1.
 pub fn core_in(st: Store, i: usize) -> Core {
     if i == 0 {
-        let p = st.one;
-        return p;
+        return st.one;
     }
-    let p = st.two;
-    p
+    st.two
 }
 
 // The store after a call of a save, which site i was handed to, with so many words kept.
 fn settled(st: Store, i: usize, v: Save, d: Made, words: usize) -> Store {
-    let core = d.core;
-    let merger = d.merger;
-    let answer = d.answer;
-    let tx = tx_after(answer, v.tx);
     let mut t = st;
-    t.merger = merger;
-    t.save.tx = tx;
-    t.save.before = v.before;
+    t.merger = d.merger;
+    t.save = Save {
+        tx: tx_after(d.answer, v.tx),
+        before: v.before,
+    };
     t.words = words;
     if i == 0 {
-        t.one = core;
-        return t;
+        t.one = d.core;
+    } else {
+        t.two = d.core;
     }
-    t.two = core;
     t
 }
 
-// A step's call, with the words of both sites, of which site i is lent its own.
-pub fn make_at(
-    i: usize,
-    step: u64,
-    v: Save,
-    p: Core,
-    g: Merger,
-    live: &mut [u64],
-    history: &mut [u64],
-    base: &mut [u64],
-    lists: &mut [u64],
-    queues: &mut [u64; QUEUES],
-    copy: &mut [u64; COPY],
-    m: &[u64],
-    out: &mut [u64; OUTGOING],
-) -> Made {
+// A step's call with the first n words that are kept, of both sites' words site i's own.
+pub fn make_at(i: usize, step: u64, v: Save, p: Core, g: Merger, w: &mut Words, n: usize) -> Made {
     make(
         step,
         v,
         p,
         g,
-        half(live, i),
-        half(history, i),
-        half(base, i),
-        half(lists, i),
-        queues,
-        copy,
-        m,
-        out,
+        half(&mut w.live, i),
+        half(&mut w.history, i),
+        half(&mut w.base, i),
+        half(&mut w.lists, i),
+        &mut w.queues,
+        &mut w.copy,
+        front(&w.held, n),
+        &mut w.out,
     )
 }
 
 // Makes the call of the step that n steps, of this save and of those before it, come before.
-fn play_step(
-    st: Store,
-    n: u64,
-    live: &mut [u64; LIVES],
-    history: &mut [u64; HISTORIES],
-    base: &mut [u64; BASES],
-    lists: &mut [u64; GATHERINGS],
-    queues: &mut [u64; QUEUES],
-    copy: &mut [u64; COPY],
-    held: &mut [u64; OUTGOING],
-    out: &mut [u64; OUTGOING],
-) -> Store {
+fn play_step(st: Store, n: u64, w: &mut Words) -> Store {
     let step = n % LAST_STEP + 1;
     let i = site_of(step);
-    let p = core_in(st, i);
-    let g = st.merger;
     let v = Save {
         tx: st.save.tx,
         before: n / LAST_STEP,
     };
-    let before = st.words;
-    let d = make_at(
-        i,
-        step,
-        v,
-        p,
-        g,
-        live,
-        history,
-        base,
-        lists,
-        queues,
-        copy,
-        front(held, before),
-        out,
-    );
-    let words = kept(held, out, d.words, before);
+    let d = make_at(i, step, v, core_in(st, i), st.merger, w, st.words);
+    let words = kept(&mut w.held, &w.out, d.words, st.words);
     settled(st, i, v, d, words)
 }
 
-// Plays n steps: whole saves, and of the last perhaps a part.
-fn play(
-    st: Store,
-    n: u64,
-    live: &mut [u64; LIVES],
-    history: &mut [u64; HISTORIES],
-    base: &mut [u64; BASES],
-    lists: &mut [u64; GATHERINGS],
-    queues: &mut [u64; QUEUES],
-    copy: &mut [u64; COPY],
-    held: &mut [u64; OUTGOING],
-    out: &mut [u64; OUTGOING],
-) -> Store {
-    let mut t = st;
-    let mut i: u64 = 0;
-    while i < n {
-        let before = i;
-        i += 1;
-        t = play_step(
-            t, before, live, history, base, lists, queues, copy, held, out,
-        );
+// A fresh store after n steps: whole saves, and of the last perhaps a part.
+pub fn played(n: u64, w: &mut Words) -> Store {
+    let mut st = start(w);
+    for i in 0..n {
+        st = play_step(st, i, w);
     }
-    t
-}
-
-// A fresh store after n steps.
-pub fn played(
-    n: u64,
-    live: &mut [u64; LIVES],
-    history: &mut [u64; HISTORIES],
-    base: &mut [u64; BASES],
-    lists: &mut [u64; GATHERINGS],
-    queues: &mut [u64; QUEUES],
-    copy: &mut [u64; COPY],
-    held: &mut [u64; OUTGOING],
-    out: &mut [u64; OUTGOING],
-) -> Store {
-    let fresh = start(live, history, base, lists, queues, copy);
-    play(
-        fresh, n, live, history, base, lists, queues, copy, held, out,
-    )
+    st
 }

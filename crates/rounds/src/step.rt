@@ -19,11 +19,12 @@ use kinds::sizes::{COPY, HISTORY, OUTGOING, QUEUES, SITE_KEYS};
 use kinds::{Answer, Core, Merger, MergerOut, Reply, Value};
 
 // Who is called; the copy by the steps that are left.
-const AT_SITE: u64 = 1;
-
-const AT_MERGER: u64 = 2;
-
-const AT_COPY: u64 = 3;
+#[derive(Clone, Copy)]
+enum Called {
+    Site,
+    Merger,
+    Copy,
+}
 
 // The last step of a save, and the last of all.
 pub const LAST_STEP: u64 = 24;
@@ -58,11 +59,11 @@ pub struct Made {
     pub merger: Merger,
 }
 
-fn called_by(step: u64) -> u64 {
+fn called_by(step: u64) -> Called {
     match step {
-        0..=14 | 16 | 18 | 20 | 25 | 28..=31 => AT_SITE,
-        15 | 17 | 19 | 21 | 22 | 26 => AT_MERGER,
-        _ => AT_COPY,
+        0..=14 | 16 | 18 | 20 | 25 | 28..=31 => Called::Site,
+        15 | 17 | 19 | 21 | 22 | 26 => Called::Merger,
+        _ => Called::Copy,
     }
 }
 
@@ -108,8 +109,7 @@ fn at_site(
     m: &[u64],
     out: &mut [u64],
 ) -> Reply {
-    let tx = v.tx;
-    let n = v.before;
+    let Save { tx, before: n } = v;
     match step {
         0 => Reply {
             answer: Answer::Done,
@@ -134,49 +134,41 @@ fn at_site(
 
 // The merger's call. The words of m are the record to queue.
 fn at_merger(step: u64, g: Merger, queues: &mut [u64], m: &[u64], out: &mut [u64]) -> MergerOut {
-    if step == 22 {
-        return store::emit(g, queues, out);
-    }
-    if step == 26 {
-        return MergerOut {
+    match step {
+        22 => store::emit(g, queues, out),
+        26 => MergerOut {
             answer: Answer::Done,
             words: 0,
             merger: g,
-        };
+        },
+        _ => store::merge(g, queues, m),
     }
-    store::merge(g, queues, m)
 }
 
 // The copy's call. The words of m are the record to replay.
 fn at_copy(step: u64, v: Save, copy: &mut [u64], m: &[u64]) -> Answer {
-    if step == 24 {
-        return store::value(copy, v.before % WRITTEN);
+    match step {
+        24 => store::value(copy, v.before % WRITTEN),
+        27 => Answer::Done,
+        _ => store::replay(copy, m),
     }
-    if step == 27 {
-        return Answer::Done;
-    }
-    store::replay(copy, m)
 }
 
 fn of_site(o: Reply, merger: Merger) -> Made {
-    let answer = o.answer;
-    let core = o.core;
     Made {
-        answer,
+        answer: o.answer,
         words: o.words,
-        core,
+        core: o.core,
         merger,
     }
 }
 
 fn of_merger(o: MergerOut, core: Core) -> Made {
-    let answer = o.answer;
-    let merger = o.merger;
     Made {
-        answer,
+        answer: o.answer,
         words: o.words,
         core,
-        merger,
+        merger: o.merger,
     }
 }
 
@@ -204,16 +196,11 @@ pub fn make(
     m: &[u64],
     out: &mut [u64; OUTGOING],
 ) -> Made {
-    let who = called_by(step);
-    if who == AT_SITE {
-        let o = at_site(step, v, p, live, history, base, lists, m, out);
-        return of_site(o, g);
+    match called_by(step) {
+        Called::Site => of_site(at_site(step, v, p, live, history, base, lists, m, out), g),
+        Called::Merger => of_merger(at_merger(step, g, queues, m, out), p),
+        Called::Copy => of_copy(at_copy(step, v, copy, m), p, g),
     }
-    if who == AT_MERGER {
-        let o = at_merger(step, g, queues, m, out);
-        return of_merger(o, p);
-    }
-    of_copy(at_copy(step, v, copy, m), p, g)
 }
 
 // The first half of the words, or the second.

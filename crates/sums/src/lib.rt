@@ -9,6 +9,7 @@ ghost use Rattle.std.specs.Prelude.{◌<◌};
 use kinds::House;
 use kinds::sizes::VALUE;
 use kinds::word::{VALUE_LENGTH, VALUE_START};
+use pieces::front;
 
 const PRIME: u64 = 4294967291;
 
@@ -35,67 +36,28 @@ pub fn together(a: u64, b: u64) -> u64
     (a % PRIME + b % PRIME) % PRIME
 }
 
-pub fn of_words(h: u64, ws: &[u64]) -> u64 {
-    let mut sum = h;
-    let mut i: usize = 0;
-    while i < ws.len() {
-        sum = more(sum, ws[i]);
-        i += 1;
-    }
-    sum
-}
-
-fn wide(b: u8) -> u64 {
-    b as u64
-}
-
-// Each byte is summed as one word.
-pub fn of_bytes(h: u64, bs: &[u8]) -> u64 {
-    let mut sum = h;
-    let mut i: usize = 0;
-    while i < bs.len() {
-        sum = more(sum, wide(bs[i]));
-        i += 1;
-    }
-    sum
+// Each word, or each byte as a word, behind what is summed before.
+pub fn of_words<W: Copy + Into<u64>>(h: u64, ws: &[W]) -> u64 {
+    ws.iter().fold(h, |sum, w| more(sum, (*w).into()))
 }
 
 // The number of sites of a house, and the eight places of its table (Q3.5).
 fn of_house(h: House) -> u64 {
-    let firsts = h.firsts;
-    of_words(h.sites, &firsts)
+    of_words(h.sites, &h.firsts)
 }
 
 // The first n keys as a set.
 pub fn of_set(ks: &[u64], n: u64) -> u64 {
-    let mut sum: u64 = 0;
-    let mut i: usize = 0;
-    while i < ks.len() {
-        if n <= i as u64 {
-            break;
-        }
-        sum = together(sum, more(1, ks[i]));
-        i += 1;
-    }
-    sum
+    front(ks, n as usize)
+        .iter()
+        .fold(0, |sum, k| together(sum, more(1, *k)))
 }
 
 // The first n keys with their values, each a start and a length, as a set.
 pub fn of_writes(ks: &[u64], vs: &[u64], n: u64) -> u64 {
     let mut sum: u64 = 0;
-    let mut i: usize = 0;
-    while i < ks.len() {
-        if n <= i as u64 {
-            break;
-        }
-        if vs.len() / VALUE <= i {
-            break;
-        }
-        let at = VALUE * i;
-        let start = vs[at + VALUE_START];
-        let length = vs[at + VALUE_LENGTH];
-        sum = together(sum, three_more(2, ks[i], start, length));
-        i += 1;
+    for (k, v) in front(ks, n as usize).iter().zip(vs.chunks_exact(VALUE)) {
+        sum = together(sum, three_more(2, *k, v[VALUE_START], v[VALUE_LENGTH]));
     }
     sum
 }

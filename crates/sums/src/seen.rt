@@ -33,42 +33,30 @@ fn course_of(a: Seat, ws: &[u64]) -> Course {
 
 // A participant has no mask before PREPARE.
 fn mask_of(c: Course, coordinates: bool) -> u64 {
-    if coordinates {
+    if coordinates || c.stage != ACTIVE {
         return c.mask;
-    }
-    if c.stage == ACTIVE {
-        return 0;
-    }
-    c.mask
-}
-
-// The mark or the commit number.
-fn number_of(c: Course) -> u64 {
-    if c.stage == QUEUED {
-        return c.number;
-    }
-    if c.stage == DECIDED {
-        return c.number;
     }
     0
 }
 
+// The mark or the commit number.
+fn number_of(c: Course) -> u64 {
+    match c.stage {
+        QUEUED | DECIDED => c.number,
+        _ => 0,
+    }
+}
+
 // The replies of this round are the coordinator's.
 fn heard_of(c: Course, coordinates: bool) -> u64 {
-    if !coordinates {
-        return 0;
-    }
-    if c.stage <= QUEUED {
+    if coordinates && c.stage <= QUEUED {
         return c.heard;
     }
     0
 }
 
 fn reason_of(c: Course, coordinates: bool) -> u64 {
-    if !coordinates {
-        return 0;
-    }
-    if c.stage == ACTIVE {
+    if coordinates && c.stage == ACTIVE {
         return c.reason;
     }
     0
@@ -92,13 +80,10 @@ fn sub(own: u64, s: Seat, ws: &[u64]) -> u64 {
     keys(more(e, word(ws, PLACE_DESK)), piece(ws, PLACE_KEYS, KEYSET))
 }
 
-fn live(own: u64, seats: [Seat; LIVE], ws: &[u64]) -> u64 {
+fn live(own: u64, seats: &[Seat; LIVE], ws: &[u64]) -> u64 {
     let mut sum: u64 = 0;
-    let mut i: usize = 0;
-    while i < LIVE {
-        let s = seats[i];
-        sum = together(sum, sub(own, s, piece(ws, PLACE * i, PLACE)));
-        i += 1;
+    for (i, s) in seats.iter().enumerate() {
+        sum = together(sum, sub(own, *s, piece(ws, PLACE * i, PLACE)));
     }
     sum
 }
@@ -118,16 +103,10 @@ fn entry(n: u64, ws: &[u64]) -> u64 {
 // The last installs, up to 32.
 fn history(ws: &[u64], installs: u64) -> u64 {
     let mut sum: u64 = 0;
-    let mut n = installs;
-    let mut i: usize = 0;
-    while i < HISTORY {
-        if n == 0 {
-            break;
-        }
+    for back in 0..installs.min(HISTORY as u64) {
+        let n = installs - back;
         let slot = ((n - 1) % HISTORY as u64) as usize;
         sum = together(sum, entry(n, piece(ws, SLOT * slot, SLOT)));
-        n -= 1;
-        i += 1;
     }
     sum
 }
@@ -135,12 +114,9 @@ fn history(ws: &[u64], installs: u64) -> u64 {
 // The site of a core, with its live, its history and its base words.
 pub fn site(p: Core, l: &[u64], h: &[u64], base: &[u64]) -> u64 {
     let c = p.counters;
-    let sent = p.channels.sent;
-    let taken = p.channels.taken;
-    let seats = p.seats;
-    let house = p.house;
-    let a = three_more(of_house(house), c.own, c.clock, c.serial);
-    let b = of_words(of_words(more(a, c.installs), &sent), &taken);
-    let d = more(more(b, live(c.own, seats, l)), history(h, c.installs));
+    let a = three_more(of_house(p.house), c.own, c.clock, c.serial);
+    let sent = of_words(more(a, c.installs), &p.channels.sent);
+    let b = of_words(sent, &p.channels.taken);
+    let d = more(more(b, live(c.own, &p.seats, l)), history(h, c.installs));
     of_words(d, base)
 }

@@ -1,6 +1,5 @@
 // The checksum of every field of a core and of a merger, used or not: a refused call leaves it.
 use crate::{more, of_house, of_words, three_more};
-use kinds::sizes::{LIVE, SITES};
 use kinds::{Channels, Core, Counters, Merger, Seat, Source};
 
 fn counters(h: u64, c: Counters) -> u64 {
@@ -8,29 +7,16 @@ fn counters(h: u64, c: Counters) -> u64 {
 }
 
 fn channels(h: u64, c: Channels) -> u64 {
-    let sent = c.sent;
-    let taken = c.taken;
-    of_words(of_words(h, &sent), &taken)
+    of_words(of_words(h, &c.sent), &c.taken)
 }
 
-fn seats(h: u64, t: [Seat; LIVE]) -> u64 {
-    let mut sum = h;
-    let mut i: usize = 0;
-    while i < LIVE {
-        let s = t[i];
-        sum = more(more(sum, s.tx), s.stage);
-        i += 1;
-    }
-    sum
+fn seats(h: u64, t: &[Seat]) -> u64 {
+    t.iter().fold(h, |sum, s| more(more(sum, s.tx), s.stage))
 }
 
 pub fn core(p: Core) -> u64 {
-    let c = p.counters;
-    let d = p.channels;
-    let t = p.seats;
-    let house = p.house;
-    let a = counters(of_house(house), c);
-    seats(channels(a, d), t)
+    let a = counters(of_house(p.house), p.counters);
+    seats(channels(a, p.channels), &p.seats)
 }
 
 fn source(h: u64, c: Source) -> u64 {
@@ -41,13 +27,7 @@ fn source(h: u64, c: Source) -> u64 {
 }
 
 pub fn merger(g: Merger) -> u64 {
-    let house = g.house;
-    let mut sum = of_house(house);
-    let mut i: usize = 0;
-    while i < SITES {
-        let c = g.sources[i];
-        sum = source(sum, c);
-        i += 1;
-    }
-    sum
+    g.sources
+        .iter()
+        .fold(of_house(g.house), |sum, c| source(sum, *c))
 }

@@ -1,12 +1,11 @@
 // One call again and again, each time on the same state.
-use kinds::sizes::{COPY, COPY_HEADER, LIVE_WORDS, OUTGOING, PART, PLACE, QUEUES, SITE_QUEUE};
+use kinds::sizes::{COPY, COPY_HEADER, LIVE_WORDS, PART, PLACE, QUEUES, SITE_QUEUE};
 use kinds::word::{LAST_COORDINATOR, LAST_NUMBER};
 use kinds::{Answer, Core, Merger};
-use pieces::{front, piece, piece_mut};
-use rounds::play::{BASES, GATHERINGS, HISTORIES, LIVES, Store, core_in, make_at};
+use pieces::{piece, piece_mut};
+use rounds::play::{LIVES, Store, Words, core_in, make_at};
 use rounds::step::{Save, WORST, site_of};
 use slices::copy_words;
-use std::num::wrapping_add_u64;
 
 // What calls did: how many were refused, and how many words they wrote in all.
 #[derive(Clone, Copy)]
@@ -19,23 +18,15 @@ pub struct Tally {
 pub const AHEAD: usize = PART + PART + COPY_HEADER;
 
 pub fn keep_ahead(ahead: &mut [u64; AHEAD], queues: &[u64; QUEUES], copy: &[u64; COPY]) {
-    let mut i: usize = 0;
-    while i < PART {
-        ahead[i] = queues[i];
-        ahead[PART + i] = queues[SITE_QUEUE + i];
-        i += 1;
-    }
+    ahead[..PART].copy_from_slice(&queues[..PART]);
+    ahead[PART..PART + PART].copy_from_slice(&queues[SITE_QUEUE..SITE_QUEUE + PART]);
     ahead[PART + PART] = copy[LAST_NUMBER];
     ahead[PART + PART + 1] = copy[LAST_COORDINATOR];
 }
 
 fn put_back(ahead: &[u64; AHEAD], queues: &mut [u64; QUEUES], copy: &mut [u64; COPY]) {
-    let mut i: usize = 0;
-    while i < PART {
-        queues[i] = ahead[i];
-        queues[SITE_QUEUE + i] = ahead[PART + i];
-        i += 1;
-    }
+    queues[..PART].copy_from_slice(&ahead[..PART]);
+    queues[SITE_QUEUE..SITE_QUEUE + PART].copy_from_slice(&ahead[PART..PART + PART]);
     copy[LAST_NUMBER] = ahead[PART + PART];
     copy[LAST_COORDINATOR] = ahead[PART + PART + 1];
 }
@@ -67,16 +58,12 @@ fn put_place(kept: &[u64; PLACE], live: &mut [u64], step: u64) {
 
 // The sum with one call more.
 fn tallied(sum: Tally, a: Answer, words: usize) -> Tally {
-    if let Answer::Refused(_) = a {
-        return Tally {
-            refused: wrapping_add_u64(sum.refused, 1),
-            words: sum.words,
-        };
+    let mut t = sum;
+    match a {
+        Answer::Refused(_) => t.refused = t.refused.wrapping_add(1),
+        _ => t.words = t.words.wrapping_add(words as u64),
     }
-    Tally {
-        refused: sum.refused,
-        words: wrapping_add_u64(sum.words, words as u64),
-    }
+    t
 }
 
 // Adds one call to the sum, and drops the state after it.
@@ -87,20 +74,11 @@ fn once(
     v: Save,
     p: Core,
     g: Merger,
-    live: &mut [u64; LIVES],
-    history: &mut [u64; HISTORIES],
-    base: &mut [u64; BASES],
-    lists: &mut [u64; GATHERINGS],
-    queues: &mut [u64; QUEUES],
-    copy: &mut [u64; COPY],
-    m: &[u64],
-    out: &mut [u64; OUTGOING],
+    w: &mut Words,
+    n: usize,
 ) -> Tally {
-    let d = make_at(
-        site, step, v, p, g, live, history, base, lists, queues, copy, m, out,
-    );
-    let a = d.answer;
-    tallied(sum, a, d.words)
+    let d = make_at(site, step, v, p, g, w, n);
+    tallied(sum, d.answer, d.words)
 }
 
 // The timed loop. Every turn of every step puts back what an emit, a replay and a call of the site change, so that it cancels out
@@ -112,68 +90,28 @@ fn again(
     v: Save,
     p: Core,
     g: Merger,
-    live: &mut [u64; LIVES],
-    history: &mut [u64; HISTORIES],
-    base: &mut [u64; BASES],
-    lists: &mut [u64; GATHERINGS],
-    queues: &mut [u64; QUEUES],
-    copy: &mut [u64; COPY],
-    m: &[u64],
-    out: &mut [u64; OUTGOING],
+    w: &mut Words,
+    n: usize,
 ) -> Tally {
     let mut ahead = [0u64; AHEAD];
     let mut kept = [0u64; PLACE];
-    keep_ahead(&mut ahead, queues, copy);
-    keep_place(&mut kept, live, step);
+    keep_ahead(&mut ahead, &w.queues, &w.copy);
+    keep_place(&mut kept, &w.live, step);
     let mut sum = Tally {
         refused: 0,
         words: 0,
     };
-    let mut i: u64 = 0;
-    while i < count {
-        i += 1;
-        put_back(&ahead, queues, copy);
-        put_place(&kept, live, step);
-        sum = once(
-            sum, site, step, v, p, g, live, history, base, lists, queues, copy, m, out,
-        );
+    for _ in 0..count {
+        put_back(&ahead, &mut w.queues, &mut w.copy);
+        put_place(&kept, &mut w.live, step);
+        sum = once(sum, site, step, v, p, g, w, n);
     }
     sum
 }
 
 // Makes a step's call count times.
-pub fn time_step(
-    st: Store,
-    count: u64,
-    step: u64,
-    live: &mut [u64; LIVES],
-    history: &mut [u64; HISTORIES],
-    base: &mut [u64; BASES],
-    lists: &mut [u64; GATHERINGS],
-    queues: &mut [u64; QUEUES],
-    copy: &mut [u64; COPY],
-    held: &[u64; OUTGOING],
-    out: &mut [u64; OUTGOING],
-) -> Tally {
+pub fn time_step(st: Store, count: u64, step: u64, w: &mut Words) -> Tally {
     let site = site_of(step);
     let p = core_in(st, site);
-    let g = st.merger;
-    let v = st.save;
-    let words = st.words;
-    again(
-        count,
-        site,
-        step,
-        v,
-        p,
-        g,
-        live,
-        history,
-        base,
-        lists,
-        queues,
-        copy,
-        front(held, words),
-        out,
-    )
+    again(count, site, step, st.save, p, st.merger, w, st.words)
 }

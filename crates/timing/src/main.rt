@@ -11,7 +11,7 @@ ghost use Rattle.std.specs.Prelude.{◌≤◌};
 use again::{Tally, time_step};
 use kinds::sizes::{COPY, OUTGOING, QUEUES};
 use lines::{Place, WORDS};
-use rounds::play::{BASES, GATHERINGS, HISTORIES, LIVES, Store, played};
+use rounds::play::{BASES, GATHERINGS, HISTORIES, LIVES, Store, Words, played};
 use rounds::step::{COMMIT, LAST_STEP, LAST_TIMED, WORST};
 use std::env::FillError;
 use std::rt::Env;
@@ -25,12 +25,8 @@ const MOST_SAVES: u64 = 1000000;
 // Bytes of the longest argument.
 const NAME: usize = 4096;
 
-// An argument as a number; whether it is one.
-#[derive(Clone, Copy)]
-struct Number {
-    ok: bool,
-    value: u64,
-}
+// What the first argument has to be.
+const STEP_ASKED: &str = "the first argument has to be the number of a step, 0 to 31";
 
 // A scan whose first word, which would be a verb, has ended: the next is a number.
 fn behind_verb() -> Place {
@@ -41,24 +37,22 @@ fn behind_verb() -> Place {
     }
 }
 
-fn number_in(text: &[u8]) -> Number {
+fn number_in(text: &[u8]) -> Option<u64> {
     let mut words = [0u64; WORDS];
     let r = lines::read(behind_verb(), &mut words, text, 0, text.len());
     let s = r.place;
-    Number {
-        ok: s.ended == 1 && s.begun == 1 && r.at == text.len(),
-        value: s.word,
+    if s.ended == 1 && s.begun == 1 && r.at == text.len() {
+        return Some(s.word);
     }
+    None
 }
 
-fn argument(rt: &impl Env, i: usize) -> Number {
+// An argument as a number, if it is one.
+fn argument(rt: &impl Env, i: usize) -> Option<u64> {
     let mut text = [0u8; NAME];
     match rt.arg(i, &mut text) {
         Ok(n) => number_in(&text[..n]),
-        Err(_) => Number {
-            ok: false,
-            value: 0,
-        },
+        Err(_) => None,
     }
 }
 
@@ -69,62 +63,32 @@ fn before(step: u64) -> u64
     if LAST_STEP < step {
         return COMMIT - 1;
     }
-    if step == 0 {
-        return 0;
-    }
-    step - 1
+    step.saturating_sub(1)
 }
 
 // The store that a step's call is made on: the one that saves left, or the one that asks the most work.
-fn readied(
-    st: Store,
-    step: u64,
-    live: &mut [u64; LIVES],
-    history: &mut [u64; HISTORIES],
-    lists: &mut [u64; GATHERINGS],
-    held: &mut [u64; OUTGOING],
-) -> Store {
+fn readied(st: Store, step: u64, w: &mut Words) -> Store {
     if step == WORST {
-        return with_worst(st, live, history, lists, held);
+        return with_worst(st, w);
     }
     st
 }
 
 // Makes a step's call count times, after so many steps of saves.
 fn time(step: u64, count: u64, steps: u64) -> Tally {
-    let mut live = [0u64; LIVES];
-    let mut history = [0u64; HISTORIES];
-    let mut base = [0u64; BASES];
-    let mut lists = [0u64; GATHERINGS];
-    let mut queues = [0u64; QUEUES];
-    let mut copy = [0u64; COPY];
-    let mut held = [0u64; OUTGOING];
-    let mut out = [0u64; OUTGOING];
-    let saved = played(
-        steps,
-        &mut live,
-        &mut history,
-        &mut base,
-        &mut lists,
-        &mut queues,
-        &mut copy,
-        &mut held,
-        &mut out,
-    );
-    let st = readied(saved, step, &mut live, &mut history, &mut lists, &mut held);
-    time_step(
-        st,
-        count,
-        step,
-        &mut live,
-        &mut history,
-        &mut base,
-        &mut lists,
-        &mut queues,
-        &mut copy,
-        &held,
-        &mut out,
-    )
+    let mut w = Words {
+        live: [0; LIVES],
+        history: [0; HISTORIES],
+        base: [0; BASES],
+        lists: [0; GATHERINGS],
+        queues: [0; QUEUES],
+        copy: [0; COPY],
+        held: [0; OUTGOING],
+        out: [0; OUTGOING],
+    };
+    let saved = played(steps, &mut w);
+    let st = readied(saved, step, &mut w);
+    time_step(st, count, step, &mut w)
 }
 
 fn say(rt: &impl Print, t: Tally) {
@@ -138,23 +102,17 @@ fn complain(rt: &impl Eprint, what: &str) {
 }
 
 // How many saves come first: the third argument, if there is one.
-fn saves_asked(rt: &impl Env) -> Number {
+fn saves_asked(rt: &impl Env) -> Option<u64> {
     let mut none = [0u8; 0];
     if let Err(FillError::NotPresent) = rt.arg(3, &mut none) {
-        return Number {
-            ok: true,
-            value: SAVES,
-        };
+        return Some(SAVES);
     }
     argument(rt, 3)
 }
 
 fn run<R: Print + Eprint>(rt: &R, step: u64, count: u64, saves: u64) {
     if LAST_TIMED < step {
-        complain(
-            rt,
-            "the first argument has to be the number of a step, 0 to 31",
-        );
+        complain(rt, STEP_ASKED);
         return;
     }
     if MOST_SAVES < saves {
@@ -166,29 +124,23 @@ fn run<R: Print + Eprint>(rt: &R, step: u64, count: u64, saves: u64) {
 }
 
 fn main(rt: HostRuntime) {
-    let step = argument(&rt, 1);
-    let count = argument(&rt, 2);
-    let saves = saves_asked(&rt);
-    if !step.ok {
-        complain(
-            &rt,
-            "the first argument has to be the number of a step, 0 to 31",
-        );
+    let Some(step) = argument(&rt, 1) else {
+        complain(&rt, STEP_ASKED);
         return;
-    }
-    if !count.ok {
+    };
+    let Some(count) = argument(&rt, 2) else {
         complain(
             &rt,
             "the second argument has to be how often to make the call",
         );
         return;
-    }
-    if !saves.ok {
+    };
+    let Some(saves) = saves_asked(&rt) else {
         complain(
             &rt,
             "the third argument has to be how many saves come before, or is left out",
         );
         return;
-    }
-    run(&rt, step.value, count.value, saves.value);
+    };
+    run(&rt, step, count, saves);
 }

@@ -10,13 +10,13 @@ ghost use Rattle.std.specs.Prelude.{◌≤◌};
 
 use kinds::kind::CERT;
 use kinds::sizes::{
-    CERT_ENTRIES, ENTRY, GATHERED, HISTORY, KEYSET, LIVE, MESSAGE_HEADER, OUTGOING, PLACE, READS,
-    SERIALS, SITE_KEYS, SITES, SLOT, VALUE, WRITES,
+    CERT_ENTRIES, ENTRY, GATHERED, HISTORY, KEYSET, LIVE, MESSAGE_HEADER, PLACE, READS, SERIALS,
+    SITE_KEYS, SITES, SLOT, VALUE, WRITES,
 };
 use kinds::stage::PREPARED;
 use kinds::{Channels, Core, Counters, House, Key, Seat, word};
 use pieces::{piece_mut, put};
-use rounds::play::{GATHERINGS, HISTORIES, LIVES, Store};
+use rounds::play::{Store, Words};
 use rounds::step::half;
 use slices::copy_words;
 
@@ -73,10 +73,8 @@ fn put_entry(e: &mut [u64], i: usize)
 }
 
 fn put_entries(es: &mut [u64]) {
-    let mut i: usize = 0;
-    while i < CERT_ENTRIES {
+    for i in 0..CERT_ENTRIES {
         put_entry(piece_mut(es, ENTRY * i, ENTRY), i);
-        i += 1;
     }
 }
 
@@ -86,14 +84,12 @@ fn put_keys(w: &mut [u64], first: u64)
 {
     put(w, word::KEYS_READ, READS as u64);
     put(w, word::KEYS_WROTE, WRITES as u64);
-    let mut i: usize = 0;
-    while i < WRITES {
+    for i in 0..WRITES {
         let value = word::KEYS_VALUES + VALUE * i;
         put(w, word::KEYS_READS + i, first + i as u64);
         put(w, word::KEYS_WRITES + i, first + 16 + i as u64);
         put(w, value + word::VALUE_START, first + i as u64);
         put(w, value + word::VALUE_LENGTH, 1 + i as u64);
-        i += 1;
     }
 }
 
@@ -117,44 +113,34 @@ fn put_slot(w: &mut [u64], i: usize)
 }
 
 fn put_live(live: &mut [u64], lists: &mut [u64]) {
-    let mut i: usize = 0;
-    while i < LIVE {
+    for i in 0..LIVE {
         put_place(piece_mut(live, PLACE * i, PLACE));
         put_entries(piece_mut(lists, GATHERED * i, GATHERED));
-        i += 1;
     }
 }
 
 fn put_history(history: &mut [u64]) {
-    let mut i: usize = 0;
-    while i < HISTORY {
+    for i in 0..HISTORY {
         put_slot(piece_mut(history, SLOT * i, SLOT), i);
-        i += 1;
     }
 }
 
 fn seats() -> [Seat; LIVE] {
     let mut all = [Seat { tx: 0, stage: 0 }; LIVE];
-    let mut i: usize = 0;
-    while i < LIVE {
-        all[i] = Seat {
+    for (i, seat) in all.iter_mut().enumerate() {
+        *seat = Seat {
             tx: tx_at(OF_LIVE + i),
             stage: PREPARED,
         };
-        i += 1;
     }
     all
 }
 
 fn core() -> Core {
-    let sent = [0u64; SITES];
-    let taken = [0u64; SITES];
-    let seats = seats();
-    let firsts = EVEN;
     Core {
         house: House {
             sites: SITES as u64,
-            firsts,
+            firsts: EVEN,
         },
         counters: Counters {
             own: OWN,
@@ -162,8 +148,11 @@ fn core() -> Core {
             serial: 0,
             installs: INSTALLS,
         },
-        channels: Channels { sent, taken },
-        seats,
+        channels: Channels {
+            sent: [0; SITES],
+            taken: [0; SITES],
+        },
+        seats: seats(),
     }
 }
 
@@ -194,24 +183,17 @@ fn put_cert(m: &mut [u64]) {
     put_entries(piece_mut(m, MESSAGE_HEADER, GATHERED));
 }
 
-fn put_tables(live: &mut [u64], history: &mut [u64], lists: &mut [u64]) {
-    put_live(half(live, 1), half(lists, 1));
-    put_history(half(history, 1));
+fn put_tables(w: &mut Words) {
+    put_live(half(&mut w.live, 1), half(&mut w.lists, 1));
+    put_history(half(&mut w.history, 1));
 }
 
 // The store with that site in the place of site 2, and the CERT as the message to take.
-pub fn with_worst(
-    st: Store,
-    live: &mut [u64; LIVES],
-    history: &mut [u64; HISTORIES],
-    lists: &mut [u64; GATHERINGS],
-    held: &mut [u64; OUTGOING],
-) -> Store {
-    put_tables(live, history, lists);
-    put_cert(held);
-    let core = core();
+pub fn with_worst(st: Store, w: &mut Words) -> Store {
+    put_tables(w);
+    put_cert(&mut w.held);
     let mut t = st;
-    t.two = core;
+    t.two = core();
     t.words = CERT_WORDS;
     t
 }

@@ -1,9 +1,9 @@
--- The words so far are within those there are.
-use Rattle.std.proofs.Common.{◌≡◌, ◌-◌, ◌≤◌, length}
+-- The messages that are left are among those lent, and each turn leaves fewer.
+use Rattle.std.proofs.Common.{◌≤◌, length}
 use Rattle.hand.proofs.store.keep_letters.Given as goal
 
-abbrev pub invariant-loop-at : goal.invariant-loop-at
-invariant-loop-at l = (l.at ≤ length l.ws) × (length l.store ≡ length l.initial.store)
+abbrev pub invariant-loop-rest : goal.invariant-loop-rest
+invariant-loop-rest l = length l.rest ≤ length l.ws
 
-abbrev pub decreases-loop-at : goal.decreases-loop-at
-decreases-loop-at l = length l.ws - l.at
+abbrev pub decreases-loop-rest : goal.decreases-loop-rest
+decreases-loop-rest l = length l.rest
