@@ -40,7 +40,7 @@ fn opening(d: &mut Play, script: &mut Script, page: &mut Page) -> Result<Option<
     shown(script, page)?;
     let mut words = [0u64; WORDS];
     let scan = script.next_scan(&mut words);
-    d.advance();
+    d.event = d.event.wrapping_add(1);
     opened(d, scan?, &words, page)
 }
 
@@ -151,7 +151,7 @@ fn rest(
 
 // Plays a script to its end, with what is under way beyond memory in the file of `spare`.
 pub fn play(script: &mut Script, spare: &mut Spare, page: &mut Page) -> Result<(), Ending> {
-    let mut d = Play::new();
+    let mut d = Play { sites: 0, event: 0 };
     let house = until_sites(&mut d, script, page)?;
     let mut store = [0u64; STORE];
     rest(&mut d, house, script, spare, &mut store, page)

@@ -102,7 +102,7 @@ fn to_hand(
     page: &mut Page,
 ) -> Result<(), Ending> {
     let h = shaped(w.line, hand, w.held, store, w.kept);
-    w.held = h.words;
+    w.held = h.unwrap_or(w.held);
     answered(*w, page, shown(hand, h))
 }
 

@@ -4,7 +4,7 @@
 ghost use Rattle.std.specs.Prelude.{◌<◌, IfSome};
 ghost use Rattle.kinds.specs.Sizes as sizes;
 
-use effects::{AS_SITES, COPY_PLACE, Done, Lent, TABLE, is_logged};
+use effects::{COPY_PLACE, Done, Lent, TABLE, is_logged};
 use hand::store::{keep_letters, keep_record};
 use kinds::sizes::{BASE, HISTORY_WORDS, LISTS, LIVE_WORDS, OUTGOING, QUEUES, SITES};
 use kinds::{Answer, Key};
@@ -42,7 +42,7 @@ fn all_lent(firsts: [Key; TABLE]) -> Lent {
         lists: LISTS,
         queues: QUEUES,
         copy: kinds::sizes::COPY,
-        table: AS_SITES,
+        table: None,
         firsts,
     }
 }
@@ -172,7 +172,7 @@ fn lend(lent: Lent, verb: u64, n: u64) -> Lent {
         verb::BASE => t.base = least(n, BASE + 1),
         verb::LISTS => t.lists = least(n, LISTS + 1),
         verb::QUEUES => t.queues = least(n, QUEUES + 1),
-        verb::TABLES => t.table = least(n, TABLE),
+        verb::TABLES => t.table = Some(least(n, TABLE)),
         _ => t.copy = least(n, COPY_PLACE),
     }
     t

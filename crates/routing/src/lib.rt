@@ -5,7 +5,7 @@ pub mod open;
 mod post;
 pub mod route;
 
-ghost use Rattle.std.specs.Prelude.{◌≡◌, ◌<◌};
+ghost use Rattle.std.specs.Prelude.{◌≡◌, ◌<◌, MatchOption};
 ghost use Rattle.said.specs.Said.{said_of};
 ghost use Rattle.pages.specs.Laid.{Laid, line_start, full};
 ghost use Rattle.pages.specs.Line.{line_of};
@@ -29,17 +29,6 @@ pub struct Play {
     pub event: u64,
 }
 
-impl Play {
-    pub fn new() -> Play {
-        Play { sites: 0, event: 0 }
-    }
-
-    // Goes on to the next line.
-    pub fn advance(&mut self) {
-        self.event = self.event.wrapping_add(1);
-    }
-}
-
 // What a line hands in: the next item of a queue or cursor.
 #[derive(Clone, Copy)]
 pub struct Handed {
@@ -57,8 +46,13 @@ pub struct Ask {
 
 impl Ask {
     // How many words it hands in.
-    pub fn words(self) -> usize {
-        self.handed.map_or(0, |handed| handed.item.words)
+    pub fn words(self) -> usize
+        ensures { MatchOption self.handed (result ≡ 0) (λ handed. result ≡ handed.item.words) }
+    {
+        match self.handed {
+            Some(handed) => handed.item.words,
+            None => 0,
+        }
     }
 }
 
@@ -138,7 +132,7 @@ pub fn next_ask(
 ) -> Result<Option<Ask>, Ending> {
     shown(script, page)?;
     let line = script.next_line();
-    d.advance();
+    d.event = d.event.wrapping_add(1);
     let command = line?;
     let r = routed(d.sites, command);
     if NOWHERE <= r.place {

@@ -3,7 +3,7 @@
 
 mod ending;
 
-ghost use Rattle.std.specs.Prelude.{◌≡◌, ◌≤◌, true, false, eqb};
+ghost use Rattle.std.specs.Prelude.{◌≡◌, ◌≤◌, ◌↔◌, true, false, eqb, IsTrue};
 ghost use Rattle.laws.specs.Choice.{pick};
 ghost use Rattle.script.specs.Sizes as sizes;
 
@@ -19,8 +19,8 @@ pub const TEXT: usize = 65536;
 pub struct Script {
     from: Source,
     block: [u8; TEXT],
-    at: usize,
-    end: usize,
+    pub at: usize,
+    pub end: usize,
     ghost unread: { at ≤ end },
     ghost within: { end ≤ sizes.text },
 }
@@ -43,7 +43,9 @@ impl Script {
     }
 
     // Whether the next line has to be read from the input.
-    pub fn is_drained(&self) -> bool {
+    pub fn is_drained(&self) -> bool
+        ensures { IsTrue result ↔ (self.now.end ≤ self.now.at) }
+    {
         self.end <= self.at
     }
 
