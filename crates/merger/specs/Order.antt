@@ -1,5 +1,7 @@
 -- F7 and F8: the head order goes in and comes back as one value. What its methods hand back, by the rules' definitions.
-use Rattle.std.specs.Prelude.{ℕ, ◌+◌, ◌≡◌, refl, List}
+use Rattle.std.specs.Prelude.{ℕ, ◌+◌, ◌≡◌, refl, List, Result, Ok, Err, eqb}
+use Rattle.std.proofs.Common.{ap, sym, ◌∙◌, eqb-true}
+use Rattle.laws.specs.Choice.{pick, by_test}
 use Rattle.laws.specs.Scan.{fold_below}
 use Rattle.kinds.specs.declared.Merger.{Merger}
 use Rattle.rules.specs.Merger.{heads_of, head_in, least_head, due_code, pop_merger_at, pop_merger}
@@ -38,7 +40,46 @@ pub without_more : (mask : ℕ) (h : Heads) (i : ℕ) → without_to mask h (i +
 unfolding without_to without_at
 without_more mask h i = rw pop_more
 
--- the due head of an order, and the order without its parts
-pub record TakenDue (h : Heads) (d : Due) : Type 0 where
+-- what is taken: the due head of an order, and the order without its parts
+pub record Takes (h : Heads) (d : Due) : Type 0 where
   pub head : d.head ≡ head_in h.heads (least_in h)
   pub heads : d.heads ≡ without h d.head.mask
+
+-- the due head, and the order without its parts; or the refusal's number, with the order as it was
+unfoldable pub due_of : Heads → Result Due ℕ
+due_of h =
+    let r = head_in h.heads (least_in h) in
+    pick (eqb (code_in h) 0) (Ok (record { head = r; heads = without h r.mask })) (Err (code_in h))
+
+-- What an order says from which the due head was taken, or was refused.
+pub record RefusedDue (h : Heads) (number : ℕ) : Type 0 where
+  pub code : number ≡ due_code h.merger h.heads (least_in h)
+
+pub record TakenDue (h : Heads) (d : Due) : Type 0 where
+  pub code : due_code h.merger h.heads (least_in h) ≡ 0
+  pub head : d.head ≡ head_in h.heads (least_in h)
+  pub merger : d.heads.merger ≡ pop_merger h.merger (head_in h.heads (least_in h)).mask (sites_in h)
+
+abbrev number_in : Result Due ℕ → ℕ
+number_in (Ok _) = 0
+number_in (Err code) = code
+
+abbrev due_in : Result Due ℕ → Due → Due
+due_in (Ok d) e = d
+due_in (Err _) e = e
+
+-- the number that the order gives is the code
+numbered : (code : ℕ) (d : Due) → number_in (pick (eqb code 0) (Ok d) (Err code)) ≡ code
+numbered code d = by_test (eqb code 0) (λ t. rw t (sym (eqb-true code 0 t))) (λ t. rw t)
+
+pub refused_due : (h : Heads) (code : ℕ) → due_of h ≡ Err code → RefusedDue h code
+unfolding due_of code_in
+refused_due h code e = record { code = sym (ap number_in e) ∙ numbered _ _ }
+
+pub taken_due : (h : Heads) (d : Due) → due_of h ≡ Ok d → TakenDue h d
+unfolding due_of code_in without without_to
+taken_due h d e =
+    let none : due_code h.merger h.heads (least_in h) ≡ 0 = sym (numbered _ _) ∙ ap number_in e in
+    let here = rw none at e in
+    let same = ap (λ x. due_in x d) here in
+    record { code = none; head = ap (λ (x : Due). x.head) (sym same); merger = ap (λ (x : Due). x.heads.merger) (sym same) }

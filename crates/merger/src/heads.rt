@@ -6,7 +6,7 @@ ghost use Rattle.rules.specs.House.{in_mask};
 ghost use Rattle.rules.specs.Merger.{no_head, has_head, better_head, is_due_at, has_part, is_whole_at, is_whole, head_in, source_at};
 ghost use Rattle.rules.specs.MergerLaws.{Queued};
 ghost use Rattle.kinds.specs.Refusal.{refusal_in};
-ghost use Rattle.merger.specs.Order.{sites_in, order_of, least_in, code_in, without_at, without, TakenDue};
+ghost use Rattle.merger.specs.Order.{sites_in, order_of, least_in, code_in, without_at, without, Takes};
 
 use kinds::sizes::SITES;
 use kinds::{Merger, RecordHead, Refusal};
@@ -219,7 +219,7 @@ impl Heads {
     pub fn take_due(self) -> Result<Due, Refusal>
         requires { sites_in self ≤ sizes.sites }
         ensures code { refusal_in result ≡ code_in self }
-        ensures taken { IfOk result (TakenDue self) }
+        ensures taken { IfOk result (Takes self) }
     {
         let head = self.check_due()?;
         let heads = self.without(head.mask);

@@ -3,13 +3,13 @@ use Rattle.std.proofs.Common.{◌≡◌, refl, sym, ap}
 use Rattle.laws.specs.Overlay.{overlay_none}
 use Rattle.merger.specs.declared.heads.Heads.{Heads}
 use Rattle.merger.specs.declared.heads.Due.{Due}
-use Rattle.merger.specs.Order.{code_in, least_in, sites_in, without, without_to, TakenDue}
+use Rattle.merger.specs.Order.{code_in, least_in, sites_in, without, without_to, Takes}
 use Rattle.rules.specs.Merger.{emit_due, head_in, merger_out_of, pop_merger}
 use Rattle.rules.specs.MergerLaws.{due_fits}
 use Rattle.merger.proofs.Causes.{refused_by, passed_by}
 use Rattle.merger.proofs.emit_due.Goals as goal
 
-after : (h : Heads) (d : Due) → TakenDue h d → d.heads.merger ≡ pop_merger h.merger (head_in h.heads (least_in h)).mask (sites_in h)
+after : (h : Heads) (d : Due) → Takes h d → d.heads.merger ≡ pop_merger h.merger (head_in h.heads (least_in h)).mask (sites_in h)
 unfolding without without_to
 after h d t = ap (λ (x : Heads). x.merger) (rw t.head at t.heads)
 
