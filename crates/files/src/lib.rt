@@ -158,6 +158,7 @@ pub fn open_argument<R: Env + Files<File = File>>(
 }
 
 // Says why a file's play ended before its end, where it could not be read or its output not written, and whether neither was so.
+// Stays: whether all went well is a plain yes or no, here and in what calls it: what failed is said where it fails.
 pub fn reported(to: Stderr, ending: Ending, program: &[u8], name: &[u8]) -> bool {
     match ending {
         Ending::Unreadable(error) => {

@@ -57,6 +57,7 @@ fn first_length(ws: &[u64]) -> usize
 pub fn keep_letters(store: &mut [u64], used: usize, ws: &[u64]) -> usize {
     let mut last = used;
     let mut rest = ws;
+    // Stays: no index is counted: a step is as long as a letter.
     while !rest.is_empty() {
         let n = first_length(rest);
         if n == 0 {
@@ -99,6 +100,7 @@ pub fn find_letter(
 ) -> Option<usize> {
     let mut found = None;
     let mut at: usize = 0;
+    // Stays: no index is counted: a step is as long as an item.
     while at < used.min(STORE) {
         if is_letter(store, at, from, to, number) {
             found = Some(at);
@@ -118,6 +120,7 @@ fn is_record(store: &[u64; STORE], at: usize, site: u64) -> bool
 pub fn find_record(store: &[u64; STORE], used: usize, site: u64, n: u64) -> Option<usize> {
     let mut left = n;
     let mut at: usize = 0;
+    // Stays: no index is counted: a step is as long as an item.
     while at < used.min(STORE) {
         if is_record(store, at, site) {
             if left <= 1 {

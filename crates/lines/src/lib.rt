@@ -50,6 +50,7 @@ const LONGEST: u64 = 281474976710656;
 // What has been read of a line: how many words ended, whether the present one has begun (0 or 1), and the present one. The ended
 // ones stand in lent words, in their order, the verb first: no step and no reading copies them. A verb is its letters as digits to
 // the base 256.
+// Stays: `begun` is a number, as the contracts of `step` and `told`, which are equations with Line.Scan, have it.
 #[derive(Clone, Copy)]
 pub struct Place {
     pub ended: u64,

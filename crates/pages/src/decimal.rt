@@ -22,11 +22,12 @@ fn digit_count(n: u64, base: u64, width: usize) -> usize
 {
     let mut k = 1;
     let mut rest = n / base;
+    // Stays: no index is counted: the digits are counted by dividing.
     while rest > 0 {
         rest /= base;
         k += 1;
     }
-    if k < width { width } else { k }
+    k.max(width)
 }
 
 // Puts the last k digits of n in base at the start of out.

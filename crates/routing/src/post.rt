@@ -77,6 +77,7 @@ fn send_first(spare: &mut Spare, store: &mut [u64; STORE], words: &[u64]) -> Res
 // Sends each of the messages that stand directly behind one another.
 pub fn send_all(spare: &mut Spare, store: &mut [u64; STORE], words: &[u64]) -> Result<(), Unkept> {
     let mut at: usize = 0;
+    // Stays: no index is counted: a step is as long as a message.
     while at < words.len() {
         at += send_first(spare, store, &words[at..])?;
     }

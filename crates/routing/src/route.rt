@@ -19,6 +19,7 @@ pub const NOWHERE: usize = FIRST_COPY + COPIES;
 
 // The place, the queue whose first item is handed in, or the cursor whose next one is (QUEUES for none), and the refusal where the
 // place is NOWHERE.
+// Stays: `routed` is an equation with the rules' Route.route_of, of which this is the type.
 #[derive(Clone, Copy)]
 pub struct Route {
     pub place: usize,

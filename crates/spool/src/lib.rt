@@ -109,6 +109,7 @@ fn read_words(
     requires { n ≤ sizes.item }
 {
     let mut r = Run { at, done: 0 };
+    // Stays: no index is counted: a step is as long as what is left of a block.
     while r.done < n {
         let next = read_run(spare, store, r, item, n)?;
         if next.done <= r.done {
@@ -271,6 +272,7 @@ pub fn push(
         at: store[row(queue, TAIL)],
         done: 0,
     };
+    // Stays: no index is counted: a step is as long as what is left of a block.
     while r.done < words.len() {
         let next = write_run(spare, store, r, words)?;
         if next.done <= r.done {

@@ -1,6 +1,9 @@
 use native.Mathlib.Omega.{arith}
+use borrow.Author.Rules.{rules}
 use mathlib.Core.Path.{ap, ◌∙◌}
-use Prim.Native.Nat.{ℕ, ◌/◌}
+use Prim.Native.Nat.{ℕ, ◌/◌, ◌^◌, ◌-◌, ◌<◌, ◌≤◌, max}
+use mathlib.Core.Path.{◌≡◌}
+use Rattle.pages.specs.Digits.{IsDigitCount}
 use Rattle.pages.proofs.Powers.{two-mul-div-le, div-pow-one, div-pow-div, pow-le_of_div_pos, lt-pow_of_div-zero}
 use Rattle.pages.proofs.decimal.digit_count.Goals as goal
 
@@ -23,13 +26,15 @@ loop-rest-preserved c =
       λ _. pow-le_of_div_pos n b l.k (omega arith) (omega arith),
     )
 
-pub returns-then-k-width : goal.returns-then-k-width
-returns-then-k-width c =
-    let a = c.args in
-    (omega arith, lt-pow_of_div-zero a.n a.base c.loop-rest.k a.width (omega arith) (omega arith) (omega arith), omega arith)
+-- the digits are as many as were counted, or as asked for
+wide : (n b k w m : ℕ) → m ≡ max k w → n / b ^ k < 1 → (1 < k → b ^ (k - 1) ≤ n) → 0 < b → 0 < w → IsDigitCount b w n m
+wide n b k w m e none more base least =
+    let long = lt-pow_of_div-zero n b k m base none (omega (arith, e)) in
+    (omega (arith, e), long, λ h. let same : m ≡ k = omega (arith, e, h) in rw same (more (omega (arith, h, e, least))))
 
-pub returns-else-k-width : goal.returns-else-k-width
-returns-else-k-width c =
+pub returns : goal.returns
+returns c =
     let a = c.args in
     let l = c.loop-rest in
-    (omega arith, lt-pow_of_div-zero a.n a.base l.k l.k (omega arith) (omega arith) (omega arith), λ more. l.invariant.3 (omega arith))
+    let counted : c.max.result ≡ max l.k a.width = search rules in
+    wide a.n a.base l.k a.width c.max.result counted (omega arith) l.invariant.3 (omega arith) (omega arith)
