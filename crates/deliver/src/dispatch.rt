@@ -1,4 +1,5 @@
 // Work is decided by message kind, 1 to 8, anything else refused.
+// Stays: F4 names one match over the kind number, with ranges for the impossible kinds.
 ghost use Rattle.std.specs.Prelude.{◌≡◌, ◌≤◌, length};
 ghost use Rattle.laws.specs.Overlay.{overlay};
 ghost use Rattle.kinds.specs.Sizes as sizes;
@@ -9,8 +10,7 @@ ghost use Rattle.handlers.specs.Held.{IsPlace, place_number};
 
 use crate::coordinator::{on_conc, on_joined, on_vote};
 use crate::participant::{on_abort, on_cert, on_commit, on_prepare};
-use kinds::kind::MessageKind;
-use kinds::{Core, MessageHead, Refusal, Reply};
+use kinds::{Core, MessageHead, Refusal, Reply, kind};
 
 pub fn take_kind(
     p: Core,
@@ -33,17 +33,16 @@ pub fn take_kind(
         ≡ overlay out.old
         (take_kind h.kind (site_of p live.old history.now) h es.now lists.old (place_number place)).words }
 {
-    match MessageKind::try_from(h.kind) {
-        Ok(MessageKind::Join) => {
-            handlers::participant::take_join(p, live, history, h, place, out)
-        }
-        Ok(MessageKind::Joined) => on_joined(p, live, history, h, place),
-        Ok(MessageKind::Prepare) => on_prepare(p, live, history, h, place, out),
-        Ok(MessageKind::Conc) => on_conc(p, live, history, h, es, place, lists, out),
-        Ok(MessageKind::Cert) => on_cert(p, live, history, h, es, place, out),
-        Ok(MessageKind::Vote) => on_vote(p, live, history, h, place, out),
-        Ok(MessageKind::Commit) => on_commit(p, live, history, h, place),
-        Ok(MessageKind::Abort) => on_abort(p, live, history, h, place),
-        Err(_) => shell::refused_by(p, Refusal::Malformed),
+    match h.kind {
+        kind::JOIN => handlers::participant::take_join(p, live, history, h, place, out),
+        kind::JOINED => on_joined(p, live, history, h, place),
+        kind::PREPARE => on_prepare(p, live, history, h, place, out),
+        kind::CONC => on_conc(p, live, history, h, es, place, lists, out),
+        kind::CERT => on_cert(p, live, history, h, es, place, out),
+        kind::VOTE => on_vote(p, live, history, h, place, out),
+        kind::COMMIT => on_commit(p, live, history, h, place),
+        kind::ABORT => on_abort(p, live, history, h, place),
+        0 => shell::refused_by(p, Refusal::Malformed),
+        9..=u64::MAX => shell::refused_by(p, Refusal::Malformed),
     }
 }

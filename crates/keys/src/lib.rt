@@ -79,16 +79,21 @@ pub fn with_write(b: Keys, k: Key, v: Value) -> Keys
 }
 
 // Whether the first `n` of `a` and the first `m` of `b` have a key in common. Both scans stop at the first.
+// Stays: F6 names nested loops, left by a label.
 pub fn common_key(a: &[Key], n: usize, b: &[Key], m: usize) -> bool
     requires { (n ≤ length a.now) × (m ≤ length b.now) }
     ensures { result ≡ common_key a.now n b.now m }
 {
-    for key in &a[..n] {
-        if b[..m].contains(key) {
-            return true;
+    let mut found = false;
+    'search: for i in 0..n {
+        for j in 0..m {
+            if a[i] == b[j] {
+                found = true;
+                break 'search;
+            }
         }
     }
-    false
+    found
 }
 
 // Whether one wrote a key that the other read or wrote.

@@ -1,13 +1,15 @@
 -- F7 and F8: the head order goes in and comes back as one value. What its methods hand back, by the rules' definitions.
-use Rattle.std.specs.Prelude.{ℕ, ◌+◌, ◌≡◌, refl, List, Result, Ok, Err, eqb}
+use Rattle.std.specs.Prelude.{ℕ, ◌+◌, ◌≡◌, refl, List, Bool, true, false, Result, Ok, Err, eqb}
 use Rattle.std.proofs.Common.{ap, sym, ◌∙◌, eqb-true}
-use Rattle.laws.specs.Choice.{pick, by_test}
+use Rattle.laws.specs.Choice.{pick}
 use Rattle.laws.specs.Scan.{fold_below}
 use Rattle.kinds.specs.declared.Merger.{Merger}
 use Rattle.rules.specs.Merger.{heads_of, head_in, least_head, due_code, pop_merger_at, pop_merger}
 use Rattle.rules.specs.MergerLaws.{pop_more}
 use Rattle.merger.specs.declared.heads.Heads.{Heads}
 use Rattle.merger.specs.declared.heads.Due.{Due}
+use Rattle.merger.specs.declared.heads.Undue.{Undue}
+use Rattle.kinds.specs.Refusal.{number_of}
 
 abbrev pub sites_in : Heads → ℕ
 sites_in h = h.merger.house.sites
@@ -40,46 +42,60 @@ pub without_more : (mask : ℕ) (h : Heads) (i : ℕ) → without_to mask h (i +
 unfolding without_to without_at
 without_more mask h i = rw pop_more
 
--- what is taken: the due head of an order, and the order without its parts
-pub record Takes (h : Heads) (d : Due) : Type 0 where
-  pub head : d.head ≡ head_in h.heads (least_in h)
-  pub heads : d.heads ≡ without h d.head.mask
-
 -- the due head, and the order without its parts; or the refusal's number, with the order as it was
-unfoldable pub due_of : Heads → Result Due ℕ
+unfoldable pub due_of : Heads → Result Due (ℕ × Heads)
 due_of h =
     let r = head_in h.heads (least_in h) in
-    pick (eqb (code_in h) 0) (Ok (record { head = r; heads = without h r.mask })) (Err (code_in h))
+    pick (eqb (code_in h) 0) (Ok (record { head = r; heads = without h r.mask })) (Err (code_in h, h))
 
--- What an order says from which the due head was taken, or was refused.
-pub record RefusedDue (h : Heads) (number : ℕ) : Type 0 where
-  pub code : number ≡ due_code h.merger h.heads (least_in h)
+-- an answer with its cause's number
+abbrev pub by_number : Result Due Undue → Result Due (ℕ × Heads)
+by_number (Ok d) = Ok d
+by_number (Err u) = Err (number_of u.cause, u.heads)
+
+-- What a taken order says, refused or not.
+pub record RefusedDue (h : Heads) (u : Undue) : Type 0 where
+  pub code : number_of u.cause ≡ due_code h.merger h.heads (least_in h)
+  pub same : u.heads ≡ h
 
 pub record TakenDue (h : Heads) (d : Due) : Type 0 where
   pub code : due_code h.merger h.heads (least_in h) ≡ 0
   pub head : d.head ≡ head_in h.heads (least_in h)
   pub merger : d.heads.merger ≡ pop_merger h.merger (head_in h.heads (least_in h)).mask (sites_in h)
 
-abbrev number_in : Result Due ℕ → ℕ
-number_in (Ok _) = 0
-number_in (Err code) = code
-
-abbrev due_in : Result Due ℕ → Due → Due
+abbrev due_in : Result Due (ℕ × Heads) → Due → Due
 due_in (Ok d) e = d
 due_in (Err _) e = e
 
--- the number that the order gives is the code
-numbered : (code : ℕ) (d : Due) → number_in (pick (eqb code 0) (Ok d) (Err code)) ≡ code
-numbered code d = by_test (eqb code 0) (λ t. rw t (sym (eqb-true code 0 t))) (λ t. rw t)
+abbrev undue_in : Result Due (ℕ × Heads) → ℕ × Heads → ℕ × Heads
+undue_in (Ok _) e = e
+undue_in (Err u) e = u
 
-pub refused_due : (h : Heads) (code : ℕ) → due_of h ≡ Err code → RefusedDue h code
+-- whether it is an answer that goes on
+abbrev goes_on : Result Due (ℕ × Heads) → Bool
+goes_on (Ok _) = true
+goes_on (Err _) = false
+
+chosen : (t : Bool) (d : Due) (u : ℕ × Heads) → goes_on (pick t (Ok d) (Err u)) ≡ t
+chosen true d u = refl
+chosen false d u = refl
+
+pub refused_due : (h : Heads) (u : Undue) → Err (number_of u.cause, u.heads) ≡ due_of h → RefusedDue h u
 unfolding due_of code_in
-refused_due h code e = record { code = sym (ap number_in e) ∙ numbered _ _ }
+refused_due h u e =
+    let none = sym (ap goes_on e ∙ chosen _ _ _) in
+    let here = rw none at e in
+    let same = ap (λ r. undue_in r (0, h)) here in
+    record { code = ap (λ (x : ℕ × Heads). x.0) same; same = ap (λ (x : ℕ × Heads). x.1) same }
 
-pub taken_due : (h : Heads) (d : Due) → due_of h ≡ Ok d → TakenDue h d
+pub taken_due : (h : Heads) (d : Due) → Ok d ≡ due_of h → TakenDue h d
 unfolding due_of code_in without without_to
 taken_due h d e =
-    let none : due_code h.merger h.heads (least_in h) ≡ 0 = sym (numbered _ _) ∙ ap number_in e in
-    let here = rw none at e in
-    let same = ap (λ x. due_in x d) here in
-    record { code = none; head = ap (λ (x : Due). x.head) (sym same); merger = ap (λ (x : Due). x.heads.merger) (sym same) }
+    let due = sym (ap goes_on e ∙ chosen _ _ _) in
+    let here = rw due at e in
+    let same = ap (λ r. due_in r d) here in
+    record {
+      code = eqb-true _ _ due;
+      head = ap (λ (x : Due). x.head) same;
+      merger = ap (λ (x : Due). x.heads.merger) same;
+    }

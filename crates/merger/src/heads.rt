@@ -6,7 +6,7 @@ ghost use Rattle.rules.specs.House.{in_mask};
 ghost use Rattle.rules.specs.Merger.{no_head, has_head, better_head, is_due_at, has_part, is_whole_at, is_whole, head_in, source_at};
 ghost use Rattle.rules.specs.MergerLaws.{Queued};
 ghost use Rattle.kinds.specs.Refusal.{refusal_in};
-ghost use Rattle.merger.specs.Order.{sites_in, order_of, least_in, code_in, without_at, without, Takes};
+ghost use Rattle.merger.specs.Order.{sites_in, order_of, least_in, code_in, without_at, without, due_of, by_number};
 
 use kinds::sizes::SITES;
 use kinds::{Merger, RecordHead, Refusal};
@@ -25,6 +25,13 @@ pub struct Heads {
 #[derive(Clone, Copy)]
 pub struct Due {
     pub head: RecordHead,
+    pub heads: Heads,
+}
+
+// Why no head is taken, with the order as it was.
+#[derive(Clone, Copy)]
+pub struct Undue {
+    pub cause: Refusal,
     pub heads: Heads,
 }
 
@@ -216,13 +223,16 @@ impl Heads {
     }
 
     // Takes the due pair from the order, and hands both back.
-    pub fn take_due(self) -> Result<Due, Refusal>
+    pub fn take_due(self) -> Result<Due, Undue>
         requires { sites_in self ≤ sizes.sites }
-        ensures code { refusal_in result ≡ code_in self }
-        ensures taken { IfOk result (Takes self) }
+        ensures { by_number result ≡ due_of self }
     {
-        let head = self.check_due()?;
-        let heads = self.without(head.mask);
-        Ok(Due { head, heads })
+        match self.check_due() {
+            Ok(head) => Ok(Due {
+                head,
+                heads: self.without(head.mask),
+            }),
+            Err(cause) => Err(Undue { cause, heads: self }),
+        }
     }
 }

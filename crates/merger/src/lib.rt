@@ -189,7 +189,7 @@ fn emit_due(h: Heads, queues: &mut [u64], out: &mut [u64]) -> MergerOut
     let n = h.sites();
     let due = match h.take_due() {
         Ok(due) => due,
-        Err(cause) => return refused(h.merger, cause),
+        Err(undue) => return refused(undue.heads.merger, undue.cause),
     };
     let head = due.head;
     let words = write_merged(out, queues, n, head);

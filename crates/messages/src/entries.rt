@@ -50,7 +50,12 @@ pub fn entries_possible(o: House, es: &[u64], n: usize) -> bool
     requires n_le_cert_entries { (n ≤ sizes.cert_entries) × (sizes.entry * n ≤ length es.now) }
     ensures { result ≡ all_below (entry_possible o es.now) n }
 {
-    (0..n).all(|i| entry_possible(o, es, i))
+    for i in 0..n {
+        if !entry_possible(o, es, i) {
+            return false;
+        }
+    }
+    true
 }
 
 pub fn entries_ok(o: House, es: &[u64], n: usize) -> bool
@@ -58,5 +63,10 @@ pub fn entries_ok(o: House, es: &[u64], n: usize) -> bool
     requires n_le_cert_entries { (n ≤ sizes.cert_entries) × (sizes.entry * n ≤ length es.now) }
     ensures { result ≡ all_below (entry_ok o es.now) n }
 {
-    (0..n).all(|i| entry_ok(o, es, i))
+    for i in 0..n {
+        if !entry_ok(o, es, i) {
+            return false;
+        }
+    }
+    true
 }

@@ -118,7 +118,10 @@ fn line_with(
 }
 
 impl Page {
-    pub fn new(to: Stdout) -> Page {
+    // Nothing is on it yet.
+    pub fn new(to: Stdout) -> Page
+        ensures { result.used ≡ 0 }
+    {
         Page {
             to,
             bytes: [0; PAGE],

@@ -16,7 +16,7 @@ use kinds::sizes::{ANSWER, COPY, COPY_HEADER, KEYS, MERGED, VALUE};
 use kinds::{Refusal, word};
 pub use record::record_bytes;
 use replay::replay_words;
-use words::{BYTES, read_words, word_at, write_words};
+use words::{BYTES, fill_bytes, read_words, word_at, write_words};
 
 const COPY_BYTES: usize = BYTES * COPY;
 
@@ -31,7 +31,7 @@ pub fn reader_start(copy: &mut [u8]) -> u64
     if copy.len() != COPY_BYTES {
         return Refusal::Malformed.into();
     }
-    copy.fill(0);
+    fill_bytes(copy);
     0
 }
 

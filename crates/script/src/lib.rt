@@ -3,8 +3,9 @@
 
 mod ending;
 
-ghost use Rattle.std.specs.Prelude.{◌≡◌, ◌≤◌, ◌↔◌, true, false, eqb, IsTrue};
+ghost use Rattle.std.specs.Prelude.{◌≡◌, ◌≤◌, ◌↔◌, true, false, eqb, IsTrue, Ok, Err};
 ghost use Rattle.laws.specs.Choice.{pick};
+ghost use Rattle.script.specs.declared.ending.Ending.TheVariants.{End};
 ghost use Rattle.script.specs.Sizes as sizes;
 
 pub use ending::Ending;
@@ -32,8 +33,18 @@ fn is_line(s: Place) -> bool
     s.ended != 0 || s.begun != 0
 }
 
+// What the end of the input leaves: a last line, or none.
+fn found_in(s: Place) -> Result<Place, Ending>
+    ensures { result ≡ pick (eqb s.ended 0) (pick (eqb s.begun 0) (Err End) (Ok s)) (Ok s) }
+{
+    if is_line(s) { Ok(s) } else { Err(Ending::End) }
+}
+
 impl Script {
-    pub fn new(from: Source) -> Script {
+    // Nothing of it is read yet.
+    pub fn new(from: Source) -> Script
+        ensures { result.end ≡ 0 }
+    {
         Script {
             from,
             block: [0; TEXT],
@@ -76,11 +87,7 @@ impl Script {
             }
             self.at = end;
         }
-        if is_line(place) {
-            Ok(place)
-        } else {
-            Err(Ending::End)
-        }
+        found_in(place)
     }
 
     // Reads a line as a command.

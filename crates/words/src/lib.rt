@@ -29,6 +29,13 @@ pub fn set_word(b: &mut [u8], i: usize, x: u64)
     put_word(&mut b[BYTES * i..], x);
 }
 
+// Sets every byte to 0.
+pub fn fill_bytes(b: &mut [u8])
+    ensures { b.new ≡ replicate (length b.old) 0 }
+{
+    b.fill(0);
+}
+
 // Writes words to as many bytes as they have.
 pub fn write_words(b: &mut [u8], ws: &[u64])
     requires { length b.old ≡ 8 * length ws.now }

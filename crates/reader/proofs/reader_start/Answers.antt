@@ -30,4 +30,4 @@ returns c =
     let b = c.args.copy.now in
     let e = c.if-copy-ne-COPY_BYTES.false in
     rw (eq-eqb _ _ e, eq-eqb (length (words_of b)) sizes.copy (words_copy b e), zeros b e)
-    (record { value = refl; copy_after = c.fill.ensures.after (λ y k. k) })
+    (record { value = refl; copy_after = c.fill_bytes.ensures })

@@ -1,10 +1,8 @@
 -- Each arm is its kind's rule; the kinds beyond 1 to 8 cannot come.
 use Prim.Native.Nat.{ℕ}
-use mathlib.Core.Path.{◌≡◌, ap, ◌∙◌}
-use Rattle.std.proofs.Common.{⊎_elim}
+use mathlib.Core.Path.{◌≡◌, ◌∙◌}
 use native.Mathlib.Omega.{arith}
 use Rattle.kinds.specs.Kind as kind
-use Rattle.kinds.specs.MessageKind.{word_of}
 use Rattle.rules.specs.Deliver.{take_kind}
 use Rattle.rules.specs.DispatchLaws.{given_kind, kind_abort, kind_cert, kind_commit, kind_join, kind_joined, kind_prepare, kind_vote}
 use Rattle.rules.specs.DispatchLaws.{quiet_abort, quiet_commit, quiet_joined}
@@ -66,71 +64,71 @@ on_vote-requires c =
 pub on_conc-requires : goal.on_conc-requires
 on_conc-requires c =
     let pre = c.requires in
-    let kind = c.in-Ok-Conc.ensures ∙ ap word_of c.in-Ok-Conc.field-0-is in
-    record { incoming = (pre.incoming, kind); place = pre.place; lists_len = pre.lists_len }
+    record { incoming = (pre.incoming, c.in-4.is); place = pre.place; lists_len = pre.lists_len }
 
 pub on_cert-requires : goal.on_cert-requires
 on_cert-requires c =
     let pre = c.requires in
-    let kind = c.in-Ok-Cert.ensures ∙ ap word_of c.in-Ok-Cert.field-0-is in
-    record { incoming = (pre.incoming, kind); place = pre.place; outgoing_in_bounds = pre.lists_len.1 }
+    record { incoming = (pre.incoming, c.in-5.is); place = pre.place; outgoing_in_bounds = pre.lists_len.1 }
 
-pub returns-in-Ok-Join : goal.returns-in-Ok-Join
-returns-in-Ok-Join c =
+pub returns-in-1 : goal.returns-in-1
+returns-in-1 c =
     let a = c.args in
-    let t = of_kind (goal.at.returns-in-Ok-Join c).Start kind.join _ (c.in-Ok-Join.ensures ∙ ap word_of c.in-Ok-Join.field-0-is) (kind_join _ _ _ _ _) in
+    let t = of_kind (goal.at.returns-in-1 c).Start kind.join _ c.in-1.is (kind_join _ _ _ _ _) in
     let r = sends a.lists.now c.take_join.ensures.replied a.out.now _ t c.take_join.ensures.out_after in
     record { replied = r.0; lists_after = r.1.0; out_after = r.1.1 }
 
-pub returns-in-Ok-Prepare : goal.returns-in-Ok-Prepare
-returns-in-Ok-Prepare c =
+pub returns-in-3 : goal.returns-in-3
+returns-in-3 c =
     let a = c.args in
-    let t = of_kind (goal.at.returns-in-Ok-Prepare c).Start kind.prepare _ (c.in-Ok-Prepare.ensures ∙ ap word_of c.in-Ok-Prepare.field-0-is) (kind_prepare _ _ _ _ _) in
+    let t = of_kind (goal.at.returns-in-3 c).Start kind.prepare _ c.in-3.is (kind_prepare _ _ _ _ _) in
     let r = sends a.lists.now c.on_prepare.ensures.replied a.out.now _ t c.on_prepare.ensures.out_after in
     record { replied = r.0; lists_after = r.1.0; out_after = r.1.1 }
 
-pub returns-in-Ok-Cert : goal.returns-in-Ok-Cert
-returns-in-Ok-Cert c =
+pub returns-in-5 : goal.returns-in-5
+returns-in-5 c =
     let a = c.args in
-    let t = of_kind (goal.at.returns-in-Ok-Cert c).Start kind.cert _ (c.in-Ok-Cert.ensures ∙ ap word_of c.in-Ok-Cert.field-0-is) (kind_cert _ _ _ _ _) in
+    let t = of_kind (goal.at.returns-in-5 c).Start kind.cert _ c.in-5.is (kind_cert _ _ _ _ _) in
     let r = sends a.lists.now c.on_cert.ensures.replied a.out.now _ t c.on_cert.ensures.out_after in
     record { replied = r.0; lists_after = r.1.0; out_after = r.1.1 }
 
-pub returns-in-Ok-Vote : goal.returns-in-Ok-Vote
-returns-in-Ok-Vote c =
+pub returns-in-6 : goal.returns-in-6
+returns-in-6 c =
     let a = c.args in
-    let t = of_kind (goal.at.returns-in-Ok-Vote c).Start kind.vote _ (c.in-Ok-Vote.ensures ∙ ap word_of c.in-Ok-Vote.field-0-is) (kind_vote _ _ _ _ _) in
+    let t = of_kind (goal.at.returns-in-6 c).Start kind.vote _ c.in-6.is (kind_vote _ _ _ _ _) in
     let r = sends a.lists.now c.on_vote.ensures.replied a.out.now _ t c.on_vote.ensures.out_after in
     record { replied = r.0; lists_after = r.1.0; out_after = r.1.1 }
 
-pub returns-in-Ok-Joined : goal.returns-in-Ok-Joined
-returns-in-Ok-Joined c =
+pub returns-in-2 : goal.returns-in-2
+returns-in-2 c =
     let a = c.args in
-    let t = of_kind (goal.at.returns-in-Ok-Joined c).Start kind.joined _ (c.in-Ok-Joined.ensures ∙ ap word_of c.in-Ok-Joined.field-0-is) (kind_joined _ _ _ _ _) in
+    let t = of_kind (goal.at.returns-in-2 c).Start kind.joined _ c.in-2.is (kind_joined _ _ _ _ _) in
     let r = quiet a.lists.now c.on_joined.ensures a.out.now t (quiet_joined (site_of a.p a.live.now a.history.now) a.h _) in
     record { replied = r.0; lists_after = r.1.0; out_after = r.1.1 }
 
-pub returns-in-Ok-Commit : goal.returns-in-Ok-Commit
-returns-in-Ok-Commit c =
+pub returns-in-7 : goal.returns-in-7
+returns-in-7 c =
     let a = c.args in
-    let t = of_kind (goal.at.returns-in-Ok-Commit c).Start kind.commit _ (c.in-Ok-Commit.ensures ∙ ap word_of c.in-Ok-Commit.field-0-is) (kind_commit _ _ _ _ _) in
+    let t = of_kind (goal.at.returns-in-7 c).Start kind.commit _ c.in-7.is (kind_commit _ _ _ _ _) in
     let r = quiet a.lists.now c.on_commit.ensures a.out.now t (quiet_commit (site_of a.p a.live.now a.history.now) a.h _) in
     record { replied = r.0; lists_after = r.1.0; out_after = r.1.1 }
 
-pub returns-in-Ok-Abort : goal.returns-in-Ok-Abort
-returns-in-Ok-Abort c =
+pub returns-in-8 : goal.returns-in-8
+returns-in-8 c =
     let a = c.args in
-    let t = of_kind (goal.at.returns-in-Ok-Abort c).Start kind.abort _ (c.in-Ok-Abort.ensures ∙ ap word_of c.in-Ok-Abort.field-0-is) (kind_abort _ _ _ _ _) in
+    let t = of_kind (goal.at.returns-in-8 c).Start kind.abort _ c.in-8.is (kind_abort _ _ _ _ _) in
     let r = quiet a.lists.now c.on_abort.ensures a.out.now t (quiet_abort (site_of a.p a.live.now a.history.now) a.h _) in
     record { replied = r.0; lists_after = r.1.0; out_after = r.1.1 }
 
-pub returns-in-Ok-Conc : goal.returns-in-Ok-Conc
-returns-in-Ok-Conc c =
+pub returns-in-4 : goal.returns-in-4
+returns-in-4 c =
     let a = c.args in
-    let kind = c.in-Ok-Conc.ensures ∙ ap word_of c.in-Ok-Conc.field-0-is in
-    rw (given_kind (site_of a.p a.live.now a.history.now) a.h a.es.now a.lists.now _ kind) c.on_conc.ensures
+    rw (given_kind (site_of a.p a.live.now a.history.now) a.h a.es.now a.lists.now _ c.in-4.is) c.on_conc.ensures
 
-pub returns-in-Err : goal.returns-in-Err
-returns-in-Err c =
+pub returns-in-0 : goal.returns-in-0
+returns-in-0 c = absurd (omega (arith, c.requires.incoming.low_kind_lem, c.in-0.is))
+
+pub returns-in-9-to-18446744073709551615 : goal.returns-in-9-to-18446744073709551615
+returns-in-9-to-18446744073709551615 c =
     let i = c.requires.incoming in
-    absurd (⊎_elim (λ low. omega (arith, low, i.low_kind_lem)) (λ high. omega (arith, high, i.high_kind_lem)) c.in-Err.ensures.1)
+    absurd (omega (arith, i.low_kind_lem, i.high_kind_lem))

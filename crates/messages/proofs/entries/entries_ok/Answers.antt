@@ -1,13 +1,15 @@
--- The test of every entry, as the scan by index.
-use borrow.Author.Tests.{tests}
-use Rattle.std.proofs.Common.{rules, refl}
-use Rattle.numbers.proofs.Ranges.{all_over_range}
-use Rattle.rules.specs.Message.{entry_ok}
+use Rattle.std.proofs.Common.{sym, ◌∙◌, below_more}
+use Rattle.laws.specs.Scan.{each_none, not_all_below, all_end}
 use Rattle.messages.proofs.entries.entries_ok.Goals as goal
 
+pub loop-i-init : goal.loop-i-init
+loop-i-init c = each_none _
+
+pub returns-then-not-entry_ok : goal.returns-then-not-entry_ok
+returns-then-not-entry_ok c = not_all_below _ _ _ c.loop-i-test.true (sym c.entry_ok.ensures ∙ c.if-not-entry_ok.true)
+
+pub loop-i-preserved : goal.loop-i-preserved
+loop-i-preserved c = below_more _ _ c.loop-i.invariant (sym c.entry_ok.ensures ∙ c.if-not-entry_ok.false)
+
 pub returns : goal.returns
-returns c =
-    let a = c.args in
-    all_over_range _ _ (entry_ok a.o a.es.now) a.n _ refl c.all.ensures.ran
-    (λ x q k. search (rules, tests))
-    (λ x q k. search (rules, tests))
+returns c = all_end _ _ _ c.loop-i-test.false c.loop-i.invariant
