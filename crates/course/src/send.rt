@@ -43,11 +43,12 @@ pub fn send_to(
         count: (es.len() / ENTRY) as u64,
     };
     let words = messages::write_message(out, h, es);
-    let channels = sent_to(t.channels, to);
+    let mut u = t;
+    u.channels = sent_to(t.channels, to);
     Taken {
         answer: Answer::Done,
         words,
-        turn: Turn { channels, ..t },
+        turn: u,
     }
 }
 
@@ -79,14 +80,11 @@ pub fn send_all(
         count: (es.len() / ENTRY) as u64,
     };
     let words = messages::broadcast(out, h, sent, mask, es);
-    let stepped = messages::step_recipients(sent, mask, own);
-    let channels = Channels {
-        sent: stepped,
-        ..t.channels
-    };
+    let mut u = t;
+    u.channels.sent = messages::step_recipients(sent, mask, own);
     Taken {
         answer,
         words,
-        turn: Turn { channels, ..t },
+        turn: u,
     }
 }
