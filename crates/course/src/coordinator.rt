@@ -9,6 +9,7 @@ ghost use Rattle.rules.specs.Course.{Entries, CanSendTo, CanSendAll};
 use crate::send::{send_all, send_to};
 use crate::turn::{
     no_sub, quietly, with_course, with_decision, with_heard, with_participant, with_queue_mark,
+    with_sub,
 };
 use kinds::kind::{ABORT, CERT, COMMIT, JOIN, PREPARE};
 use kinds::reason::SPENT;
@@ -32,9 +33,11 @@ pub fn abort_step(t: Turn, reason: u64, out: &mut [u64]) -> Taken
     ensures value { result ≡ taken_of (abort_step t reason) }
     ensures out_after { out.new ≡ overlay out.old (abort_step t reason).words }
 {
-    let mut a = send_all(t, Answer::Aborted { reason }, ABORT, 0, 0, &[], out);
-    a.turn.sub = no_sub();
-    a
+    let a = send_all(t, Answer::Aborted { reason }, ABORT, 0, 0, &[], out);
+    Taken {
+        turn: with_sub(a.turn, no_sub()),
+        ..a
+    }
 }
 
 // COMMIT with its number to the others.

@@ -43,12 +43,11 @@ pub fn send_to(
         count: (es.len() / ENTRY) as u64,
     };
     let words = messages::write_message(out, h, es);
-    let mut u = t;
-    u.channels = sent_to(t.channels, to);
+    let channels = sent_to(t.channels, to);
     Taken {
         answer: Answer::Done,
         words,
-        turn: u,
+        turn: Turn { channels, ..t },
     }
 }
 
@@ -80,11 +79,14 @@ pub fn send_all(
         count: (es.len() / ENTRY) as u64,
     };
     let words = messages::broadcast(out, h, sent, mask, es);
-    let mut u = t;
-    u.channels.sent = messages::step_recipients(sent, mask, own);
+    let stepped = messages::step_recipients(sent, mask, own);
+    let channels = Channels {
+        sent: stepped,
+        ..t.channels
+    };
     Taken {
         answer,
         words,
-        turn: u,
+        turn: Turn { channels, ..t },
     }
 }

@@ -1,5 +1,4 @@
-// A turn with one of its parts changed: the whole is copied and the field set, since an update by struct literal copies a turn's 750
-// bytes field by field, in more code than the compiler puts in line.
+// A turn with one of its parts changed.
 ghost use Rattle.std.specs.Prelude.{◌≡◌, ◌+◌, ◌-◌, ◌≤◌, ◌<◌, get_or};
 ghost use Rattle.kinds.specs.Sizes as sizes;
 ghost use Rattle.kinds.specs.State.{no_keys, no_sub};
@@ -13,7 +12,7 @@ use crate::channels::step_taken;
 use kinds::desk::HOUSE;
 use kinds::sizes::{LAST, READS, WRITES};
 use kinds::stage::{ACTIVE, DECIDED, FREE, PREPARED, QUEUED};
-use kinds::{Answer, Channels, Course, FRESH, Keys, Snapshot, Sub, Taken, Turn};
+use kinds::{Answer, Channels, Counters, Course, FRESH, Keys, Snapshot, Sub, Taken, Turn};
 
 pub fn no_keys() -> Keys
     ensures { result ≡ no_keys }
@@ -51,6 +50,7 @@ pub fn no_sub() -> Sub
 pub fn new_sub(tx: u64, desk: u64, mask: u64, installs: u64) -> Sub
     ensures { result ≡ new_sub tx desk mask installs }
 {
+    let free = no_sub();
     Sub {
         tx,
         desk,
@@ -58,9 +58,9 @@ pub fn new_sub(tx: u64, desk: u64, mask: u64, installs: u64) -> Sub
         course: Course {
             stage: ACTIVE,
             mask,
-            ..no_sub().course
+            ..free.course
         },
-        keys: no_keys(),
+        ..free
     }
 }
 
@@ -68,25 +68,23 @@ pub fn new_sub(tx: u64, desk: u64, mask: u64, installs: u64) -> Sub
 pub fn raise(t: Turn, n: u64) -> Turn
     ensures { result ≡ raiseOf t n }
 {
-    let mut u = t;
-    u.counters.clock = t.counters.clock.max(n);
-    u
+    let counters = Counters {
+        clock: t.counters.clock.max(n),
+        ..t.counters
+    };
+    Turn { counters, ..t }
 }
 
 pub fn with_sub(t: Turn, b: Sub) -> Turn
     ensures { result ≡ with_sub_of t b }
 {
-    let mut u = t;
-    u.sub = b;
-    u
+    Turn { sub: b, ..t }
 }
 
 pub fn with_course(t: Turn, c: Course) -> Turn
     ensures { result ≡ with_course_of t c }
 {
-    let mut u = t;
-    u.sub.course = c;
-    u
+    with_sub(t, Sub { course: c, ..t.sub })
 }
 
 // Nothing to send.

@@ -12,6 +12,8 @@ use crate::coordinator::{on_conc, on_joined, on_vote};
 use crate::participant::{on_abort, on_cert, on_commit, on_prepare};
 use kinds::{Core, MessageHead, Refusal, Reply, kind};
 
+// In line in `message`: else the core, 488 bytes, is copied to it.
+#[inline(always)]
 pub fn take_kind(
     p: Core,
     live: &mut [u64],

@@ -11,6 +11,6 @@ pub returns : goal.returns
 unfolding abort_step taken_of
 returns c =
     record {
-      value = rw (c.no_sub-a.ensures, c.send_all-a.ensures.value);
+      value = rw (c.with_sub.ensures, c.no_sub.ensures, c.send_all-a.ensures.value);
       out_after = c.send_all-a.ensures.out_after;
     }

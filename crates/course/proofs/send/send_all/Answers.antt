@@ -15,13 +15,13 @@ broadcast-words-requires c =
       es_len = (omega (arith, p.1.0), omega (arith, p.1.1));
     }
 
-pub step_recipients-u-requires : goal.step_recipients-u-requires
-step_recipients-u-requires c = c.requires.0.low
+pub step_recipients-stepped-requires : goal.step_recipients-stepped-requires
+step_recipients-stepped-requires c = c.requires.0.low
 
 pub returns : goal.returns
 unfolding taken_of send_all entry_count head_of
 returns c =
     record {
-      value = rw (c.step_recipients-u.ensures, c.broadcast-words.ensures.0);
+      value = rw (c.step_recipients-stepped.ensures, c.broadcast-words.ensures.0);
       out_after = c.broadcast-words.ensures.1;
     }

@@ -15,6 +15,6 @@ pub returns : goal.returns
 unfolding taken_of send_to entry_count head_of
 returns c =
     record {
-      value = rw (c.sent_to-u.ensures, c.write_message-words.ensures.0);
+      value = rw (c.sent_to-channels.ensures, c.write_message-words.ensures.0);
       out_after = c.write_message-words.ensures.1;
     }

@@ -5,4 +5,4 @@ use Rattle.course.proofs.turn.new_sub.Goals as goal
 
 pub returns : goal.returns
 unfolding new_sub no_sub
-returns c = rw (c.no_sub.ensures, c.no_keys.ensures)
+returns c = rw c.no_sub-free.ensures

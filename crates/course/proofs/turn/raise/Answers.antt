@@ -4,4 +4,4 @@ use Rattle.course.proofs.turn.raise.Goals as goal
 
 pub returns : goal.returns
 unfolding raise
-returns c = rw c.max-u.ensures
+returns c = rw c.max.ensures
