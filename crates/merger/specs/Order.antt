@@ -54,9 +54,9 @@ by_number (Ok d) = Ok d
 by_number (Err u) = Err (number_of u.cause, u.heads)
 
 -- What a taken order says, refused or not.
-pub record RefusedDue (h : Heads) (u : Undue) : Type 0 where
-  pub code : number_of u.cause ≡ due_code h.merger h.heads (least_in h)
-  pub same : u.heads ≡ h
+pub record RefusedDue (h : Heads) (u : ℕ × Heads) : Type 0 where
+  pub code : u.0 ≡ due_code h.merger h.heads (least_in h)
+  pub same : u.1 ≡ h
 
 pub record TakenDue (h : Heads) (d : Due) : Type 0 where
   pub code : due_code h.merger h.heads (least_in h) ≡ 0
@@ -80,7 +80,7 @@ chosen : (t : Bool) (d : Due) (u : ℕ × Heads) → goes_on (pick t (Ok d) (Err
 chosen true d u = refl
 chosen false d u = refl
 
-pub refused_due : (h : Heads) (u : Undue) → Err (number_of u.cause, u.heads) ≡ due_of h → RefusedDue h u
+pub refused_due : (h : Heads) (u : ℕ × Heads) → Err u ≡ due_of h → RefusedDue h u
 unfolding due_of code_in
 refused_due h u e =
     let none = sym (ap goes_on e ∙ chosen _ _ _) in

@@ -10,7 +10,7 @@ use Rattle.merger.proofs.emit_due.Goals as goal
 pub returns-in-Err : goal.returns-in-Err
 unfolding emit_due merger_out_of
 returns-in-Err c =
-    let r = refused_due c.args.h c.in-Err.undue c.in-Err.ensures in
+    let r = refused_due c.args.h _ c.in-Err.ensures in
     rw (refused_by c.in-Err.undue.cause _ r.code)
     (record { value = rw (r.code, r.same) at c.refused.ensures; queues_after = refl; out_after = overlay_none _ })
 
