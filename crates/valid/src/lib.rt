@@ -173,6 +173,8 @@ fn list_ok(o: House, stage: u64, listed: usize, es: &[u64]) -> bool
     stage == FREE || entries_possible(o, es, listed)
 }
 
+// A function of its own: in line in a call, the answer is set at each test of an entry.
+#[inline(never)]
 fn lists_ok(o: House, seats: [Seat; LIVE], w: &[u64], lists: &[u64]) -> bool
     requires { Gathered o w.now lists.now }
     ensures { result ≡ lists_ok o (live_of seats w.now) lists.now }
